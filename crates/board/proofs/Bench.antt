@@ -1,0 +1,33 @@
+-- The bench cases K1 to K11: one computed test over the whole table, and one law that turns it into the statement.
+use mathlib.Core.Path.{_≡_, refl}
+use mathlib.Core.List.{List, [], _∷_}
+use mathlib.Core.Bool.{Bool, true, false, _&&_, false≢true}
+use lib.ListN.{length}
+use Rattle.line.specs.Line.{lineOf, withLine}
+use Rattle.line.specs.Cell.{fieldIndex, fieldOf, withField}
+use Rattle.board.specs.State.{anyUnder}
+use Rattle.board.specs.Causes.{badRecord, causes, firstStanding, cause}
+use Rattle.board.specs.Effects.{formatStep, recoveryStep, actAt, perform, step, advance, advanceOf, effect}
+use Rattle.board.specs.Next.{next, valueRead}
+use Rattle.board.specs.Bench.{Case, same, allTaken, afterCalls, runsIn, sees, allSeen, holds, table, Each, BenchHolds}
+
+allHold : List Case → Bool
+allHold [] = true
+allHold (k ∷ ks) = holds k && allHold ks
+
+both : (a b : Bool) → a && b ≡ true → (a ≡ true) × (b ≡ true)
+both true b e = (refl, e)
+both false b e = absurd (false≢true e)
+
+each : (ks : List Case) → allHold ks ≡ true → Each ks
+unfolding allHold Each
+each [] e = tt
+each (k ∷ ks) e = (both (holds k) (allHold ks) e .0, each ks (both (holds k) (allHold ks) e .1))
+
+tested : allHold table ≡ true
+unfolding allHold table holds same allTaken afterCalls runsIn sees allSeen next valueRead cause causes firstStanding badRecord anyUnder effect step formatStep recoveryStep actAt perform advance advanceOf lineOf withLine fieldIndex fieldOf withField
+tested = refl
+
+-- K1 to K11 hold of the definitions.
+pub bench : BenchHolds
+bench = each table tested

@@ -1,0 +1,158 @@
+-- Document 01, "Bench cases": K1 to K11 as a table of cases, and the one statement that every case holds.
+use Prim.Native.Nat.{ℕ, zero, suc, _+_, _-_, _*_, _^_}
+use mathlib.Core.Path.{_≡_}
+use mathlib.Core.List.{List, [], _∷_, _++_}
+use mathlib.Core.Bool.{Bool, true, false, cond, not, _&&_}
+use lib.Dec.{eqb}
+use lib.ListN.{length, getD, take, set, replicate}
+use Rattle.line.specs.Line.{lineOf}
+use Rattle.board.specs.declared.State.{State}
+use Rattle.board.specs.declared.Phase.{Phase}
+use Rattle.board.specs.declared.Phase.the-variants.{Off, Formatting, Recovering, Running}
+use Rattle.board.specs.declared.Call.{Call}
+use Rattle.board.specs.declared.Call.the-variants.{FormatStart, RecoveryStart, Step, Update, RestartPoint, Advance, Request, WriteBack, Read}
+use Rattle.board.specs.Board.{Board, rowWords, listWords, lastEpoch}
+use Rattle.board.specs.State.{started, opened, isRunning}
+use Rattle.board.specs.Causes.{cause}
+use Rattle.board.specs.Next.{taken, next, valueRead}
+
+-- ---- what a case is
+
+-- What is then seen.
+pub data Seen : Type 0 where
+  answers : Call → ℕ → Seen
+  memoryLine : ℕ → List ℕ → Seen
+  cacheLine : ℕ → List ℕ → Seen
+  listed : List ℕ → Seen
+  reads : ℕ → ℕ → Seen
+  endsIn : Call → ℕ → Seen
+
+-- A bench case: a board, calls that are all taken, and what is then seen.
+pub record Case : Type 0 where
+  pub name : ℕ
+  pub board : Board
+  pub calls : List Call
+  pub seen : List Seen
+
+-- ---- when a case holds
+
+-- Two rows are the same.
+unfoldable pub same : List ℕ → List ℕ → Bool
+same [] [] = true
+same [] (y ∷ ys) = false
+same (x ∷ xs) [] = false
+same (x ∷ xs) (y ∷ ys) = eqb x y && same xs ys
+
+-- All of the calls are taken.
+unfoldable pub allTaken : List Call → Board → Bool
+allTaken [] b = true
+allTaken (k ∷ ks) b = taken k b && allTaken ks (next k b)
+
+-- The board after the calls.
+unfoldable pub afterCalls : List Call → Board → Board
+afterCalls [] b = b
+afterCalls (k ∷ ks) b = afterCalls ks (next k b)
+
+-- The board runs after `n` taken steps and not before.
+unfoldable pub runsIn : ℕ → Board → Bool
+runsIn zero b = isRunning (b .state .phase)
+runsIn (suc n) b = not (isRunning (b .state .phase)) && taken Step b && runsIn n (next Step b)
+
+unfoldable pub sees : Seen → Board → Bool
+sees (answers k n) b = eqb (cause k b) n
+sees (memoryLine l words) b = same (lineOf (b .memory) l) words
+sees (cacheLine l words) b = same (lineOf (b .cache) l) words
+sees (listed cs) b = same (take (b .state .listed) (b .entries)) cs
+sees (reads c v) b = taken (Read c) b && eqb (valueRead c b) v
+sees (endsIn k n) b = taken k b && runsIn n (next k b)
+
+unfoldable pub allSeen : List Seen → Board → Bool
+allSeen [] b = true
+allSeen (x ∷ xs) b = sees x b && allSeen xs b
+
+-- The case holds of the definitions.
+unfoldable pub holds : Case → Bool
+holds k = allTaken (k .calls) (k .board) && allSeen (k .seen) (afterCalls (k .calls) (k .board))
+
+-- ---- the boards
+
+-- A board that is off, with rows of the given lengths, all zeros.
+abbrev pub blank : ℕ → ℕ → Board
+blank words entries =
+    record { state = started Off 0 0; memory = replicate words 0; cache = replicate words 0; entries = replicate entries 0 }
+
+-- A board with rows for L lines.
+abbrev pub blankFor : ℕ → Board
+blankFor l = blank (rowWords l) (listWords l)
+
+-- A running board (1, 1) with the given epoch in both rows.
+abbrev pub runningAt : ℕ → Board
+runningAt epoch =
+    record { state = started Running 1 1; memory = epoch ∷ 1 ∷ 1 ∷ replicate 13 0; cache = epoch ∷ 1 ∷ 1 ∷ replicate 13 0; entries = replicate 2 0 }
+
+-- ---- the calls
+
+-- A format to its end.
+abbrev pub format : ℕ → ℕ → List Call
+format l w = FormatStart l w ∷ replicate (l + 2) Step
+
+-- "From a fresh format (1, 1) .. update worker 0, cell 1, value 7, two advances".
+abbrev pub calls4 : List Call
+calls4 = format 1 1 ++ (Update 0 1 7 ∷ Advance 0 ∷ Advance 0 ∷ [])
+
+-- "third advance".
+abbrev pub calls5 : List Call
+calls5 = calls4 ++ (Advance 0 ∷ [])
+
+-- "then write-back of line 1".
+abbrev pub calls6 : List Call
+calls6 = calls5 ++ (WriteBack 1 ∷ [])
+
+-- "value 9 to cell 1: one advance".
+abbrev pub calls7 : List Call
+calls7 = calls5 ++ (Update 0 1 9 ∷ Advance 0 ∷ [])
+
+-- "request, restart point 3, three advances", and the first `n` of the checkpoint's steps.
+abbrev pub calls8 : ℕ → List Call
+calls8 n = calls5 ++ (Request ∷ RestartPoint 0 3 ∷ Advance 0 ∷ Advance 0 ∷ Advance 0 ∷ replicate n Step)
+
+-- A recovery of `n` steps.
+abbrev pub recovery : ℕ → List Call
+recovery n = RecoveryStart ∷ replicate n Step
+
+-- ---- the table
+
+abbrev pub from : ℕ → Board → List Call → List Seen → Case
+from name board calls seen = record { name = name; board = board; calls = calls; seen = seen }
+
+-- K1 to K11, each part of each.
+unfoldable pub table : List Case
+table =
+    from 1 (blankFor 1) [] (endsIn (FormatStart 1 1) 3 ∷ [])
+    ∷ from 1 (blankFor 1) (format 1 1) (memoryLine 0 (1 ∷ 1 ∷ 1 ∷ 0 ∷ 0 ∷ 0 ∷ 0 ∷ 0 ∷ []) ∷ [])
+    ∷ from 2 (blankFor 1) [] (answers (FormatStart 1 2) 1 ∷ answers (FormatStart 512 1) 1 ∷ [])
+    ∷ from 2 (blank 4096 1022) [] (answers (FormatStart 511 8) 0 ∷ [])
+    ∷ from 3 (blank 15 2) [] (answers RecoveryStart 4 ∷ [])
+    ∷ from 3 (blank 16 2) [] (answers RecoveryStart 5 ∷ [])
+    ∷ from 4 (blankFor 1) calls4 (cacheLine 1 (0 ∷ 0 ∷ 0 ∷ 0 ∷ 0 ∷ 1 ∷ 0 ∷ 0 ∷ []) ∷ listed (1 ∷ []) ∷ [])
+    ∷ from 5 (blankFor 1) calls5 (cacheLine 1 (0 ∷ 0 ∷ 0 ∷ 7 ∷ 0 ∷ 1 ∷ 0 ∷ 0 ∷ []) ∷ memoryLine 1 (replicate 8 0) ∷ [])
+    ∷ from 6 (blankFor 1) calls6 (endsIn RecoveryStart 4 ∷ [])
+    ∷ from 6 (blankFor 1) (calls6 ++ recovery 4) (memoryLine 1 (replicate 8 0) ∷ [])
+    ∷ from 7 (blankFor 1) calls7 (cacheLine 1 (0 ∷ 0 ∷ 0 ∷ 9 ∷ 0 ∷ 1 ∷ 0 ∷ 0 ∷ []) ∷ [])
+    ∷ from 8 (blankFor 1) (calls8 5) (memoryLine 0 (2 ∷ 1 ∷ 1 ∷ 0 ∷ 0 ∷ 0 ∷ 0 ∷ 0 ∷ []) ∷ memoryLine 1 (3 ∷ 0 ∷ 1 ∷ 7 ∷ 0 ∷ 1 ∷ 0 ∷ 0 ∷ []) ∷ answers Step 10 ∷ [])
+    ∷ from 9 (blankFor 1) (calls8 5) (endsIn RecoveryStart 2 ∷ [])
+    ∷ from 9 (blankFor 1) (calls8 5 ++ recovery 2) (reads 1 7 ∷ [])
+    ∷ from 10 (blankFor 1) (calls8 3 ++ recovery 6) (reads 0 0 ∷ reads 1 0 ∷ [])
+    ∷ from 10 (blankFor 1) (calls8 3 ++ (WriteBack 0 ∷ recovery 2)) (reads 1 7 ∷ [])
+    ∷ from 11 (runningAt lastEpoch) [] (answers Request 11 ∷ [])
+    ∷ from 11 (runningAt (lastEpoch - 1)) [] (answers Request 0 ∷ [])
+    ∷ []
+
+-- Every case of a table holds.
+unfoldable pub Each : List Case → Type 0
+Each [] = Unit {0}
+Each (k ∷ ks) = (holds k ≡ true) × Each ks
+
+-- "K1 to K11 hold of the definitions, as a table proved by one statement."
+abbrev pub BenchHolds : Type 0
+BenchHolds = Each table

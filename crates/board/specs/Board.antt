@@ -1,0 +1,67 @@
+-- Document 01, "Lines and cells": the board, its sizes and its header.
+use Prim.Native.Nat.{ℕ, _+_, _*_, _-_, _^_}
+use mathlib.Core.List.{List, [], _∷_}
+use mathlib.Core.Bool.{Bool, not, _&&_, _||_}
+use lib.Dec.{leb, ltb, eqb}
+use lib.ListN.{getD}
+use Rattle.board.specs.declared.State.{State}
+
+-- All that a call is given and leaves: the state record and the three lent rows.
+pub record Board : Type 0 where
+  pub state : State
+  pub memory : List ℕ
+  pub cache : List ℕ
+  pub entries : List ℕ
+
+-- "Lines 1 to L hold two cells each": the number of cells.
+abbrev pub cells : ℕ → ℕ
+cells l = 2 * l
+
+-- "two rows of words of equal length, 8×(L+1) words".
+abbrev pub rowWords : ℕ → ℕ
+rowWords l = 8 * (l + 1)
+
+-- "The list is a third lent row, at least 2L of them".
+abbrev pub listWords : ℕ → ℕ
+listWords l = cells l
+
+-- "L, the cell lines, is 1 to 511".
+abbrev pub linesOutside : ℕ → Bool
+linesOutside l = not (leb 1 l && leb l 511)
+
+-- "W, the workers, is 1 to 8, and W < 2L".
+abbrev pub workersOutside : ℕ → ℕ → Bool
+workersOutside l w = not (leb 1 w && leb w 8 && ltb w (cells l))
+
+-- "L or W outside the limits above".
+abbrev pub outside : ℕ → ℕ → Bool
+outside l w = linesOutside l || workersOutside l w
+
+-- "Line 0 is the header: word 0 the epoch (0: no board here)".
+abbrev pub epochOf : List ℕ → ℕ
+epochOf row = getD row 0 0
+
+-- "word 1 L".
+abbrev pub linesOf : List ℕ → ℕ
+linesOf row = getD row 1 0
+
+-- "word 2 W".
+abbrev pub workersOf : List ℕ → ℕ
+workersOf row = getD row 2 0
+
+-- "words 3 to 7 zero": one of them is not.
+abbrev pub restNotZero : List ℕ → Bool
+restNotZero row =
+    not (eqb (getD row 3 0) 0 && eqb (getD row 4 0) 0 && eqb (getD row 5 0) 0 && eqb (getD row 6 0) 0 && eqb (getD row 7 0) 0)
+
+-- The eight words of a header.
+abbrev pub headerWords : ℕ → ℕ → ℕ → List ℕ
+headerWords epoch l w = epoch ∷ l ∷ w ∷ 0 ∷ 0 ∷ 0 ∷ 0 ∷ 0 ∷ []
+
+-- "becomes zeros": the eight words of an erased line.
+abbrev pub zeroWords : List ℕ
+zeroWords = 0 ∷ 0 ∷ 0 ∷ 0 ∷ 0 ∷ 0 ∷ 0 ∷ 0 ∷ []
+
+-- "2^64 − 1": the last epoch there can be.
+abbrev pub lastEpoch : ℕ
+lastEpoch = 2 ^ 64 - 1

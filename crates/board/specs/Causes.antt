@@ -1,0 +1,148 @@
+-- Document 01, "Why a call is turned down": the cause table, one test a row, and for each call its rows in rising order.
+use Prim.Native.Nat.{ℕ, _+_, _-_, _/_, _%_}
+use mathlib.Core.List.{List, [], _∷_}
+use mathlib.Core.Bool.{Bool, true, false, cond, not, _&&_, _||_}
+use lib.Dec.{leb, ltb, eqb}
+use lib.ListN.{length, getD}
+use Rattle.board.specs.declared.State.{State}
+use Rattle.board.specs.declared.Phase.{Phase}
+use Rattle.board.specs.declared.Phase.the-variants.{Off, Formatting, Recovering, Running}
+use Rattle.board.specs.declared.Call.{Call}
+use Rattle.board.specs.declared.Call.the-variants.{FormatStart, RecoveryStart, Step, Update, RestartPoint, Advance, Request, WriteBack, Read}
+use Rattle.board.specs.Board
+use Rattle.board.specs.Board.{Board, cells, rowWords, listWords, outside, workersOutside, epochOf, linesOf, workersOf, restNotZero, lastEpoch}
+use Rattle.board.specs.State.{conditionOf, isFree, isWaiting, isUpdating, updates, mustList, anyWorker, othersUpdate, isOff, isFormatting, isRunning}
+
+-- A row of the table: the cause's number, and whether it stands.
+pub record Cause : Type 0 where
+  pub number : ℕ
+  pub stands : Bool
+
+-- ---- cause 2: "phase doesn't allow the call"
+
+-- "The step call needs a phase other than off."
+abbrev pub notOn : Board → Bool
+notOn b = isOff (b .state .phase)
+
+-- "Write-back needs recovering or running."
+abbrev pub notRecoveringOrRunning : Board → Bool
+notRecoveringOrRunning b = isOff (b .state .phase) || isFormatting (b .state .phase)
+
+-- "All else needs running."
+abbrev pub notRunning : Board → Bool
+notRunning b = not (isRunning (b .state .phase))
+
+-- ---- cause 3: "state record"
+
+-- "place over L+1 in a format, a cell over 2L−1 in a recovery, over n+2 when running with a checkpoint requested".
+abbrev pub placePast : Phase → State → Bool
+placePast Off s = false
+placePast Formatting s = ltb (s .lines + 1) (s .place)
+placePast Recovering s = leb (cells (s .lines)) (s .place)
+placePast Running s = s .requested && ltb (s .listed + 2) (s .place)
+
+-- "L or W outside the limits, list length over 2L; place ..; cell 2L or more in an update of a worker under W".
+unfoldable pub badRecord : State → Bool
+badRecord s =
+    outside (s .lines) (s .workers) || ltb (cells (s .lines)) (s .listed) || placePast (s .phase) s || anyWorker s (updates (leb (cells (s .lines))))
+
+-- "an advance by a worker under W must add a cell and the length is 2L".
+abbrev pub listFull : State → ℕ → Bool
+listFull s w = ltb w (s .workers) && mustList (conditionOf s w) && eqb (s .listed) (cells (s .lines))
+
+-- ---- cause 4: "rows"
+
+-- "cache or memory not 8×(L+1) words, list under 2L".
+abbrev pub badRows : ℕ → Board → Bool
+badRows l b = not (eqb (length (b .cache)) (rowWords l)) || not (eqb (length (b .memory)) (rowWords l)) || ltb (length (b .entries)) (listWords l)
+
+-- The step at hand is one of a requested checkpoint.
+abbrev pub checkpointing : State → Bool
+checkpointing s = isRunning (s .phase) && s .requested
+
+-- "a list entry that this step uses is 2L or more".
+abbrev pub badEntry : Board → Bool
+badEntry b =
+    checkpointing (b .state) && ltb (b .state .place) (b .state .listed) && leb (cells (b .state .lines)) (getD (b .entries) (b .state .place) 0)
+
+-- "at recovery's start: memory not a multiple of 8 in 16 to 4,096 words, cache of another length, list under (words div 4) − 2".
+abbrev pub badRecoveryRows : Board → Bool
+badRecoveryRows b =
+    not (eqb (length (b .memory) % 8) 0 && leb 16 (length (b .memory)) && leb (length (b .memory)) 4096) || not (eqb (length (b .cache)) (length (b .memory))) || ltb (length (b .entries)) (length (b .memory) / 4 - 2)
+
+-- ---- cause 5: "recovery's start: epoch 0, L not (words div 8) − 1, W outside the limits, or words 3 to 7 not all zero"
+
+abbrev pub badHeader : List ℕ → Bool
+badHeader row =
+    eqb (epochOf row) 0 || not (eqb (linesOf row) (length row / 8 - 1)) || workersOutside (linesOf row) (workersOf row) || restNotZero row
+
+-- ---- causes 6 to 11
+
+-- "worker W or more".
+abbrev pub noWorker : State → ℕ → Bool
+noWorker s w = leb (s .workers) w
+
+-- "update of a cell under W or 2L or more".
+abbrev pub noDataCell : State → ℕ → Bool
+noDataCell s c = ltb c (s .workers) || leb (cells (s .lines)) c
+
+-- "read of 2L or more".
+abbrev pub noCell : State → ℕ → Bool
+noCell s c = leb (cells (s .lines)) c
+
+-- "line over L".
+abbrev pub noLine : State → ℕ → Bool
+noLine s l = ltb (s .lines) l
+
+-- "update or restart point by a worker not free".
+abbrev pub busy : State → ℕ → Bool
+busy s w = not (isFree (conditionOf s w))
+
+-- "advance of one free or waiting".
+abbrev pub idle : State → ℕ → Bool
+idle s w = not (isUpdating (conditionOf s w))
+
+-- "running step with none requested, or with a worker under W not waiting".
+abbrev pub notReady : State → Bool
+notReady s = isRunning (s .phase) && (not (s .requested) || anyWorker s (λ condition. not (isWaiting condition)))
+
+-- "the cache's epoch 2^64 − 1, at a request".
+abbrev pub epochSpent : Board → Bool
+epochSpent b = eqb (epochOf (b .cache)) lastEpoch
+
+-- "or at the epoch's store".
+abbrev pub storesSpentEpoch : Board → Bool
+storesSpentEpoch b = checkpointing (b .state) && eqb (b .state .place) (b .state .listed) && epochSpent b
+
+-- ---- the table
+
+abbrev pub row : ℕ → Bool → Cause
+row number stands = record { number = number; stands = stands }
+
+-- "Checked in rising order of number": what can turn each call down.
+unfoldable pub causes : Call → Board → List Cause
+causes (FormatStart l w) b = row 1 (outside l w) ∷ row 4 (badRows l b) ∷ []
+causes RecoveryStart b = row 4 (badRecoveryRows b) ∷ row 5 (badHeader (b .memory)) ∷ []
+causes Step b =
+    row 2 (notOn b) ∷ row 3 (badRecord (b .state)) ∷ row 4 (badRows (b .state .lines) b || badEntry b) ∷ row 10 (notReady (b .state)) ∷ row 11 (storesSpentEpoch b) ∷ []
+causes (Update w c v) b =
+    row 2 (notRunning b) ∷ row 3 (badRecord (b .state)) ∷ row 4 (badRows (b .state .lines) b) ∷ row 6 (noWorker (b .state) w) ∷ row 7 (noDataCell (b .state) c) ∷ row 8 (busy (b .state) w) ∷ row 9 (othersUpdate (b .state) w c) ∷ []
+causes (RestartPoint w v) b =
+    row 2 (notRunning b) ∷ row 3 (badRecord (b .state)) ∷ row 4 (badRows (b .state .lines) b) ∷ row 6 (noWorker (b .state) w) ∷ row 8 (busy (b .state) w) ∷ row 9 (othersUpdate (b .state) w w) ∷ []
+causes (Advance w) b =
+    row 2 (notRunning b) ∷ row 3 (badRecord (b .state) || listFull (b .state) w) ∷ row 4 (badRows (b .state .lines) b) ∷ row 6 (noWorker (b .state) w) ∷ row 8 (idle (b .state) w) ∷ []
+causes Request b =
+    row 2 (notRunning b) ∷ row 3 (badRecord (b .state)) ∷ row 4 (badRows (b .state .lines) b) ∷ row 10 (b .state .requested) ∷ row 11 (epochSpent b) ∷ []
+causes (WriteBack l) b =
+    row 2 (notRecoveringOrRunning b) ∷ row 3 (badRecord (b .state)) ∷ row 4 (badRows (b .state .lines) b) ∷ row 7 (noLine (b .state) l) ∷ []
+causes (Read c) b =
+    row 2 (notRunning b) ∷ row 3 (badRecord (b .state)) ∷ row 4 (badRows (b .state .lines) b) ∷ row 7 (noCell (b .state) c) ∷ []
+
+-- The number of the first cause that stands, 0 where none does.
+unfoldable pub firstStanding : List Cause → ℕ
+firstStanding [] = 0
+firstStanding (c ∷ cs) = cond (c .stands) (c .number) (firstStanding cs)
+
+-- "A taken call returns 0."
+unfoldable pub cause : Call → Board → ℕ
+cause k b = firstStanding (causes k b)

@@ -1,0 +1,158 @@
+-- Document 01, "Steps": what a taken call does, store by store.
+use Prim.Native.Nat.{ℕ, _+_}
+use mathlib.Core.List.{List}
+use mathlib.Core.Bool.{Bool, true, false, cond, not, _&&_}
+use lib.Dec.{leb, ltb, eqb}
+use lib.ListN.{getD, set}
+use Rattle.board.specs.declared.State.{State}
+use Rattle.board.specs.declared.Condition.{Condition}
+use Rattle.board.specs.declared.Condition.the-variants.{Free, Waiting, Updating}
+use Rattle.board.specs.declared.Store.{Store}
+use Rattle.board.specs.declared.Store.the-variants.{Backup, Mark, Record}
+use Rattle.board.specs.declared.Undo.{Undo}
+use Rattle.board.specs.declared.Undo.the-variants.{Restore, Unmark, WriteLine}
+use Rattle.board.specs.declared.Phase.{Phase}
+use Rattle.board.specs.declared.Phase.the-variants.{Off, Formatting, Recovering, Running}
+use Rattle.board.specs.declared.Call.{Call}
+use Rattle.board.specs.declared.Call.the-variants.{FormatStart, RecoveryStart, Step, Update, RestartPoint, Advance, Request, WriteBack, Read}
+use Rattle.line.specs.declared.Field.{Field}
+use Rattle.line.specs.Line.{lineOf, withLine}
+use Rattle.line.specs.Cell.{cellLine, fieldOf, withField}
+use Rattle.board.specs.Board.{Board, cells, epochOf, linesOf, workersOf, headerWords, zeroWords}
+use Rattle.board.specs.State.{conditionOf, started, placed, opened, requesting, released, conditioned}
+
+-- ---- what a step does to the rows
+
+-- "A write-back copies a whole line from cache to memory."
+abbrev pub writtenBack : ℕ → Board → List ℕ
+writtenBack l b = withLine (b .memory) l (lineOf (b .cache) l)
+
+-- The board with the given words in line `l`, "in both" rows.
+abbrev pub inBoth : ℕ → List ℕ → State → Board → Board
+inBoth l words s b =
+    record { state = s; memory = withLine (b .memory) l words; cache = withLine (b .cache) l words; entries = b .entries }
+
+-- The board with line `l` written back.
+abbrev pub backed : ℕ → State → Board → Board
+backed l s b = record { state = s; memory = writtenBack l b; cache = b .cache; entries = b .entries }
+
+-- The board with another cache.
+abbrev pub cached : List ℕ → State → Board → Board
+cached cache s b = record { state = s; memory = b .memory; cache = cache; entries = b .entries }
+
+-- The board with another state record.
+abbrev pub stated : State → Board → Board
+stated s b = record { state = s; memory = b .memory; cache = b .cache; entries = b .entries }
+
+-- ---- a cell's log
+
+-- "a cell whose mark equals the epoch": the cell has its old value logged in this epoch.
+abbrev pub logged : List ℕ → ℕ → Bool
+logged row c = eqb (fieldOf row c Field.Mark) (epochOf row)
+
+-- "record := backup": the old value put back.
+abbrev pub restored : List ℕ → ℕ → List ℕ
+restored row c = withField row c Field.Record (fieldOf row c Field.Backup)
+
+-- "mark := 0": the log dropped.
+abbrev pub unmarked : List ℕ → ℕ → List ℕ
+unmarked row c = withField row c Field.Mark 0
+
+-- "backup := record": the old value logged.
+abbrev pub backedUp : List ℕ → ℕ → List ℕ
+backedUp row c = withField row c Field.Backup (fieldOf row c Field.Record)
+
+-- "mark := epoch".
+abbrev pub markedNow : List ℕ → ℕ → List ℕ
+markedNow row c = withField row c Field.Mark (epochOf row)
+
+-- "record := value".
+abbrev pub recorded : List ℕ → ℕ → ℕ → List ℕ
+recorded row c value = withField row c Field.Record value
+
+-- ---- format
+
+-- "L+2 steps: memory and cache line 0 become zeros; each of lines 1 to L, rising, becomes zeros in both; line 0 becomes epoch 1, L, W and zeros in both."
+unfoldable pub formatStep : State → Board → Board
+formatStep s b =
+    cond (leb (s .place) (s .lines)) (inBoth (s .place) zeroWords (placed s (s .place + 1) Restore) b) (inBoth 0 (headerWords 1 (s .lines) (s .workers)) (opened s 0) b)
+
+-- ---- recovery
+
+-- "Then cells from 0 up .. After the last cell: running": the state record past cell `place`.
+abbrev pub pastCell : State → State
+pastCell s = cond (ltb (s .place + 1) (cells (s .lines))) (placed s (s .place + 1) Restore) (opened s (s .listed))
+
+-- "record := backup; mark := 0; its line written back"; any other cell, "one step that stores nothing". The mark is looked at only before the first.
+unfoldable pub recoveryStep : Undo → State → Board → Board
+recoveryStep Restore s b =
+    cond (logged (b .cache) (s .place)) (cached (restored (b .cache) (s .place)) (placed s (s .place) Unmark) b) (stated (pastCell s) b)
+recoveryStep Unmark s b = cached (unmarked (b .cache) (s .place)) (placed s (s .place) WriteLine) b
+recoveryStep WriteLine s b = backed (cellLine (s .place)) (pastCell s) b
+
+-- ---- checkpoint
+
+-- What a checkpoint's step does.
+pub data Act : Type 0 where
+  writeLine storeEpoch writeHeader release : Act
+
+-- "one step for each list entry in list order ..; epoch := epoch + 1 in the cache; line 0 written back; release".
+unfoldable pub actAt : ℕ → ℕ → Act
+actAt n place = cond (ltb place n) writeLine (cond (eqb place n) storeEpoch (cond (eqb place (n + 1)) writeHeader release))
+
+-- "writing that cell's line back".
+abbrev pub listedLine : ℕ → List ℕ → ℕ
+listedLine place entries = cellLine (getD entries place 0)
+
+unfoldable pub perform : Act → State → Board → Board
+perform writeLine s b = backed (listedLine (s .place) (b .entries)) (placed s (s .place + 1) (s .undo)) b
+perform storeEpoch s b = cached (set (b .cache) 0 (epochOf (b .cache) + 1)) (placed s (s .place + 1) (s .undo)) b
+perform writeHeader s b = backed 0 (placed s (s .place + 1) (s .undo)) b
+perform release s b = stated (released s) b
+
+-- ---- the step call, by phase
+
+unfoldable pub step : Phase → State → Board → Board
+step Off s b = b
+step Formatting s b = formatStep s b
+step Recovering s b = recoveryStep (s .undo) s b
+step Running s b = perform (actAt (s .listed) (s .place)) s b
+
+-- ---- updates and restart points
+
+-- "If the mark differs from the cache's epoch, three advances follow .. If the mark equals the epoch, only the last. This is decided at the start."
+abbrev pub firstStore : List ℕ → ℕ → Store
+firstStore row c = cond (logged row c) Record Backup
+
+-- "The start notes it."
+abbrev pub noted : ℕ → ℕ → ℕ → Board → Board
+noted w c v b = stated (conditioned (b .state) w (Updating c v (firstStore (b .cache) c)) (b .state .listed)) b
+
+-- "At the last store the worker becomes waiting if a checkpoint is requested by then" (a restart point's), "else free".
+abbrev pub afterLast : State → ℕ → Condition
+afterLast s c = cond (ltb c (s .workers) && s .requested) Waiting Free
+
+-- "backup := record; mark := epoch, and the cell is added to the list; record := value".
+unfoldable pub advance : Store → ℕ → ℕ → ℕ → State → Board → Board
+advance Backup w c v s b = cached (backedUp (b .cache) c) (conditioned s w (Updating c v Mark) (s .listed)) b
+advance Mark w c v s b =
+    record { state = conditioned s w (Updating c v Record) (s .listed + 1); memory = b .memory; cache = markedNow (b .cache) c; entries = set (b .entries) (s .listed) c }
+advance Record w c v s b = cached (recorded (b .cache) c v) (conditioned s w (afterLast s c) (s .listed)) b
+
+unfoldable pub advanceOf : Condition → ℕ → State → Board → Board
+advanceOf Free w s b = b
+advanceOf Waiting w s b = b
+advanceOf (Updating c v next) w s b = advance next w c v s b
+
+-- ---- every call
+
+unfoldable pub effect : Call → Board → Board
+effect (FormatStart l w) b = stated (started Formatting l w) b
+effect RecoveryStart b = cached (b .memory) (started Recovering (linesOf (b .memory)) (workersOf (b .memory))) b
+effect Step b = step (b .state .phase) (b .state) b
+effect (Update w c v) b = noted w c v b
+effect (RestartPoint w v) b = noted w w v b
+effect (Advance w) b = advanceOf (conditionOf (b .state) w) w (b .state) b
+effect Request b = stated (requesting (b .state)) b
+effect (WriteBack l) b = backed l (b .state) b
+effect (Read c) b = b

@@ -1,0 +1,133 @@
+-- Document 01, "The simple machine": what demand 2 compares the board with. It never sees the board.
+use Prim.Native.Nat.{ℕ, zero, suc, _+_, _-_}
+use mathlib.Core.Bool.{Bool, true, false, cond, not, _&&_, _||_}
+use lib.Dec.{leb, eqb}
+use Rattle.board.specs.declared.Call.{Call}
+use Rattle.board.specs.declared.Call.the-variants.{FormatStart, RecoveryStart, Step, Update, RestartPoint, Advance, Request, WriteBack, Read}
+use Rattle.board.specs.Board.{cells}
+
+-- "for each worker an unfinished update (cell, value, stores left)".
+pub data Unfinished : Type 0 where
+  none : Unfinished
+  update : ℕ → ℕ → ℕ → Unfinished
+
+-- "It holds for each cell a current and a checkpointed value and whether it is marked; ..; whether a request stands; the steps since the last start or request."
+-- Beside 01's list: whether the last start was a format's, and the L of the last format.
+pub record Machine : Type 0 where
+  pub current : ℕ → ℕ
+  pub checkpointed : ℕ → ℕ
+  pub marked : ℕ → Bool
+  pub unfinished : ℕ → Unfinished
+  pub requested : Bool
+  pub steps : ℕ
+  pub formatting : Bool
+  pub lines : ℕ
+
+-- "L+2 steps".
+abbrev pub formatSteps : ℕ → ℕ
+formatSteps l = l + 2
+
+-- "At a finished format, where it begins, values are 0, with no marks, updates or request."
+abbrev pub beginning : ℕ → Machine
+beginning l =
+    record { current = λ c. 0; checkpointed = λ c. 0; marked = λ c. false; unfinished = λ w. none; requested = false; steps = formatSteps l; formatting = true; lines = l }
+
+-- A function changed at one place.
+unfoldable pub changed {ℓ} : {A : Type ℓ} → (ℕ → A) → ℕ → A → ℕ → A
+changed f i a j = cond (eqb j i) a (f j)
+
+-- How many numbers below `n` pass the test.
+unfoldable pub countUnder : ℕ → (ℕ → Bool) → ℕ
+countUnder zero test = 0
+countUnder (suc n) test = cond (test n) (suc (countUnder n test)) (countUnder n test)
+
+-- "n cells being marked".
+abbrev pub markedCount : Machine → ℕ
+markedCount m = countUnder (cells (m .lines)) (m .marked)
+
+-- "A start drops updates and request."
+abbrev pub startedFormat : ℕ → Machine → Machine
+startedFormat l m =
+    record { current = m .current; checkpointed = m .checkpointed; marked = m .marked; unfinished = λ w. none; requested = false; steps = 0; formatting = true; lines = l }
+
+-- "Recovery's also copies checkpointed to current and drops the marks".
+abbrev pub startedRecovery : Machine → Machine
+startedRecovery m =
+    record { current = m .checkpointed; checkpointed = m .checkpointed; marked = λ c. false; unfinished = λ w. none; requested = false; steps = 0; formatting = false; lines = m .lines }
+
+-- "Request: from then on a request stands."
+abbrev pub startedRequest : Machine → Machine
+startedRequest m =
+    record { current = m .current; checkpointed = m .checkpointed; marked = m .marked; unfinished = m .unfinished; requested = true; steps = 0; formatting = m .formatting; lines = m .lines }
+
+-- One more step since the last start or request.
+abbrev pub counted : Machine → Machine
+counted m =
+    record { current = m .current; checkpointed = m .checkpointed; marked = m .marked; unfinished = m .unfinished; requested = m .requested; steps = m .steps + 1; formatting = m .formatting; lines = m .lines }
+
+-- "current is copied to checkpointed, the checkpoint is complete".
+abbrev pub completed : Machine → Machine
+completed m =
+    record { current = m .current; checkpointed = m .current; marked = m .marked; unfinished = m .unfinished; requested = m .requested; steps = m .steps; formatting = m .formatting; lines = m .lines }
+
+-- "step n+3 drops marks and request".
+abbrev pub dropped : Machine → Machine
+dropped m =
+    record { current = m .current; checkpointed = m .checkpointed; marked = λ c. false; unfinished = m .unfinished; requested = false; steps = m .steps; formatting = m .formatting; lines = m .lines }
+
+-- The machine with an update of worker `w` noted, over or with fewer stores left.
+abbrev pub noting : ℕ → Unfinished → Machine → Machine
+noting w u m =
+    record { current = m .current; checkpointed = m .checkpointed; marked = m .marked; unfinished = changed (m .unfinished) w u; requested = m .requested; steps = m .steps; formatting = m .formatting; lines = m .lines }
+
+-- "the cell is marked".
+abbrev pub marking : ℕ → Machine → Machine
+marking c m =
+    record { current = m .current; checkpointed = m .checkpointed; marked = changed (m .marked) c true; unfinished = m .unfinished; requested = m .requested; steps = m .steps; formatting = m .formatting; lines = m .lines }
+
+-- "the value becomes current".
+abbrev pub valued : ℕ → ℕ → Machine → Machine
+valued c v m =
+    record { current = changed (m .current) c v; checkpointed = m .checkpointed; marked = m .marked; unfinished = m .unfinished; requested = m .requested; steps = m .steps; formatting = m .formatting; lines = m .lines }
+
+-- "one store left if the cell is marked, else three".
+abbrev pub updateStart : ℕ → ℕ → ℕ → Machine → Machine
+updateStart w c v m = noting w (update c v (cond (m .marked c) 1 3)) m
+
+-- "one left fewer. At one the cell is marked; at none the value becomes current and the update is over."
+unfoldable pub fewer : ℕ → ℕ → ℕ → ℕ → Machine → Machine
+fewer zero w c v m = valued c v (noting w none m)
+fewer (suc zero) w c v m = marking c (noting w (update c v 1) m)
+fewer (suc (suc left)) w c v m = noting w (update c v (suc (suc left))) m
+
+unfoldable pub advanced : Unfinished → ℕ → Machine → Machine
+advanced none w m = m
+advanced (update c v left) w m = fewer (left - 1) w c v m
+
+-- A step of a requested checkpoint, by the steps since the request: n+2 writes line 0 back, n+3 ends it.
+unfoldable pub checkpointStep : Machine → Machine
+checkpointStep m =
+    cond (eqb (m .steps + 1) (markedCount m + 2)) (completed (counted m)) (cond (eqb (m .steps + 1) (markedCount m + 3)) (dropped (counted m)) (counted m))
+
+-- "Step L+2 after a format's start, no other start between: as at the beginning."
+abbrev pub finishesFormat : Machine → Bool
+finishesFormat m = m .formatting && eqb (m .steps + 1) (formatSteps (m .lines))
+
+unfoldable pub stepped : Machine → Machine
+stepped m = cond (m .requested) (checkpointStep m) (cond (finishesFormat m) (beginning (m .lines)) (counted m))
+
+-- "Write-back of line 0, .. by a call between steps n+1 and n+3 while that request stands".
+unfoldable pub writeBackSeen : ℕ → Machine → Machine
+writeBackSeen l m = cond (eqb l 0 && m .requested && leb (markedCount m + 1) (m .steps)) (completed m) m
+
+-- What a taken call does to the machine.
+unfoldable pub feed : Call → Machine → Machine
+feed (FormatStart l w) m = startedFormat l m
+feed RecoveryStart m = startedRecovery m
+feed Step m = stepped m
+feed (Update w c v) m = updateStart w c v m
+feed (RestartPoint w v) m = updateStart w w v m
+feed (Advance w) m = advanced (m .unfinished w) w m
+feed Request m = startedRequest m
+feed (WriteBack l) m = writeBackSeen l m
+feed (Read c) m = m

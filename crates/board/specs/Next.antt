@@ -1,0 +1,48 @@
+-- Document 01, "Why a call is turned down": every call as one function, taken or refused.
+use Prim.Native.Nat.{ℕ}
+use mathlib.Core.Bool.{Bool, true, false, cond}
+use lib.Dec.{eqb}
+use Rattle.board.specs.declared.Call.{Call}
+use Rattle.board.specs.declared.Call.the-variants.{FormatStart, RecoveryStart, Step, Update, RestartPoint, Advance, Request, WriteBack, Read}
+use Rattle.line.specs.declared.Field.{Field}
+use Rattle.line.specs.Cell.{fieldOf}
+use Rattle.board.specs.Board.{Board}
+use Rattle.board.specs.Causes.{cause}
+use Rattle.board.specs.Effects.{effect}
+
+-- No cause stands.
+abbrev pub taken : Call → Board → Bool
+taken k b = eqb (cause k b) 0
+
+-- What a call leaves: its step where it is taken, all as it was where it is refused.
+unfoldable pub next : Call → Board → Board
+next k b = cond (taken k b) (effect k b) b
+
+-- "Read gives a cell's record in the cache"; "state as given; read value 0" where it is refused.
+unfoldable pub valueRead : ℕ → Board → ℕ
+valueRead c b = cond (taken (Read c) b) (fieldOf (b .cache) c Field.Record) 0
+
+-- The three kinds of call that sequences tell apart: the starts of format and recovery, the step, and the others.
+pub data Kind : Type 0 where
+  start stepping other : Kind
+
+abbrev pub kind : Call → Kind
+kind (FormatStart l w) = start
+kind RecoveryStart = start
+kind Step = stepping
+kind (Update w c v) = other
+kind (RestartPoint w v) = other
+kind (Advance w) = other
+kind Request = other
+kind (WriteBack l) = other
+kind (Read c) = other
+
+abbrev pub isStart : Kind → Bool
+isStart start = true
+isStart stepping = false
+isStart other = false
+
+abbrev pub isStep : Kind → Bool
+isStep start = false
+isStep stepping = true
+isStep other = false

@@ -1,0 +1,137 @@
+-- Document 01, "Lines and cells" and "Steps": the state record, its workers, and every way in which a step makes a new one.
+use Prim.Native.Nat.{ℕ, zero, suc, _+_}
+use mathlib.Core.List.{List}
+use mathlib.Core.Bool.{Bool, true, false, not, _&&_, _||_}
+use lib.Dec.{ltb, eqb}
+use lib.ListN.{getD, set, replicate}
+use Rattle.board.specs.declared.State.{State}
+use Rattle.board.specs.declared.Worker.{Worker}
+use Rattle.board.specs.declared.Condition.{Condition}
+use Rattle.board.specs.declared.Condition.the-variants.{Free, Waiting, Updating}
+use Rattle.board.specs.declared.Store.{Store}
+use Rattle.board.specs.declared.Store.the-variants.{Backup, Mark, Record}
+use Rattle.board.specs.declared.Undo.{Undo}
+use Rattle.board.specs.declared.Undo.the-variants.{Restore, Unmark, WriteLine}
+use Rattle.board.specs.declared.Phase.{Phase}
+use Rattle.board.specs.declared.Phase.the-variants.{Off, Formatting, Recovering, Running}
+
+-- ---- workers
+
+-- A free worker.
+abbrev pub freeWorker : Worker
+freeWorker = record { condition = Free }
+
+-- "all eight workers free".
+abbrev pub allFree : List Worker
+allFree = replicate 8 freeWorker
+
+-- The condition of worker `w`.
+abbrev pub conditionOf : State → ℕ → Condition
+conditionOf s w = getD (s .worker) w freeWorker .condition
+
+-- "A worker is free".
+abbrev pub isFree : Condition → Bool
+isFree Free = true
+isFree Waiting = false
+isFree (Updating c v next) = false
+
+-- "waiting".
+abbrev pub isWaiting : Condition → Bool
+isWaiting Free = false
+isWaiting Waiting = true
+isWaiting (Updating c v next) = false
+
+-- "or in the middle of an update".
+abbrev pub isUpdating : Condition → Bool
+isUpdating Free = false
+isUpdating Waiting = false
+isUpdating (Updating c v next) = true
+
+-- The worker has an unfinished update whose cell passes the test.
+abbrev pub updates : (ℕ → Bool) → Condition → Bool
+updates test Free = false
+updates test Waiting = false
+updates test (Updating c v next) = test c
+
+-- The next store of an update is the mark's.
+abbrev pub isMarkStore : Store → Bool
+isMarkStore Backup = false
+isMarkStore Mark = true
+isMarkStore Record = false
+
+-- The worker's next advance "must add a cell" to the list.
+abbrev pub mustList : Condition → Bool
+mustList Free = false
+mustList Waiting = false
+mustList (Updating c v next) = isMarkStore next
+
+-- Some number below `n` passes the test.
+unfoldable pub anyUnder : ℕ → (ℕ → Bool) → Bool
+anyUnder zero test = false
+anyUnder (suc n) test = anyUnder n test || test n
+
+-- Some worker under W has a condition that passes the test.
+abbrev pub anyWorker : State → (Condition → Bool) → Bool
+anyWorker s test = anyUnder 8 (λ i. ltb i (s .workers) && test (conditionOf s i))
+
+-- Some worker under W other than `w` has an unfinished update of cell `c`.
+abbrev pub othersUpdate : State → ℕ → ℕ → Bool
+othersUpdate s w c = anyUnder 8 (λ i. ltb i (s .workers) && not (eqb i w) && updates (eqb c) (conditionOf s i))
+
+-- ---- phases
+
+abbrev pub isOff : Phase → Bool
+isOff Off = true
+isOff Formatting = false
+isOff Recovering = false
+isOff Running = false
+
+abbrev pub isFormatting : Phase → Bool
+isFormatting Off = false
+isFormatting Formatting = true
+isFormatting Recovering = false
+isFormatting Running = false
+
+abbrev pub isRunning : Phase → Bool
+isRunning Off = false
+isRunning Formatting = false
+isRunning Recovering = false
+isRunning Running = true
+
+abbrev pub isRecovering : Phase → Bool
+isRecovering Off = false
+isRecovering Formatting = false
+isRecovering Recovering = true
+isRecovering Running = false
+
+-- ---- the records that steps leave
+
+-- "Each of the two starts sets every field": its phase, L and W, list empty, the place at its beginning, no request, all free.
+abbrev pub started : Phase → ℕ → ℕ → State
+started phase l w =
+    record { phase = phase; lines = l; workers = w; listed = 0; place = 0; undo = Restore; requested = false; worker = allFree }
+
+-- The record with the place, and a recovery's step there, put anew.
+abbrev pub placed : State → ℕ → Undo → State
+placed s place undo =
+    record { phase = s .phase; lines = s .lines; workers = s .workers; listed = s .listed; place = place; undo = undo; requested = s .requested; worker = s .worker }
+
+-- "Then running, all free": the end of a format or recovery sets the place to 0; a format's empties the list.
+abbrev pub opened : State → ℕ → State
+opened s listed =
+    record { phase = Running; lines = s .lines; workers = s .workers; listed = listed; place = 0; undo = Restore; requested = s .requested; worker = allFree }
+
+-- "A request sets the place to 0".
+abbrev pub requesting : State → State
+requesting s =
+    record { phase = s .phase; lines = s .lines; workers = s .workers; listed = s .listed; place = 0; undo = Restore; requested = true; worker = s .worker }
+
+-- "release, with all eight workers free, list empty, request gone", the place 0.
+abbrev pub released : State → State
+released s =
+    record { phase = s .phase; lines = s .lines; workers = s .workers; listed = 0; place = 0; undo = Restore; requested = false; worker = allFree }
+
+-- The record with worker `w` in another condition and the list's length put anew.
+abbrev pub conditioned : State → ℕ → Condition → ℕ → State
+conditioned s w condition listed =
+    record { phase = s .phase; lines = s .lines; workers = s .workers; listed = listed; place = s .place; undo = s .undo; requested = s .requested; worker = set (s .worker) w (record { condition = condition }) }

@@ -1,0 +1,60 @@
+// The declared types of the board: its state record and the calls that a host can make (document 01).
+
+// What the board is doing.
+pub enum Phase {
+    Off,
+    Formatting,
+    Recovering,
+    Running,
+}
+
+// The next store of an unfinished update.
+pub enum Store {
+    Backup,
+    Mark,
+    Record,
+}
+
+// The next step at a recovery's cell.
+pub enum Undo {
+    Restore,
+    Unmark,
+    WriteLine,
+}
+
+// What a worker is doing; an update of a cell under W is a restart point.
+pub enum Condition {
+    Free,
+    Waiting,
+    Updating { cell: u16, value: u64, next: Store },
+}
+
+pub struct Worker {
+    pub condition: Condition,
+}
+
+// The state record: phase, L, W, the list's length, the place reached (with a recovery's step),
+// whether a checkpoint was requested, and the eight workers.
+pub struct State {
+    pub phase: Phase,
+    pub lines: u16,
+    pub workers: u8,
+    pub listed: u16,
+    pub place: u16,
+    pub undo: Undo,
+    pub requested: bool,
+    pub worker: [Worker; 8],
+}
+
+// The nine calls with their arguments, any numbers a host may pass.
+pub enum Call {
+    FormatStart { lines: u64, workers: u64 },
+    RecoveryStart,
+    Step,
+    Update { worker: u64, cell: u64, value: u64 },
+    RestartPoint { worker: u64, value: u64 },
+    Advance { worker: u64 },
+    Request,
+    WriteBack { line: u64 },
+    Read { cell: u64 },
+}
