@@ -1,0 +1,52 @@
+// A row by line, and the header's words.
+ghost use mathlib.Core.Path.{_≡_};
+ghost use Prim.Native.Nat.{_+_, _<_, _≤_};
+ghost use lib.ListN.{length, getD, set};
+ghost use Rattle.line.specs.Line.{lineStart, lineOf, withLine};
+
+// A slice filled from another of equal length.
+pub fn copy(to: &mut [u64], from: &[u64])
+    requires { ⌜ length (now to) ≡ length (now from) ⌝ }
+    ensures { λ _. ⌜ now (to .exit) ≡ now (from .entry) ⌝ }
+{
+    let mut i = 0;
+    while i < from.len() {
+        to[i] = from[i];
+        i += 1;
+    }
+}
+
+// Write-back: the memory row's part is filled from the cache's.
+pub fn write_back(memory: &mut [u64], cache: &[u64], line: usize)
+    requires { ⌜ (lineStart line + 8 ≤ length (now memory)) × (lineStart line + 8 ≤ length (now cache)) ⌝ }
+    ensures { λ _. ⌜ now (memory .exit) ≡ withLine (now (memory .entry)) line (lineOf (now (cache .entry)) line) ⌝ }
+{
+    let start = 8 * line;
+    let end = start + 8;
+    copy(&mut memory[start..end], &cache[start..end]);
+}
+
+// Eight given words, stored in a line.
+pub fn store_line(row: &mut [u64], line: usize, words: [u64; 8])
+    requires { ⌜ lineStart line + 8 ≤ length (now row) ⌝ }
+    ensures { λ _. ⌜ now (row .exit) ≡ withLine (now (row .entry)) line words ⌝ }
+{
+    let start = 8 * line;
+    copy(&mut row[start..start + 8], &words);
+}
+
+// A word of the header, line 0.
+pub fn header_word(row: &[u64], k: usize) -> u64
+    requires { ⌜ k < length (now row) ⌝ }
+    ensures { λ r. ⌜ r ≡ getD (now (row .entry)) k 0 ⌝ }
+{
+    row[k]
+}
+
+// A word of the header, stored.
+pub fn store_header_word(row: &mut [u64], k: usize, value: u64)
+    requires { ⌜ k < length (now row) ⌝ }
+    ensures { λ _. ⌜ now (row .exit) ≡ set (now (row .entry)) k value ⌝ }
+{
+    row[k] = value;
+}
