@@ -1,2 +1,7 @@
 -- The proofs of the statements in `specs/`.
 pub mod Bench
+pub mod Bools
+pub mod View
+pub mod Invariant
+pub mod Taken
+pub mod Rows

@@ -9,8 +9,8 @@ use Rattle.board.specs.declared.Condition.{Condition}
 use Rattle.board.specs.declared.Condition.the-variants.{Free, Waiting, Updating}
 use Rattle.board.specs.declared.Store.{Store}
 use Rattle.board.specs.declared.Store.the-variants.{Backup, Mark, Record}
-use Rattle.board.specs.declared.Undo.{Undo}
-use Rattle.board.specs.declared.Undo.the-variants.{Restore, Unmark, WriteLine}
+use Rattle.board.specs.declared.UndoStep.{UndoStep}
+use Rattle.board.specs.declared.UndoStep.the-variants.{Restore, Unmark, WriteLine}
 use Rattle.board.specs.declared.Phase.{Phase}
 use Rattle.board.specs.declared.Phase.the-variants.{Off, Formatting, Recovering, Running}
 use Rattle.board.specs.declared.Call.{Call}
@@ -84,7 +84,7 @@ abbrev pub pastCell : State → State
 pastCell s = cond (ltb (s .place + 1) (cells (s .lines))) (placed s (s .place + 1) Restore) (opened s (s .listed))
 
 -- "record := backup; mark := 0; its line written back"; any other cell, "one step that stores nothing". The mark is looked at only before the first.
-unfoldable pub recoveryStep : Undo → State → Board → Board
+unfoldable pub recoveryStep : UndoStep → State → Board → Board
 recoveryStep Restore s b =
     cond (logged (b .cache) (s .place)) (cached (restored (b .cache) (s .place)) (placed s (s .place) Unmark) b) (stated (pastCell s) b)
 recoveryStep Unmark s b = cached (unmarked (b .cache) (s .place)) (placed s (s .place) WriteLine) b

@@ -10,8 +10,8 @@ use Rattle.board.specs.declared.Condition.{Condition}
 use Rattle.board.specs.declared.Condition.the-variants.{Free, Waiting, Updating}
 use Rattle.board.specs.declared.Store.{Store}
 use Rattle.board.specs.declared.Store.the-variants.{Backup, Mark, Record}
-use Rattle.board.specs.declared.Undo.{Undo}
-use Rattle.board.specs.declared.Undo.the-variants.{Restore, Unmark, WriteLine}
+use Rattle.board.specs.declared.UndoStep.{UndoStep}
+use Rattle.board.specs.declared.UndoStep.the-variants.{Restore, Unmark, WriteLine}
 use Rattle.board.specs.declared.Phase.{Phase}
 use Rattle.board.specs.declared.Phase.the-variants.{Off, Formatting, Recovering, Running}
 
@@ -112,7 +112,7 @@ started phase l w =
     record { phase = phase; lines = l; workers = w; listed = 0; place = 0; undo = Restore; requested = false; worker = allFree }
 
 -- The record with the place, and a recovery's step there, put anew.
-abbrev pub placed : State → ℕ → Undo → State
+abbrev pub placed : State → ℕ → UndoStep → State
 placed s place undo =
     record { phase = s .phase; lines = s .lines; workers = s .workers; listed = s .listed; place = place; undo = undo; requested = s .requested; worker = s .worker }
 

@@ -16,7 +16,7 @@ pub enum Store {
 }
 
 // The next step at a recovery's cell.
-pub enum Undo {
+pub enum UndoStep {
     Restore,
     Unmark,
     WriteLine,
@@ -41,7 +41,7 @@ pub struct State {
     pub workers: u8,
     pub listed: u16,
     pub place: u16,
-    pub undo: Undo,
+    pub undo: UndoStep,
     pub requested: bool,
     pub worker: [Worker; 8],
 }

@@ -1,0 +1,102 @@
+-- Laws of tests: what a passed or failed test says, and a choice by a test taken apart.
+use Prim.Native.Nat.{ℕ, zero, suc, _≤_, _<_}
+use mathlib.Core.Path.{_≡_, refl, sym, subst}
+use mathlib.Core.Bool.{Bool, true, false, cond, not, _&&_, _||_, true≢false, false≢true}
+use lib.Dec.{ltb}
+use borrow.Author.Tests.{ltb-true, ltb-false}
+use native.Mathlib.Omega.{arith}
+use native.Mathlib.Numerals.{add-one}
+use Rattle.board.specs.State.{anyUnder}
+
+-- A choice by a test, with what the test says.
+pub on {ℓ ℓ′} : {A : Type ℓ} (P : A → Type ℓ′) (t : Bool) (x y : A) → (t ≡ true → P x) → (t ≡ false → P y) → P (cond t x y)
+on P true x y f g = f refl
+on P false x y f g = g refl
+
+-- A choice by a test that holds.
+pub chosen {ℓ} : {A : Type ℓ} (t : Bool) (x y : A) → t ≡ true → cond t x y ≡ x
+chosen true x y e = refl
+chosen false x y e = absurd (false≢true e)
+
+-- A choice by a test that fails.
+pub passedOver {ℓ} : {A : Type ℓ} (t : Bool) (x y : A) → t ≡ false → cond t x y ≡ y
+passedOver true x y e = absurd (true≢false e)
+passedOver false x y e = refl
+
+-- Two cases of a test.
+pub split {ℓ} : {A : Type ℓ} (t : Bool) → (t ≡ true → A) → (t ≡ false → A) → A
+split true f g = f refl
+split false f g = g refl
+
+-- A test that both holds and fails.
+pub clash : {t : Bool} → t ≡ true → t ≡ false → ⊥
+clash {t} p q = true≢false (subst (λ (x : Bool). x ≡ false) p q)
+
+pub or-left : (a b : Bool) → a || b ≡ false → a ≡ false
+or-left true b e = e
+or-left false b e = refl
+
+pub or-right : (a b : Bool) → a || b ≡ false → b ≡ false
+or-right true b e = absurd (true≢false e)
+or-right false b e = e
+
+pub or-none : (a b : Bool) → a ≡ false → b ≡ false → a || b ≡ false
+or-none true b p q = p
+or-none false b p q = q
+
+pub and-left : (a b : Bool) → a && b ≡ true → a ≡ true
+and-left true b e = refl
+and-left false b e = e
+
+pub and-right : (a b : Bool) → a && b ≡ true → b ≡ true
+and-right true b e = e
+and-right false b e = absurd (false≢true e)
+
+pub and-both : (a b : Bool) → a ≡ true → b ≡ true → a && b ≡ true
+and-both true b p q = q
+and-both false b p q = p
+
+-- Where the first of two tests holds and not both, the second fails.
+pub and-not : (a b : Bool) → a && b ≡ false → a ≡ true → b ≡ false
+and-not true b e p = e
+and-not false b e p = absurd (false≢true p)
+
+-- Where one of two tests fails, not both hold.
+pub and-off : (a b : Bool) → a ≡ false → a && b ≡ false
+and-off true b e = absurd (true≢false e)
+and-off false b e = refl
+
+pub and-off-right : (a b : Bool) → b ≡ false → a && b ≡ false
+and-off-right true b e = e
+and-off-right false b e = refl
+
+pub not-off : (a : Bool) → not a ≡ false → a ≡ true
+not-off true e = refl
+not-off false e = absurd (true≢false e)
+
+pub not-on : (a : Bool) → a ≡ true → not a ≡ false
+not-on true e = refl
+not-on false e = absurd (false≢true e)
+
+pub not-of : (a : Bool) → not a ≡ true → a ≡ false
+not-of true e = absurd (false≢true e)
+not-of false e = refl
+
+pub not-to : (a : Bool) → a ≡ false → not a ≡ true
+not-to true e = absurd (true≢false e)
+not-to false e = refl
+
+-- No number below `n` passes the test, taken at one of them.
+pub none-under : (n : ℕ) (test : ℕ → Bool) → anyUnder n test ≡ false → (i : ℕ) → i < n → test i ≡ false
+unfolding anyUnder
+none-under zero test e i h = absurd (omega arith)
+none-under (suc n) test e i h =
+    split (ltb i n)
+    (λ b. none-under n test (or-left (anyUnder n test) (test n) e) i (ltb-true i n b))
+    (λ b. let same : n ≡ i = omega (arith, ltb-false i n b) in subst (λ (k : ℕ). test k ≡ false) same (or-right (anyUnder n test) (test n) e))
+
+-- A test that fails at every number below `n`.
+pub under-none : (n : ℕ) (test : ℕ → Bool) → ((i : ℕ) → i < n → test i ≡ false) → anyUnder n test ≡ false
+unfolding anyUnder
+under-none zero test f = refl
+under-none (suc n) test f = or-none (anyUnder n test) (test n) (under-none n test (λ i h. f i (omega arith))) (f n (omega arith))

@@ -1,0 +1,238 @@
+-- The invariant of every run that a lawful sequence leads to.
+use Prim.Native.Nat.{ℕ, _+_, _≤_, _<_}
+use mathlib.Core.Path.{_≡_}
+use mathlib.Core.List.{List}
+use mathlib.Core.Bool.{Bool, true, false, cond}
+use lib.Dec.{eqb}
+use lib.ListN.{length, getD}
+use Rattle.line.specs.Line.{lineStart}
+use Rattle.line.specs.Cell.{cellLine}
+use Rattle.board.specs.declared.State.{State}
+use Rattle.board.specs.declared.Condition.{Condition}
+use Rattle.board.specs.declared.Condition.the-variants.{Free, Waiting, Updating}
+use Rattle.board.specs.declared.Store.{Store}
+use Rattle.board.specs.declared.Store.the-variants.{Backup, Mark, Record}
+use Rattle.board.specs.declared.UndoStep.{UndoStep}
+use Rattle.board.specs.declared.UndoStep.the-variants.{Restore, Unmark, WriteLine}
+use Rattle.board.specs.declared.Phase.{Phase}
+use Rattle.board.specs.declared.Phase.the-variants.{Off, Formatting, Recovering, Running}
+use Rattle.board.specs.Board.{Board, cells, listWords, linesOutside, workersOutside, epochOf, linesOf, workersOf, restNotZero, lastEpoch}
+use Rattle.board.specs.State.{allFree, conditionOf, isWaiting}
+use Rattle.board.specs.Machine.{Unfinished, none, update, Machine, markedCount}
+use Rattle.board.specs.Sequence.{Run}
+use Rattle.board.specs.Statements.{Spare}
+use Rattle.board.proofs.View.{View, view, Sized}
+
+-- ---- rows
+
+-- Undoing a cell's view in epoch `e` gives `x`.
+pub record Undo (e x : ℕ) (v : View) : Type 0 where
+  -- a cell logged in this epoch has the value in its backup
+  pub logged : v .mark ≡ e → v .backup ≡ x
+  -- any other has it in its record
+  pub plain : (v .mark ≡ e → ⊥) → v .value ≡ x
+  -- no mark is ahead of the epoch
+  pub bounded : v .mark ≤ e
+
+-- Undoing every cell of a row in epoch `e` gives the values `xs`.
+abbrev pub Undoes : ℕ → ℕ → (ℕ → ℕ) → List ℕ → Type 0
+Undoes l e xs row = (c : ℕ) → c < cells l → Undo e (xs c) (view row c)
+
+-- A header that recovery's start takes on a board of `l` lines.
+pub record Header (l : ℕ) (row : List ℕ) : Type 0 where
+  pub epoch : 0 < epochOf row
+  pub lines : linesOf row ≡ l
+  pub workers : workersOutside l (workersOf row) ≡ false
+  pub rest : restNotZero row ≡ false
+
+-- A memory from which recovery gives the values `xs`.
+pub record Kept (l : ℕ) (xs : ℕ → ℕ) (row : List ℕ) : Type 0 where
+  pub header : Header l row
+  pub undoes : Undoes l (epochOf row) xs row
+
+-- The rows have the lengths that `l` lines ask.
+pub record Sizes (l : ℕ) (b : Board) : Type 0 where
+  pub limits : linesOutside l ≡ false
+  pub memory : Sized l (b .memory)
+  pub cache : Sized l (b .cache)
+  pub entries : listWords l ≤ length (b .entries)
+
+-- ---- formatting
+
+-- The cell lines before `place` are zeros.
+pub record Zeroed (l place : ℕ) (row : List ℕ) : Type 0 where
+  pub cells : (c : ℕ) → c < cells l → cellLine c < place → view row c ≡ record { value = 0; backup = 0; mark = 0 }
+  pub spare : (i k : ℕ) → 1 ≤ i → i < place → 6 ≤ k → k < 8 → getD row (lineStart i + k) 0 ≡ 0
+
+-- A format of `l` lines at its place.
+pub record FormatInv (l : ℕ) (b : Board) : Type 0 where
+  pub lines : b .state .lines ≡ l
+  pub workers : workersOutside l (b .state .workers) ≡ false
+  pub request : b .state .requested ≡ false
+  pub within : b .state .place ≤ l + 1
+  -- once its first step is taken, memory says that there is no board here
+  pub epoch : 0 < b .state .place → epochOf (b .memory) ≡ 0
+  pub memory : Zeroed l (b .state .place) (b .memory)
+  pub cache : Zeroed l (b .state .place) (b .cache)
+
+-- The machine beside a format.
+pub record FormatMachine (r : Run) : Type 0 where
+  pub formatting : r .machine .formatting ≡ true
+  pub request : r .machine .requested ≡ false
+  pub steps : r .machine .steps ≡ r .board .state .place
+  pub erased : 0 < r .board .state .place → r .erased ≡ true
+
+-- ---- recovering
+
+-- What is known of the cell at a recovery's place, by the step that is next.
+abbrev pub AtPlace : UndoStep → ℕ → ℕ → View → View → Type 0
+AtPlace Restore e x memory cache = memory .mark ≡ e → cache .mark ≡ e
+AtPlace Unmark e x memory cache = cache .value ≡ x
+AtPlace WriteLine e x memory cache = cache .mark ≡ e → ⊥
+
+-- A recovery of a board of `l` lines; `xs` are the checkpointed values.
+pub record RecoveryInv (l : ℕ) (xs : ℕ → ℕ) (b : Board) : Type 0 where
+  pub lines : b .state .lines ≡ l
+  pub workers : workersOutside l (b .state .workers) ≡ false
+  pub listed : b .state .listed ≡ 0
+  pub request : b .state .requested ≡ false
+  pub free : b .state .worker ≡ allFree
+  pub within : b .state .place < cells l
+  pub header : Header l (b .cache)
+  pub epochs : epochOf (b .cache) ≡ epochOf (b .memory)
+  pub undoes : Undoes l (epochOf (b .memory)) xs (b .cache)
+  pub spare : Spare l (b .cache)
+  -- cells passed are not logged in this epoch, in the cache or in memory
+  pub passedCache : (c : ℕ) → c < b .state .place → view (b .cache) c .mark ≡ epochOf (b .memory) → ⊥
+  pub passedMemory : (c : ℕ) → c < b .state .place → view (b .memory) c .mark ≡ epochOf (b .memory) → ⊥
+  -- ahead, a cell logged in memory is logged in the cache
+  pub ahead : (c : ℕ) → c < cells l → b .state .place < c → view (b .memory) c .mark ≡ epochOf (b .memory) → view (b .cache) c .mark ≡ epochOf (b .memory)
+  pub here : AtPlace (b .state .undo) (epochOf (b .memory)) (xs (b .state .place)) (view (b .memory) (b .state .place)) (view (b .cache) (b .state .place))
+
+-- The machine beside a recovery.
+pub record RecoveryMachine (m : Machine) : Type 0 where
+  pub request : m .requested ≡ false
+  pub formatting : m .formatting ≡ false
+  pub current : (c : ℕ) → m .current c ≡ m .checkpointed c
+  pub marked : (c : ℕ) → m .marked c ≡ false
+  pub unfinished : (w : ℕ) → m .unfinished w ≡ none
+
+-- ---- running
+
+-- How many stores an update has left.
+abbrev pub storesLeft : Store → ℕ
+storesLeft Backup = 3
+storesLeft Mark = 2
+storesLeft Record = 1
+
+-- What is known of the cell of an update before its next store.
+abbrev pub BeforeStore : Store → ℕ → View → Type 0
+BeforeStore Backup e v = v .mark ≡ e → ⊥
+BeforeStore Mark e v = (v .mark ≡ e → ⊥) × (v .backup ≡ v .value)
+BeforeStore Record e v = v .mark ≡ e
+
+-- A worker's condition beside the machine's unfinished update.
+abbrev pub WorkerInv : ℕ → List ℕ → Condition → Unfinished → Type 0
+WorkerInv l cache Free u = u ≡ none
+WorkerInv l cache Waiting u = u ≡ none
+WorkerInv l cache (Updating c v next) u = (u ≡ update c v (storesLeft next)) × (c < cells l) × BeforeStore next (epochOf cache) (view cache c)
+
+-- The worker has an unfinished update of cell `d`.
+abbrev pub Touches : Condition → ℕ → Type 0
+Touches Free d = ⊥
+Touches Waiting d = ⊥
+Touches (Updating c v next) d = c ≡ d
+
+-- The steps that a requested checkpoint has taken.
+abbrev pub progress : State → ℕ
+progress s = cond (s .requested) (s .place) 0
+
+-- Every worker under W waits.
+abbrev pub AllWait : State → Type 0
+AllWait s = (w : ℕ) → w < s .workers → isWaiting (conditionOf s w) ≡ true
+
+-- Memory and cache have the same record of every cell.
+abbrev pub SameRecords : ℕ → Board → Type 0
+SameRecords l b = (c : ℕ) → c < cells l → view (b .memory) c .value ≡ view (b .cache) c .value
+
+-- Before the epoch's store.
+pub record Early (l : ℕ) (b : Board) (m : Machine) : Type 0 where
+  pub epochs : epochOf (b .cache) ≡ epochOf (b .memory)
+  -- a cell is marked in the machine where it is logged in this epoch
+  pub marks : (c : ℕ) → c < cells l → m .marked c ≡ eqb (view (b .cache) c .mark) (epochOf (b .memory))
+  -- a cell not logged in this epoch has its record in memory
+  pub clean : (c : ℕ) → c < cells l → (view (b .cache) c .mark ≡ epochOf (b .memory) → ⊥) → view (b .memory) c .value ≡ view (b .cache) c .value
+  -- a cell logged in this epoch is on the list
+  pub listing : (c : ℕ) → c < cells l → view (b .cache) c .mark ≡ epochOf (b .memory) → (i : ℕ) × (i < b .state .listed) × (getD (b .entries) i 0 ≡ c)
+  -- the list's cells before the checkpoint's place have their records in memory
+  pub written : (i : ℕ) → i < progress (b .state) → view (b .memory) (getD (b .entries) i 0) .value ≡ view (b .cache) (getD (b .entries) i 0) .value
+  pub within : progress (b .state) ≤ b .state .listed
+  -- once the first step is taken all workers wait
+  pub waiting : 0 < progress (b .state) → AllWait (b .state)
+  -- a requested checkpoint has an epoch to go to
+  pub room : b .state .requested ≡ true → epochOf (b .cache) ≡ lastEpoch → ⊥
+
+-- Between the epoch's store in the cache and line 0's write-back.
+pub record Gap (l : ℕ) (b : Board) : Type 0 where
+  pub request : b .state .requested ≡ true
+  pub place : b .state .place ≡ b .state .listed + 1
+  pub epochs : epochOf (b .cache) ≡ epochOf (b .memory) + 1
+  pub same : SameRecords l b
+  pub waiting : AllWait (b .state)
+
+-- From line 0's write-back to the release.
+pub record Late (l : ℕ) (b : Board) (m : Machine) : Type 0 where
+  pub request : b .state .requested ≡ true
+  pub low : b .state .listed + 1 ≤ b .state .place
+  pub high : b .state .place ≤ b .state .listed + 2
+  pub epochs : epochOf (b .cache) ≡ epochOf (b .memory)
+  pub same : SameRecords l b
+  pub waiting : AllWait (b .state)
+  -- the checkpoint is complete
+  pub complete : (c : ℕ) → c < cells l → m .checkpointed c ≡ m .current c
+  -- no cell is logged in the new epoch
+  pub unlogged : (c : ℕ) → c < cells l → view (b .cache) c .mark ≡ epochOf (b .memory) → ⊥
+
+-- The stages of a checkpoint; where none is requested the board is early.
+pub data Stage (l : ℕ) (b : Board) (m : Machine) : Type 0 where
+  early : Early l b m → Stage l b m
+  gap : Gap l b → Stage l b m
+  late : Late l b m → Stage l b m
+
+-- A running board of `l` lines beside the machine.
+pub record RunningInv (l : ℕ) (b : Board) (m : Machine) : Type 0 where
+  pub lines : b .state .lines ≡ l
+  pub workers : workersOutside l (b .state .workers) ≡ false
+  pub request : m .requested ≡ b .state .requested
+  pub eight : length (b .state .worker) ≡ 8
+  pub header : Header l (b .cache)
+  -- the cache too gives the checkpointed values by memory's epoch, so a write-back of any line at any time does no harm
+  pub undoes : Undoes l (epochOf (b .memory)) (m .checkpointed) (b .cache)
+  pub current : (c : ℕ) → c < cells l → view (b .cache) c .value ≡ m .current c
+  pub spare : Spare l (b .cache)
+  -- the list is as long as there are marked cells, and names cells
+  pub count : b .state .listed ≡ markedCount m
+  pub listed : (i : ℕ) → i < b .state .listed → getD (b .entries) i 0 < cells l
+  pub steps : b .state .requested ≡ true → m .steps ≡ b .state .place
+  pub stage : Stage l b m
+  pub worker : (w : ℕ) → w < b .state .workers → WorkerInv l (b .cache) (conditionOf (b .state) w) (m .unfinished w)
+  -- two unfinished updates have two cells
+  pub apart : (w w′ d : ℕ) → w < b .state .workers → w′ < b .state .workers → Touches (conditionOf (b .state) w) d → Touches (conditionOf (b .state) w′) d → w ≡ w′
+
+-- ---- every run
+
+-- What holds in each phase, from a start on and up to the next cut.
+abbrev pub InPhase : Phase → Run → Type 0
+InPhase Off r = ⊥
+InPhase Formatting r = FormatInv (r .machine .lines) (r .board) × FormatMachine r
+InPhase Recovering r = RecoveryInv (r .machine .lines) (r .machine .checkpointed) (r .board) × RecoveryMachine (r .machine) × (r .erased ≡ false)
+InPhase Running r = RunningInv (r .machine .lines) (r .board) (r .machine) × (r .erased ≡ false)
+
+-- The invariant.
+pub record Inv (r : Run) : Type 0 where
+  pub sizes : Sizes (r .machine .lines) (r .board)
+  pub spare : Spare (r .machine .lines) (r .board .memory)
+  -- in every phase memory gives the checkpointed values, or no format has finished since one began to erase it
+  pub kept : r .erased ≡ false → Kept (r .machine .lines) (r .machine .checkpointed) (r .board .memory)
+  pub lost : r .erased ≡ true → epochOf (r .board .memory) ≡ 0
+  pub phase : r .dark ≡ false → InPhase (r .board .state .phase) r

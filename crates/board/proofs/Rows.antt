@@ -1,0 +1,112 @@
+-- What stores and write-backs do to the header and to words 6 and 7 of the cell lines.
+use Prim.Native.Nat.{ℕ, zero, suc, _+_, _≤_, _<_}
+use mathlib.Core.Path.{_≡_, refl, sym, ap, subst, _∙_}
+use mathlib.Core.Logic.{_⊎_, inl, inr, ⊎-elim}
+use mathlib.Core.List.{List}
+use mathlib.Core.Bool.{Bool, true, false, not, _&&_}
+use native.Mathlib.Omega.{arith}
+use native.Mathlib.Decide.{ℕ-discrete}
+use lib.Dec.{eqb}
+use lib.ListN.{length, getD, set, length-set}
+use lib.Seq.{getD-set-same, getD-set-other}
+use Rattle.line.specs.declared.Field.{Field}
+use Rattle.line.specs.Line.{lineStart, lineOf, withLine}
+use Rattle.line.specs.Cell.{withField}
+use Rattle.line.proofs.Laws.{length-lineOf, getD-lineOf, getD-withLine-in, getD-withLine-out, header-withField, header-withLine, spare-withField}
+use Rattle.board.specs.Board.{workersOutside, epochOf, linesOf, workersOf, restNotZero}
+use Rattle.board.specs.Statements.{Spare}
+use Rattle.board.proofs.View.{Sized, line-in}
+use Rattle.board.proofs.Invariant.{Header}
+
+-- ---- the header
+
+-- The header's words after the epoch are the same in two rows.
+abbrev pub SameSizes : List ℕ → List ℕ → Type 0
+SameSizes row row′ = (k : ℕ) → 0 < k → k < 8 → getD row′ k 0 ≡ getD row k 0
+
+-- A header with the same sizes and another epoch.
+pub header-epoch : {l : ℕ} (row row′ : List ℕ) → SameSizes row row′ → 0 < epochOf row′ → Header l row → Header l row′
+header-epoch {l} row row′ same p h =
+    record {
+      epoch = p;
+      lines = same 1 (omega arith) (omega arith) ∙ h .lines;
+      workers = subst (λ (w : ℕ). workersOutside l w ≡ false) (sym (same 2 (omega arith) (omega arith))) (h .workers);
+      rest = rest-same (same 3 (omega arith) (omega arith)) (same 4 (omega arith) (omega arith)) (same 5 (omega arith) (omega arith)) (same 6 (omega arith) (omega arith)) (same 7 (omega arith) (omega arith)) (h .rest);
+    }
+  where
+    tested : ℕ → ℕ → ℕ → ℕ → ℕ → Bool
+    tested a b c d e = not (eqb a 0 && eqb b 0 && eqb c 0 && eqb d 0 && eqb e 0)
+
+    rest-same : {a b c d e a′ b′ c′ d′ e′ : ℕ} → a′ ≡ a → b′ ≡ b → c′ ≡ c → d′ ≡ d → e′ ≡ e → tested a b c d e ≡ false → tested a′ b′ c′ d′ e′ ≡ false
+    rest-same p q r s t h = (λ i. tested (p i) (q i) (r i) (s i) (t i)) ∙ h
+
+-- A header with the same words.
+pub header-same : {l : ℕ} (row row′ : List ℕ) → ((k : ℕ) → k < 8 → getD row′ k 0 ≡ getD row k 0) → Header l row → Header l row′
+header-same row row′ same h =
+    header-epoch row row′ (λ k a b. same k b) (subst (λ (e : ℕ). 0 < e) (sym (same 0 (omega arith))) (h .epoch)) h
+
+-- A cell's store leaves the epoch.
+pub epoch-store : (row : List ℕ) (c : ℕ) (f : Field) (v : ℕ) → epochOf (withField row c f v) ≡ epochOf row
+epoch-store row c f v = header-withField row c f v 0 (omega arith)
+
+-- A cell's store leaves the header.
+pub header-store : {l : ℕ} (row : List ℕ) (c : ℕ) (f : Field) (v : ℕ) → Header l row → Header l (withField row c f v)
+header-store row c f v h = header-same row (withField row c f v) (header-withField row c f v) h
+
+module _ {l : ℕ} (memory cache : List ℕ) (zm : Sized l memory) (zc : Sized l cache) where
+  -- Line 0's write-back copies the header.
+  pub word-back-header : (k : ℕ) → k < 8 → getD (withLine memory 0 (lineOf cache 0)) k 0 ≡ getD cache k 0
+  word-back-header k h =
+      let n = length-lineOf cache 0 (line-in cache 0 zc (omega arith)) in
+      let a : lineStart 0 + k ≡ k = omega arith in
+      subst (λ (i : ℕ). getD (withLine memory 0 (lineOf cache 0)) i 0 ≡ getD cache i 0) a
+      (getD-withLine-in memory 0 (lineOf cache 0) k (line-in memory 0 zm (omega arith)) n h ∙ getD-lineOf cache 0 k h)
+
+  -- Another line's leaves it.
+  pub word-back-other : (i k : ℕ) → 0 < i → i ≤ l → k < 8 → getD (withLine memory i (lineOf cache i)) k 0 ≡ getD memory k 0
+  word-back-other i k p h b = header-withLine memory i (lineOf cache i) k (line-in memory i zm h) p b
+
+  -- The epoch in memory after a write-back.
+  pub epoch-back-header : epochOf (withLine memory 0 (lineOf cache 0)) ≡ epochOf cache
+  epoch-back-header = word-back-header 0 (omega arith)
+
+  pub epoch-back-other : (i : ℕ) → 0 < i → i ≤ l → epochOf (withLine memory i (lineOf cache i)) ≡ epochOf memory
+  epoch-back-other i p h = word-back-other i 0 p h (omega arith)
+
+  -- Memory's header is good after a write-back of any line, where both headers were.
+  pub header-back : (i : ℕ) → i ≤ l → Header l memory → Header l cache → Header l (withLine memory i (lineOf cache i))
+  header-back i h hm hc =
+      elim (ℕ-discrete 0 i) [
+        | yes e ↦ subst (λ (j : ℕ). Header l (withLine memory j (lineOf cache j))) e (header-same cache (withLine memory 0 (lineOf cache 0)) word-back-header hc)
+        | no o ↦ header-same memory (withLine memory i (lineOf cache i)) (λ k b. word-back-other i k (omega arith) h b) hm
+      ]
+
+  -- Words 6 and 7 after a write-back.
+  pub spare-back : (i : ℕ) → i ≤ l → Spare l memory → Spare l cache → Spare l (withLine memory i (lineOf cache i))
+  spare-back i h sm sc j k a b c d =
+      let n = length-lineOf cache i (line-in cache i zc h) in
+      elim (ℕ-discrete i j) [
+        | yes e ↦ subst (λ (q : ℕ). getD (withLine memory i (lineOf cache i)) (lineStart q + k) 0 ≡ 0) e
+            (getD-withLine-in memory i (lineOf cache i) k (line-in memory i zm h) n d ∙ getD-lineOf cache i k d ∙ sc i k (omega arith) h c d)
+        | no o ↦ getD-withLine-out memory i (lineOf cache i) (lineStart j + k) (line-in memory i zm h) n (λ e. o (omega arith)) ∙ sm j k a b c d
+      ]
+
+-- A cell's store leaves words 6 and 7.
+pub spare-store : {l : ℕ} (row : List ℕ) (c : ℕ) (f : Field) (v : ℕ) → Spare l row → Spare l (withField row c f v)
+spare-store row c f v s i k a b p q = spare-withField row c f v i k p q ∙ s i k a b p q
+
+-- ---- the epoch's store
+
+-- The epoch's store in a row.
+pub epoch-set : {l : ℕ} (row : List ℕ) (e : ℕ) → Sized l row → epochOf (set row 0 e) ≡ e
+epoch-set row e z = getD-set-same row 0 e 0 (omega (arith, z .size))
+
+pub sized-set : {l : ℕ} (row : List ℕ) (e : ℕ) → Sized l row → Sized l (set row 0 e)
+sized-set row e z = record { size = length-set row 0 e ∙ z .size }
+
+pub header-set : {l : ℕ} (row : List ℕ) (e : ℕ) → Sized l row → 0 < e → Header l row → Header l (set row 0 e)
+header-set row e z p h =
+    header-epoch row (set row 0 e) (λ k a b. getD-set-other row 0 k e 0 (λ q. omega arith)) (subst (λ (n : ℕ). 0 < n) (sym (epoch-set row e z)) p) h
+
+pub spare-set : {l : ℕ} (row : List ℕ) (e : ℕ) → Spare l row → Spare l (set row 0 e)
+spare-set row e s i k a b p q = getD-set-other row 0 (lineStart i + k) e 0 (λ n. omega arith) ∙ s i k a b p q
