@@ -2,6 +2,8 @@
 use Prim.Native.Nat.{ℕ}
 use mathlib.Core.Bool.{Bool, true, false, cond}
 use lib.Dec.{eqb}
+use mathlib.Core.List.{List}
+use Rattle.board.specs.declared.State.{State}
 use Rattle.board.specs.declared.Call.{Call}
 use Rattle.board.specs.declared.Call.the-variants.{FormatStart, RecoveryStart, Step, Update, RestartPoint, Advance, Request, WriteBack, Read}
 use Rattle.line.specs.declared.Field.{Field}
@@ -46,3 +48,34 @@ abbrev pub isStep : Kind → Bool
 isStep start = false
 isStep stepping = true
 isStep other = false
+
+-- ---- what a contract says
+
+-- The board that a call is lent: the state record by value and the contents of the three rows.
+abbrev pub lent : State → List ℕ → List ℕ → List ℕ → Board
+lent state memory cache entries = record { state = state; memory = memory; cache = cache; entries = entries }
+
+-- "its complete outcome: number, state and each lent word".
+pub record Outcome : Type 0 where
+  pub number : ℕ
+  pub board : Board
+
+-- The outcome that a call must have, taken or refused.
+abbrev pub outcome : Call → Board → Outcome
+outcome k b = record { number = cause k b; board = next k b }
+
+-- The outcome that a call had: the number and the state that it gave back, and the rows as it left them.
+abbrev pub left : ℕ → State → List ℕ → List ℕ → List ℕ → Outcome
+left number state memory cache entries = record { number = number; board = lent state memory cache entries }
+
+-- The value that a call gives back: what a read read, 0 for every other call.
+unfoldable pub valueOf : Call → Board → ℕ
+valueOf (FormatStart l w) b = 0
+valueOf RecoveryStart b = 0
+valueOf Step b = 0
+valueOf (Update w c v) b = 0
+valueOf (RestartPoint w v) b = 0
+valueOf (Advance w) b = 0
+valueOf Request b = 0
+valueOf (WriteBack l) b = 0
+valueOf (Read c) b = valueRead c b

@@ -1,0 +1,54 @@
+//! The calls of 01 and how one is performed.
+
+use crate::board::{Board, Rows, State};
+use crate::causes::cause;
+use crate::effects::take;
+use crate::mistake::Mistake;
+
+/// One call with its arguments, each the number it is.
+#[derive(Clone, Copy, PartialEq, Eq, Debug)]
+pub enum Call {
+    Format { lines: u64, workers: u64 },
+    Recovery,
+    Step,
+    Update { worker: u64, cell: u64, value: u64 },
+    RestartPoint { worker: u64, value: u64 },
+    Advance { worker: u64 },
+    Request,
+    WriteBack { line: u64 },
+    Read { cell: u64 },
+}
+
+impl Call {
+    /// "the next taken call is a start of format or recovery"
+    pub fn is_start(&self) -> bool {
+        matches!(self, Call::Format { .. } | Call::Recovery)
+    }
+}
+
+/// "A taken call returns 0", a refused one its cause; a read gives a value too.
+#[derive(Clone, Copy, PartialEq, Eq, Debug)]
+pub struct Answer {
+    pub number: u8,
+    pub value: u64,
+}
+
+/// Perform a call: refused with its cause and all left as it was, or taken.
+pub fn perform(call: &Call, state: &mut State, rows: &mut Rows, mistake: Option<Mistake>) -> Answer {
+    let number = cause(call, state, &rows.lent(), mistake);
+    let value = if number == 0 { take(call, state, rows, mistake) } else { 0 };
+    Answer { number, value }
+}
+
+impl Board {
+    /// Perform a call on this board.
+    pub fn perform(&mut self, call: &Call) -> Answer {
+        let mut rows = Rows { memory: &mut self.memory, cache: &mut self.cache, list: &mut self.list };
+        perform(call, &mut self.state, &mut rows, self.mistake)
+    }
+
+    /// The answer this board would give, nothing being done.
+    pub fn cause(&self, call: &Call) -> u8 {
+        cause(call, &self.state, &self.lent(), self.mistake)
+    }
+}

@@ -1,0 +1,246 @@
+//! Why a call is turned down: the table of 01, tested in rising order of number.
+
+use crate::board::{Condition, Lent, Phase, State, Store};
+use crate::call::Call;
+use crate::effects::{act_at, Act};
+use crate::line::{cells, row_words, sizes_allowed, LINE_WORDS};
+use crate::mistake::Mistake;
+
+/// The number of the first cause that holds, 0 for a call that is taken.
+pub fn cause(call: &Call, state: &State, rows: &Lent, mistake: Option<Mistake>) -> u8 {
+    if mistake == Some(Mistake::RefuseAll) {
+        return 2;
+    }
+    match *call {
+        Call::Format { lines, workers } => format_cause(lines, workers, rows),
+        Call::Recovery => recovery_cause(rows),
+        Call::Step => step_cause(state, rows, mistake),
+        Call::Update { worker, cell, .. } => update_cause(worker, cell, state, rows, mistake),
+        Call::RestartPoint { worker, .. } => restart_point_cause(worker, state, rows, mistake),
+        Call::Advance { worker } => advance_cause(worker, state, rows),
+        Call::Request => request_cause(state, rows),
+        Call::WriteBack { line } => write_back_cause(line, state, rows),
+        Call::Read { cell } => read_cause(cell, state, rows),
+    }
+}
+
+/// Format's start: cause 1, then 4 by its own L.
+fn format_cause(lines: u64, workers: u64, rows: &Lent) -> u8 {
+    if !sizes_allowed(lines, workers) {
+        return 1;
+    }
+    if !rows_fit(lines, rows) {
+        return 4;
+    }
+    0
+}
+
+/// Recovery's start: causes 4 and 5.
+fn recovery_cause(rows: &Lent) -> u8 {
+    let words = rows.memory.len();
+    if !words.is_multiple_of(LINE_WORDS) || !(16..=4096).contains(&words) {
+        return 4;
+    }
+    if rows.cache.len() != words || rows.list.len() < words / 4 - 2 {
+        return 4;
+    }
+    let header = &rows.memory[..LINE_WORDS];
+    let lines = (words / LINE_WORDS - 1) as u64;
+    if header[0] == 0 || header[1] != lines || !sizes_allowed(lines, header[2]) {
+        return 5;
+    }
+    if header[3..] != [0; 5] {
+        return 5;
+    }
+    0
+}
+
+/// A step of a format, a recovery or a checkpoint.
+fn step_cause(state: &State, rows: &Lent, mistake: Option<Mistake>) -> u8 {
+    if state.phase == Phase::Off {
+        return 2;
+    }
+    let common = record_and_rows_cause(state, rows);
+    if common != 0 || state.phase != Phase::Running {
+        return common;
+    }
+    if state.requested && !entry_used_fits(state, rows, mistake) {
+        return 4;
+    }
+    let released = mistake == Some(Mistake::EarlyRelease) && state.place == state.list_length + 2;
+    let waiting = state.active_workers().iter().all(|w| *w == Condition::Waiting);
+    if !state.requested || !(waiting || released) {
+        return 10;
+    }
+    if state.place == state.list_length && rows.cache[0] == u64::MAX {
+        return 11;
+    }
+    0
+}
+
+/// "a list entry that this step uses is 2L or more", turned round
+fn entry_used_fits(state: &State, rows: &Lent, mistake: Option<Mistake>) -> bool {
+    match act_at(state.place, state.list_length, mistake) {
+        Act::WriteListed(entry) => (rows.list[entry as usize] as u64) < cells(state.lines as u64),
+        _ => true,
+    }
+}
+
+/// The start of an update.
+fn update_cause(worker: u64, cell: u64, state: &State, rows: &Lent, mistake: Option<Mistake>) -> u8 {
+    let common = running_cause(state, rows);
+    if common != 0 {
+        return common;
+    }
+    if worker >= state.workers as u64 {
+        return 6;
+    }
+    if cell < state.workers as u64 || cell >= cells(state.lines as u64) {
+        return 7;
+    }
+    begin_cause(worker as usize, cell, state, mistake)
+}
+
+/// The start of a restart point, on the worker's own restart cell.
+fn restart_point_cause(worker: u64, state: &State, rows: &Lent, mistake: Option<Mistake>) -> u8 {
+    let common = running_cause(state, rows);
+    if common != 0 {
+        return common;
+    }
+    if worker >= state.workers as u64 {
+        return 6;
+    }
+    begin_cause(worker as usize, worker, state, mistake)
+}
+
+/// "a worker not free" is 8; "another worker under W has an unfinished update of the same cell" is 9.
+fn begin_cause(worker: usize, cell: u64, state: &State, mistake: Option<Mistake>) -> u8 {
+    if state.worker[worker] != Condition::Free {
+        return 8;
+    }
+    for (other, condition) in state.active_workers().iter().enumerate() {
+        let same = matches!(condition, Condition::Updating(update) if update.cell as u64 == cell);
+        if same && other != worker && mistake != Some(Mistake::NoCause9) {
+            return 9;
+        }
+    }
+    0
+}
+
+/// An advance; "must add a cell and the length is 2L" is cause 3.
+fn advance_cause(worker: u64, state: &State, rows: &Lent) -> u8 {
+    if state.phase != Phase::Running {
+        return 2;
+    }
+    if !record_sound(state) {
+        return 3;
+    }
+    let full = state.list_length as u64 == cells(state.lines as u64);
+    let known = worker < state.workers as u64;
+    let adds =
+        known && matches!(state.worker[worker as usize], Condition::Updating(update) if update.next == Store::Mark);
+    if adds && full {
+        return 3;
+    }
+    if !rows_fit(state.lines as u64, rows) {
+        return 4;
+    }
+    if !known {
+        return 6;
+    }
+    if !matches!(state.worker[worker as usize], Condition::Updating(_)) {
+        return 8;
+    }
+    0
+}
+
+/// The request for a checkpoint.
+fn request_cause(state: &State, rows: &Lent) -> u8 {
+    let common = running_cause(state, rows);
+    if common != 0 {
+        return common;
+    }
+    if state.requested {
+        return 10;
+    }
+    if rows.cache[0] == u64::MAX {
+        return 11;
+    }
+    0
+}
+
+/// "Write-back needs recovering or running"; "line over L" is 7.
+fn write_back_cause(line: u64, state: &State, rows: &Lent) -> u8 {
+    if state.phase != Phase::Recovering && state.phase != Phase::Running {
+        return 2;
+    }
+    let common = record_and_rows_cause(state, rows);
+    if common != 0 {
+        return common;
+    }
+    if line > state.lines as u64 {
+        return 7;
+    }
+    0
+}
+
+/// "read of 2L or more" is 7.
+fn read_cause(cell: u64, state: &State, rows: &Lent) -> u8 {
+    let common = running_cause(state, rows);
+    if common != 0 {
+        return common;
+    }
+    if cell >= cells(state.lines as u64) {
+        return 7;
+    }
+    0
+}
+
+/// Causes 2, 3 and 4 of a call that needs running.
+fn running_cause(state: &State, rows: &Lent) -> u8 {
+    if state.phase != Phase::Running {
+        return 2;
+    }
+    record_and_rows_cause(state, rows)
+}
+
+/// Causes 3 and 4 as they stand for every call but the starts.
+fn record_and_rows_cause(state: &State, rows: &Lent) -> u8 {
+    if !record_sound(state) {
+        return 3;
+    }
+    if !rows_fit(state.lines as u64, rows) {
+        return 4;
+    }
+    0
+}
+
+/// Cause 3 without the part about an advance.
+fn record_sound(state: &State) -> bool {
+    let lines = state.lines as u64;
+    if !sizes_allowed(lines, state.workers as u64) {
+        return false;
+    }
+    let (length, place) = (state.list_length as u64, state.place as u64);
+    if length > cells(lines) {
+        return false;
+    }
+    let placed = match state.phase {
+        Phase::Off => true,
+        Phase::Formatting => place <= lines + 1,
+        Phase::Recovering => place < cells(lines),
+        Phase::Running => !state.requested || place <= length + 2,
+    };
+    placed
+        && state.active_workers().iter().all(|condition| match condition {
+            Condition::Updating(update) => (update.cell as u64) < cells(lines),
+            _ => true,
+        })
+}
+
+/// "cache or memory not 8×(L+1) words, list under 2L"
+fn rows_fit(lines: u64, rows: &Lent) -> bool {
+    rows.memory.len() as u64 == row_words(lines)
+        && rows.cache.len() as u64 == row_words(lines)
+        && rows.list.len() as u64 >= cells(lines)
+}

@@ -1,0 +1,233 @@
+//! What a taken call does, sentence by sentence of 01's "Steps".
+
+use crate::board::{Condition, Phase, Rows, State, Store, UndoStep, Update};
+use crate::call::Call;
+use crate::line::{backup_at, cells, header, line_of, line_words, mark_at, record_at, LINE_WORDS, MOST_WORKERS};
+use crate::mistake::Mistake;
+
+/// Take a call that no cause turns down; gives the value read, 0 for all but a read.
+pub fn take(call: &Call, state: &mut State, rows: &mut Rows, mistake: Option<Mistake>) -> u64 {
+    match *call {
+        Call::Format { lines, workers } => {
+            *state = State::started(Phase::Formatting, lines as u16, workers as u8);
+        }
+        Call::Recovery => start_recovery(state, rows, mistake),
+        Call::Step => match state.phase {
+            Phase::Off => {}
+            Phase::Formatting => format_step(state, rows, mistake),
+            Phase::Recovering => recovery_step(state, rows, mistake),
+            Phase::Running => checkpoint_step(state, rows, mistake),
+        },
+        Call::Update { worker, cell, value } => begin(worker, cell, value, state, rows, mistake),
+        Call::RestartPoint { worker, value } => begin(worker, worker, value, state, rows, mistake),
+        Call::Advance { worker } => advance(worker as usize, state, rows, mistake),
+        Call::Request => {
+            state.requested = true;
+            state.reset_place();
+        }
+        Call::WriteBack { line } => write_back(line as usize, rows, mistake),
+        Call::Read { cell } => return rows.cache[record_at(cell as usize)],
+    }
+    0
+}
+
+/// "A write-back copies a whole line from cache to memory."
+fn write_back(line: usize, rows: &mut Rows, mistake: Option<Mistake>) {
+    if mistake != Some(Mistake::WriteBackNothing) {
+        rows.memory[line_words(line)].copy_from_slice(&rows.cache[line_words(line)]);
+    }
+}
+
+/// "Then L+2 steps: memory and cache line 0 become zeros; ..."
+fn format_step(state: &mut State, rows: &mut Rows, mistake: Option<Mistake>) {
+    let (place, lines) = (state.place, state.lines);
+    if mistake == Some(Mistake::FormatAtOnce) {
+        if place == 0 {
+            (0..=lines + 1).for_each(|each| format_line(each, state, rows));
+        }
+    } else {
+        format_line(place, state, rows);
+    }
+    if place <= lines {
+        state.place += 1;
+    } else {
+        state.list_length = 0;
+        run(state);
+    }
+}
+
+/// The line that a format's step at this place writes, in memory and cache alike.
+fn format_line(place: u16, state: &State, rows: &mut Rows) {
+    let (line, words) = if place <= state.lines {
+        (place as usize, [0; LINE_WORDS])
+    } else {
+        (0, header(1, state.lines as u64, state.workers as u64))
+    };
+    rows.memory[line_words(line)].copy_from_slice(&words);
+    rows.cache[line_words(line)].copy_from_slice(&words);
+}
+
+/// The end of a format or a recovery: running, all free, the place 0.
+fn run(state: &mut State) {
+    state.phase = Phase::Running;
+    state.worker = [Condition::Free; MOST_WORKERS];
+    state.reset_place();
+}
+
+/// "The start copies memory to cache, list empty."
+fn start_recovery(state: &mut State, rows: &mut Rows, mistake: Option<Mistake>) {
+    rows.cache.copy_from_slice(rows.memory);
+    if mistake == Some(Mistake::RecoveryZeros) {
+        (0..cells(rows.memory[1]) as usize).for_each(|cell| rows.cache[record_at(cell)..mark_at(cell)].fill(0));
+    }
+    *state = State::started(Phase::Recovering, rows.memory[1] as u16, rows.memory[2] as u8);
+}
+
+/// "a cell whose mark equals the epoch takes three steps ..., any other ... one step that stores nothing"
+fn recovery_step(state: &mut State, rows: &mut Rows, mistake: Option<Mistake>) {
+    if mistake == Some(Mistake::RecoveryAtOnce) && state.place == 0 {
+        (0..cells(state.lines as u64) as usize).for_each(|cell| undo_at_once(cell, rows));
+    }
+    let cell = state.place as usize;
+    match state.undo {
+        UndoStep::Record if rows.cache[mark_at(cell)] != rows.cache[0] => pass_cell(state),
+        UndoStep::Record => {
+            undo_store(cell, mistake == Some(Mistake::RecoveryMarkFirst), rows, mistake);
+            state.undo = UndoStep::Mark;
+        }
+        UndoStep::Mark => {
+            undo_store(cell, mistake != Some(Mistake::RecoveryMarkFirst), rows, mistake);
+            state.undo = UndoStep::WriteBack;
+        }
+        UndoStep::WriteBack => {
+            if mistake != Some(Mistake::RecoveryCacheOnly) {
+                write_back(line_of(cell), rows, mistake);
+            }
+            pass_cell(state);
+        }
+    }
+}
+
+/// "record := backup; mark := 0": one of the two.
+fn undo_store(cell: usize, of_mark: bool, rows: &mut Rows, mistake: Option<Mistake>) {
+    if !of_mark {
+        rows.cache[record_at(cell)] = rows.cache[backup_at(cell)];
+    } else if mistake != Some(Mistake::RecoveryKeepsMarks) {
+        rows.cache[mark_at(cell)] = 0;
+    }
+}
+
+/// The mistaken recovery that does all of a cell's steps in one.
+fn undo_at_once(cell: usize, rows: &mut Rows) {
+    if rows.cache[mark_at(cell)] == rows.cache[0] {
+        undo_store(cell, false, rows, None);
+        undo_store(cell, true, rows, None);
+        write_back(line_of(cell), rows, None);
+    }
+}
+
+/// "cells from 0 up ... After the last cell: running in the same epoch, all free."
+fn pass_cell(state: &mut State) {
+    state.undo = UndoStep::Record;
+    state.place += 1;
+    if state.place as u64 == cells(state.lines as u64) {
+        run(state);
+    }
+}
+
+/// The start of an update or restart point: one advance if the mark equals the cache's epoch, else three.
+fn begin(worker: u64, cell: u64, value: u64, state: &mut State, rows: &mut Rows, mistake: Option<Mistake>) {
+    let first = if mistake == Some(Mistake::MarkFirst) { Store::Mark } else { Store::Backup };
+    let logged = rows.cache[mark_at(cell as usize)] == rows.cache[0];
+    let next = if logged { Store::Record } else { first };
+    state.worker[worker as usize] = Condition::Updating(Update { cell: cell as u16, value, next });
+}
+
+/// "backup := record; mark := epoch, and the cell is added to the list; record := value"
+fn advance(worker: usize, state: &mut State, rows: &mut Rows, mistake: Option<Mistake>) {
+    let Condition::Updating(update) = state.worker[worker] else {
+        return;
+    };
+    let cell = update.cell as usize;
+    let mark_first = mistake == Some(Mistake::MarkFirst);
+    let next = match update.next {
+        Store::Backup => {
+            rows.cache[backup_at(cell)] = rows.cache[record_at(cell)];
+            Some(if mark_first { Store::Record } else { Store::Mark })
+        }
+        Store::Mark => {
+            rows.cache[mark_at(cell)] = rows.cache[0];
+            add_to_list(update.cell, state, rows, mistake);
+            Some(if mark_first { Store::Backup } else { Store::Record })
+        }
+        Store::Record => {
+            rows.cache[record_at(cell)] = update.value;
+            None
+        }
+    };
+    state.worker[worker] = match next {
+        Some(next) => Condition::Updating(Update { next, ..update }),
+        None if state.requested && update.cell < state.workers as u16 => Condition::Waiting,
+        None => Condition::Free,
+    };
+}
+
+/// "the cell is added to the list"
+fn add_to_list(cell: u16, state: &mut State, rows: &mut Rows, mistake: Option<Mistake>) {
+    if mistake != Some(Mistake::Unlisted) {
+        rows.list[state.list_length as usize] = cell;
+        state.list_length += 1;
+    }
+}
+
+/// What a checkpoint does at one place.
+pub enum Act {
+    WriteListed(u16),
+    StoreEpoch,
+    WriteHeader,
+    Release,
+    FreeWorkers,
+    WriteHeaderAndEnd,
+}
+
+/// "one step for each list entry in list order ...; epoch ...; line 0 ...; release": which comes at this place.
+pub fn act_at(place: u16, length: u16, mistake: Option<Mistake>) -> Act {
+    match mistake {
+        Some(Mistake::CompleteEarly) if place == 0 => Act::StoreEpoch,
+        Some(Mistake::CompleteEarly) if place == 1 => Act::WriteHeader,
+        Some(Mistake::CompleteEarly) if place < length + 2 => Act::WriteListed(place - 2),
+        Some(Mistake::EarlyRelease) if place == length + 1 => Act::FreeWorkers,
+        Some(Mistake::EarlyRelease) if place > length + 1 => Act::WriteHeaderAndEnd,
+        _ if place < length => Act::WriteListed(place),
+        _ if place == length => Act::StoreEpoch,
+        _ if place == length + 1 => Act::WriteHeader,
+        _ => Act::Release,
+    }
+}
+
+/// One step of a requested checkpoint, all workers waiting.
+fn checkpoint_step(state: &mut State, rows: &mut Rows, mistake: Option<Mistake>) {
+    let act = act_at(state.place, state.list_length, mistake);
+    state.place += 1;
+    match act {
+        Act::WriteListed(entry) => write_back(line_of(rows.list[entry as usize] as usize), rows, mistake),
+        Act::StoreEpoch => rows.cache[0] = rows.cache[0].wrapping_add(1),
+        Act::WriteHeader => write_back(0, rows, mistake),
+        Act::FreeWorkers => state.worker = [Condition::Free; MOST_WORKERS],
+        Act::WriteHeaderAndEnd => {
+            write_back(0, rows, mistake);
+            end_checkpoint(state);
+        }
+        Act::Release => {
+            state.worker = [Condition::Free; MOST_WORKERS];
+            end_checkpoint(state);
+        }
+    }
+}
+
+/// "list empty, request gone", and the place 0.
+fn end_checkpoint(state: &mut State) {
+    state.list_length = 0;
+    state.requested = false;
+    state.reset_place();
+}

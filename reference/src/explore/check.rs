@@ -1,0 +1,84 @@
+//! The checks by name, and what it means that one failed.
+
+/// What `explore` checks.
+#[derive(Clone, Copy, PartialEq, Eq, Debug)]
+pub enum Check {
+    /// Demand 1: the table of causes, and that a refused call leaves all as it was.
+    Causes,
+    /// The complete outcome of a taken call: state record and each lent word.
+    Outcome,
+    /// Statement 1: a taken read gives the machine's current value.
+    Reads,
+    /// Statement 2: after a finished recovery each cell reads as checkpointed at its start.
+    Recovery,
+    /// Statement 3: complete in the machine is the new epoch in memory.
+    Completion,
+    /// Statement 4: two boards read alike exactly where their checkpointed values are equal.
+    TwoBoards,
+    /// Statement 5: steps that are owed are taken, and as many as foretold.
+    Progress,
+    /// Statement 6: one store or one write-back a call; words 6 and 7 stay 0.
+    Stores,
+    /// The invariant of the design page.
+    Invariant,
+}
+
+/// Every check with its name.
+pub const CHECKS: [(&str, Check); 9] = [
+    ("causes", Check::Causes),
+    ("outcome", Check::Outcome),
+    ("reads", Check::Reads),
+    ("recovery", Check::Recovery),
+    ("completion", Check::Completion),
+    ("two-boards", Check::TwoBoards),
+    ("progress", Check::Progress),
+    ("stores", Check::Stores),
+    ("invariant", Check::Invariant),
+];
+
+impl Check {
+    /// The check of that name.
+    pub fn named(name: &str) -> Option<Check> {
+        CHECKS.iter().find(|(known, _)| *known == name).map(|(_, check)| *check)
+    }
+
+    /// The name of this check.
+    pub fn name(self) -> &'static str {
+        CHECKS.iter().find(|(_, check)| *check == self).map_or("", |(name, _)| name)
+    }
+}
+
+/// A check that failed, and how.
+#[derive(Clone, PartialEq, Eq, Debug)]
+pub struct Violation {
+    pub check: Check,
+    pub text: String,
+}
+
+/// The text of what went wrong, if anything did.
+pub type Finding = Result<(), String>;
+
+/// A finding from a test.
+pub fn ensure(holds: bool, text: impl FnOnce() -> String) -> Finding {
+    if holds {
+        Ok(())
+    } else {
+        Err(text())
+    }
+}
+
+/// Which checks are made: all, or one alone.
+#[derive(Clone, Copy, Debug)]
+pub struct Checks {
+    pub only: Option<Check>,
+}
+
+impl Checks {
+    /// Make a check if it is wanted.
+    pub fn run(self, check: Check, finding: impl FnOnce() -> Finding) -> Result<(), Violation> {
+        if self.only.is_some_and(|only| only != check) {
+            return Ok(());
+        }
+        finding().map_err(|text| Violation { check, text })
+    }
+}

@@ -1,0 +1,172 @@
+//! What a cut may leave, and boards that no lawful sequence leads to.
+
+use crate::board::{Board, Condition, Phase, State, Store, UndoStep, Update};
+use crate::call::Call;
+use crate::line::{header, LINE_WORDS};
+use crate::random::Random;
+use crate::work::some_workers;
+
+/// A word of any kind: small ones and the largest more often than others.
+pub fn word(random: &Random) -> u64 {
+    match random.below(8) {
+        0 => u64::MAX - random.below(3),
+        1 | 2 => random.word(),
+        _ => random.below(5),
+    }
+}
+
+/// A number just about a limit, seldom any other.
+fn about(random: &Random, limit: u64) -> u64 {
+    match random.below(8) {
+        0 => random.word(),
+        1..=4 => random.below(limit + 2),
+        _ => (limit + random.below(3)).saturating_sub(1),
+    }
+}
+
+/// "A cut may leave any words in cache and list and any state record"
+pub fn cut(random: &Random, board: &mut Board) {
+    match random.below(4) {
+        0 => board.cache.fill(0),
+        1 => board.cache.copy_from_slice(&board.memory),
+        2 => {}
+        _ => board.cache.iter_mut().for_each(|cell| *cell = word(random)),
+    }
+    if random.chance(1, 2) {
+        board.list.iter_mut().for_each(|entry| *entry = random.word() as u16);
+    }
+    match random.below(4) {
+        0 => {}
+        1 => board.state.phase = Phase::Off,
+        2 => board.state = state(random, board.state.lines as u64, board.state.workers as u64),
+        _ => spoil_state(random, &mut board.state),
+    }
+}
+
+/// Some state record of a board of this size, each field within its limits.
+fn state(random: &Random, lines: u64, workers: u64) -> State {
+    let cells = (2 * lines).max(1);
+    let phase = random.pick(&[
+        Phase::Off,
+        Phase::Formatting,
+        Phase::Recovering,
+        Phase::Running,
+        Phase::Running,
+        Phase::Running,
+    ]);
+    let mut state = State::started(phase, lines as u16, workers as u8);
+    state.list_length = random.pick(&[0, random.below(cells + 1), cells]) as u16;
+    state.requested = random.chance(1, 2);
+    state.undo = random.pick(&[UndoStep::Record, UndoStep::Mark, UndoStep::WriteBack]);
+    state.place = match phase {
+        Phase::Formatting => random.below(lines + 2),
+        Phase::Recovering => random.below(cells),
+        _ => random.pick(&[random.below(state.list_length as u64 + 3), state.list_length as u64]),
+    } as u16;
+    let waiting = random.chance(1, 3);
+    for slot in &mut state.worker {
+        *slot = if waiting { Condition::Waiting } else { condition(random, cells) };
+    }
+    state
+}
+
+/// Some condition of a worker.
+fn condition(random: &Random, cells: u64) -> Condition {
+    match random.below(4) {
+        0 => Condition::Waiting,
+        1 => Condition::Free,
+        _ => Condition::Updating(Update {
+            cell: random.below(cells) as u16,
+            value: word(random),
+            next: random.pick(&[Store::Backup, Store::Mark, Store::Record]),
+        }),
+    }
+}
+
+/// Put one field of a state record at or past its limit.
+fn spoil_state(random: &Random, state: &mut State) {
+    let cells = 2 * state.lines as u64;
+    match random.below(6) {
+        0 => state.lines = random.pick(&[0, 511, 512, random.word() as u16]),
+        1 => state.workers = random.pick(&[0, 8, 9, cells as u8, random.word() as u8]),
+        2 => state.list_length = about(random, cells) as u16,
+        3 => state.place = random.pick(&[about(random, state.list_length as u64 + 2), about(random, cells)]) as u16,
+        4 => state.phase = random.pick(&[Phase::Off, Phase::Formatting, Phase::Recovering, Phase::Running]),
+        _ => {
+            let cell = about(random, cells) as u16;
+            let next = random.pick(&[Store::Backup, Store::Mark, Store::Record]);
+            state.worker[random.below(8) as usize] = Condition::Updating(Update { cell, value: 1, next });
+        }
+    }
+}
+
+/// A board made up for one call: mostly sound, often with something spoiled.
+pub fn board(random: &Random, board: &mut Board) {
+    let lines = random.pick(&[1, 1, 2, 2, 3, 4, 5, if random.chance(1, 50) { 511 } else { 6 }]);
+    let workers = some_workers(random, lines);
+    board.resize(lines);
+    board.state = state(random, lines, workers);
+    for word_of_row in board.memory.iter_mut().chain(&mut board.cache) {
+        *word_of_row = random.below(4);
+    }
+    board.list.iter_mut().for_each(|entry| *entry = random.below(2 * lines) as u16);
+    let epoch = random.pick(&[1, 2, u64::MAX - 1, u64::MAX]);
+    board.memory[..LINE_WORDS].copy_from_slice(&header(epoch, lines, workers));
+    board.cache[..LINE_WORDS].copy_from_slice(&header(epoch, lines, workers));
+    for _ in 0..random.pick(&[0, 0, 1, 2]) {
+        match random.below(3) {
+            0 => spoil_state(random, &mut board.state),
+            1 => spoil_rows(random, board),
+            _ => spoil_words(random, board),
+        }
+    }
+}
+
+/// Make one row too long or too short.
+fn spoil_rows(random: &Random, board: &mut Board) {
+    let change = random.pick(&[0, 1, 7, 8, 9, 15, 16, 17, 24]);
+    let words = board.memory.len();
+    match random.below(5) {
+        0 => board.memory.resize(words + change, 0),
+        1 => board.memory.truncate(words.saturating_sub(change)),
+        2 => board.cache.resize(change + words, 0),
+        3 => board.list.resize((board.list.len() + 1).saturating_sub(random.below(4) as usize), 0),
+        _ => {
+            let words = random.pick(&[0, 8, 15, 16, 24, 4096, 4104]);
+            board.memory.resize(words, 0);
+            board.cache.resize(words, 0);
+            board.list.resize(words / 4, 0);
+        }
+    }
+}
+
+/// Spoil a word of the header, or an entry of the list.
+fn spoil_words(random: &Random, board: &mut Board) {
+    if random.chance(1, 3) {
+        let limit = 2 * board.state.lines as u64;
+        let entry = random.below(board.list.len() as u64 + 1) as usize;
+        board.list.iter_mut().skip(entry).take(2).for_each(|entry| *entry = about(random, limit) as u16);
+    } else if let Some(first) = board.memory.get_mut(..LINE_WORDS) {
+        first[random.below(8) as usize] = random.pick(&[0, 1, 2, 8, 9, random.word()]);
+    }
+}
+
+/// Any call, its arguments about their limits.
+pub fn call(random: &Random, state: &State) -> Call {
+    let (lines, workers) = (state.lines as u64, state.workers as u64);
+    let worker = about(random, workers);
+    match random.below(9) {
+        0 => Call::Format {
+            lines: random.pick(&[lines, lines, about(random, lines), about(random, 511)]),
+            workers: about(random, 8),
+        },
+        1 => Call::Recovery,
+        2 => Call::Step,
+        3 => Call::Update { worker, cell: about(random, 2 * lines), value: word(random) },
+        4 => Call::RestartPoint { worker, value: word(random) },
+        5 => Call::Advance { worker },
+        6 => Call::Request,
+        7 => Call::WriteBack { line: about(random, lines) },
+        _ => Call::Read { cell: about(random, 2 * lines) },
+    }
+}

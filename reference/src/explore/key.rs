@@ -1,0 +1,154 @@
+//! A watched board of one line and one worker in 64 bytes, and back.
+//! What can no longer be read is left out: the list past its length, steps that nothing counts.
+
+use super::watched::Watched;
+use crate::board::{Condition, Phase, State, Store, UndoStep, Update};
+use crate::machine::Unfinished;
+
+/// A state of board, machine and promise.
+pub type Key = [u8; 64];
+
+const PHASES: [Phase; 4] = [Phase::Off, Phase::Formatting, Phase::Recovering, Phase::Running];
+const STORES: [Store; 3] = [Store::Backup, Store::Mark, Store::Record];
+const UNDO_STEPS: [UndoStep; 3] = [UndoStep::Record, UndoStep::Mark, UndoStep::WriteBack];
+
+/// The place of an item in a list of all.
+fn code<T: PartialEq>(all: &[T], item: &T) -> u64 {
+    all.iter().position(|known| known == item).unwrap_or(0) as u64
+}
+
+/// Numbers put into a key one after another.
+struct Writer {
+    key: Key,
+    at: usize,
+}
+
+impl Writer {
+    /// The next number goes in.
+    fn put(&mut self, number: u64) {
+        assert!(number < 256, "a number of the smallest board is small");
+        self.key[self.at] = number as u8;
+        self.at += 1;
+    }
+}
+
+/// Numbers taken out of a key one after another.
+struct Reader<'a> {
+    key: &'a Key,
+    at: usize,
+}
+
+impl Reader<'_> {
+    /// The next number comes out.
+    fn get(&mut self) -> u64 {
+        self.at += 1;
+        self.key[self.at - 1] as u64
+    }
+}
+
+/// The board in bytes.
+pub fn encode(watched: &Watched) -> Key {
+    let mut out = Writer { key: [0; 64], at: 0 };
+    let board = &watched.board;
+    board.memory.iter().chain(&board.cache).for_each(|word| out.put(*word));
+    for (place, entry) in board.list.iter().enumerate() {
+        out.put(if place < board.state.list_length as usize { *entry as u64 } else { 0 });
+    }
+    encode_state(&board.state, &mut out);
+    encode_machine(watched, &mut out);
+    let promise = &watched.promise;
+    out.put(watched.cut as u64 + 2 * promise.broken_format as u64);
+    out.put(promise.format_left);
+    out.put(promise.checkpoint_left);
+    out.put(promise.recovery_left);
+    if promise.recovery_left > 0 {
+        promise.recovery_values.iter().for_each(|value| out.put(*value));
+    }
+    out.key
+}
+
+/// The state record in bytes.
+fn encode_state(state: &State, out: &mut Writer) {
+    out.put(code(&PHASES, &state.phase));
+    out.put(state.place as u64);
+    out.put(code(&UNDO_STEPS, &state.undo));
+    out.put(state.requested as u64);
+    out.put(state.list_length as u64);
+    let (tag, cell, value, next) = match state.worker[0] {
+        Condition::Free => (0, 0, 0, 0),
+        Condition::Waiting => (1, 0, 0, 0),
+        Condition::Updating(update) => (2, update.cell as u64, update.value, code(&STORES, &update.next)),
+    };
+    [tag, cell, value, next].into_iter().for_each(|number| out.put(number));
+}
+
+/// The machine in bytes.
+fn encode_machine(watched: &Watched, out: &mut Writer) {
+    let machine = &watched.machine;
+    for value in &machine.values {
+        out.put(value.current);
+        out.put(value.checkpointed);
+        out.put(value.marked as u64);
+    }
+    let update = machine.updates[0].unwrap_or(Unfinished { cell: 0, value: 0, left: 0 });
+    [update.cell, update.value, update.left as u64].into_iter().for_each(|number| out.put(number));
+    out.put(machine.requested as u64);
+    out.put(machine.formatting.unwrap_or(0));
+    let counted = machine.requested || machine.formatting.is_some();
+    out.put(if counted { machine.steps } else { 0 });
+}
+
+/// Put a state back.
+pub fn decode(key: &Key, watched: &mut Watched) {
+    let mut input = Reader { key, at: 0 };
+    let board = &mut watched.board;
+    board.memory.iter_mut().chain(&mut board.cache).for_each(|word| *word = input.get());
+    board.list.iter_mut().for_each(|entry| *entry = input.get() as u16);
+    board.state = decode_state(&mut input);
+    decode_machine(&mut input, watched);
+    let flags = input.get();
+    let promise = &mut watched.promise;
+    watched.cut = flags & 1 == 1;
+    promise.broken_format = flags & 2 == 2;
+    promise.format_left = input.get();
+    promise.checkpoint_left = input.get();
+    promise.recovery_left = input.get();
+    promise.recovery_values.clear();
+    if promise.recovery_left > 0 {
+        promise.recovery_values.extend([input.get(), input.get()]);
+    }
+}
+
+/// The state record of one line and one worker.
+fn decode_state(input: &mut Reader) -> State {
+    let phase = PHASES[input.get() as usize];
+    let mut state = State::started(phase, 1, 1);
+    state.place = input.get() as u16;
+    state.undo = UNDO_STEPS[input.get() as usize];
+    state.requested = input.get() == 1;
+    state.list_length = input.get() as u16;
+    let (tag, cell, value) = (input.get(), input.get() as u16, input.get());
+    let next = STORES[input.get() as usize];
+    state.worker[0] = match tag {
+        0 => Condition::Free,
+        1 => Condition::Waiting,
+        _ => Condition::Updating(Update { cell, value, next }),
+    };
+    state
+}
+
+/// The machine of two cells.
+fn decode_machine(input: &mut Reader, watched: &mut Watched) {
+    let machine = &mut watched.machine;
+    for value in &mut machine.values {
+        value.current = input.get();
+        value.checkpointed = input.get();
+        value.marked = input.get() == 1;
+    }
+    let update = Unfinished { cell: input.get(), value: input.get(), left: input.get() as u8 };
+    machine.updates[0] = (update.left > 0).then_some(update);
+    machine.requested = input.get() == 1;
+    let lines = input.get();
+    machine.formatting = (lines > 0).then_some(lines);
+    machine.steps = input.get();
+}

@@ -1,0 +1,82 @@
+//! Statement 6: a call does at most one store or one write-back, and format and recovery start exactly their own.
+
+use super::check::{ensure, Finding};
+use crate::board::{Board, Phase};
+use crate::call::Call;
+use crate::line::{header, line_words, LINE_WORDS};
+
+/// What a taken call did to the rows.
+pub fn rows_changed(call: &Call, before: &Board, after: &Board) -> Finding {
+    match call {
+        Call::Format { .. } => unchanged(before, after),
+        Call::Step if before.state.phase == Phase::Formatting => format_line(before, after),
+        Call::Recovery => {
+            ensure(after.memory == before.memory && after.cache == before.memory && after.list == before.list, || {
+                "a recovery's start copied something else than memory to cache".into()
+            })
+        }
+        _ => one_store(before, after).and_then(|()| list_changed(call, before, after)),
+    }?;
+    match *call {
+        Call::WriteBack { line } => {
+            let words = line_words(line as usize);
+            ensure(after.memory[words.clone()] == after.cache[words], || format!("line {line} was not written back"))
+        }
+        _ => Ok(()),
+    }
+}
+
+/// "The start changes no row."
+fn unchanged(before: &Board, after: &Board) -> Finding {
+    ensure(before.memory == after.memory && before.cache == after.cache && before.list == after.list, || {
+        "a format's start changed a row".into()
+    })
+}
+
+/// A format's step makes one line of both rows what 01 says, and nothing else.
+fn format_line(before: &Board, after: &Board) -> Finding {
+    let (place, lines) = (before.state.place, before.state.lines);
+    let last = place > lines;
+    let line = if last { 0 } else { place as usize };
+    let words = if last { header(1, lines as u64, before.state.workers as u64) } else { [0; LINE_WORDS] };
+    let (from, to) = (line_words(line).start, line_words(line).end);
+    for (old, new) in [(&before.memory, &after.memory), (&before.cache, &after.cache)] {
+        ensure(new[from..to] == words, || format!("format step {place} left line {line} wrong"))?;
+        ensure(new[..from] == old[..from] && new[to..] == old[to..], || {
+            format!("format step {place} wrote more than line {line}")
+        })?;
+    }
+    ensure(before.list == after.list, || "a format's step changed the list".into())
+}
+
+/// "at most one word of the cache or one line of memory (which then equals the cache's), never both"
+fn one_store(before: &Board, after: &Board) -> Finding {
+    let stored = before.cache.iter().zip(&after.cache).filter(|(old, new)| old != new).count();
+    let mut written = 0;
+    for line in 0..before.memory.len().div_ceil(LINE_WORDS) {
+        let words = line_words(line);
+        if before.memory[words.clone()] != after.memory[words.clone()] {
+            written += 1;
+            ensure(after.memory[words.clone()] == after.cache[words], || {
+                format!("line {line} of memory changed to other words than the cache's")
+            })?;
+        }
+    }
+    ensure(stored + written <= 1, || format!("one call changed {stored} cache words and {written} memory lines"))
+}
+
+/// The list changes only where an advance adds a cell; "Entries from the list's length on ... stay as they are."
+fn list_changed(call: &Call, before: &Board, after: &Board) -> Finding {
+    let length = before.state.list_length;
+    let added = matches!(call, Call::Advance { .. }) && after.state.list_length == length.wrapping_add(1);
+    let mut changed = before.list.iter().zip(&after.list).enumerate().filter(|(_, (old, new))| old != new);
+    ensure(changed.all(|(entry, _)| added && entry == length as usize), || "an entry of the list changed".into())
+}
+
+/// "Words 6 and 7 are never changed after format": 0 in memory, and in the cache while recovering or running.
+pub fn spare_words(board: &Board, cut: bool) -> Finding {
+    let live = !cut && matches!(board.state.phase, Phase::Recovering | Phase::Running);
+    let clear = |row: &[u64]| row.chunks(LINE_WORDS).skip(1).all(|line| line[6..] == [0, 0]);
+    ensure(clear(&board.memory), || "word 6 or 7 of a line of memory is not 0".into())?;
+    ensure(!live || clear(&board.cache), || "word 6 or 7 of a line of the cache is not 0".into())
+}

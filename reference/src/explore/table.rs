@@ -1,0 +1,196 @@
+//! The table "Why a call is turned down" a second time, as a list of causes and their numbers in no order:
+//! the answer is the smallest number whose cause holds. It shares no test with `causes`.
+
+use crate::board::{Condition, Lent, Phase, State, Store, Update};
+use crate::call::Call;
+
+/// A call on a board, as a cause looks at it.
+struct Case<'a> {
+    call: Call,
+    state: &'a State,
+    rows: Lent<'a>,
+}
+
+/// Whether a cause holds.
+type Cause = fn(&Case) -> bool;
+
+/// Every cause with its number.
+const TABLE: [(u8, Cause); 22] = [
+    (11, |case| case.rows.cache.first() == Some(&u64::MAX) && (case.call == Call::Request || case.at_epoch_store())),
+    (10, |case| case.call == Call::Request && case.state.requested),
+    (10, |case| case.running_step() && !case.state.requested),
+    (10, |case| case.running_step() && case.under_w().any(|(_, condition)| *condition != Condition::Waiting)),
+    (9, |case| {
+        case.begins().is_some_and(|(worker, cell)| case.updates().any(|(w, u)| w != worker && u.cell as u64 == cell))
+    }),
+    (8, |case| case.begins().is_some_and(|(worker, _)| case.condition(worker) != Some(Condition::Free))),
+    (8, |case| matches!(case.call, Call::Advance { worker } if !case.updates().any(|(w, _)| w == worker))),
+    (7, |case| matches!(case.call, Call::Update { cell, .. } if cell < case.w())),
+    (7, |case| matches!(case.call, Call::Update { cell, .. } | Call::Read { cell } if cell as u128 >= case.two_l())),
+    (7, |case| matches!(case.call, Call::WriteBack { line } if line > case.l())),
+    (6, |case| case.named_worker().is_some_and(|worker| worker >= case.w())),
+    (5, |case| case.call == Call::Recovery && !case.header_good()),
+    (4, |case| case.call == Call::Recovery && !case.recovery_rows_good()),
+    (4, |case| case.fitting_lines().is_some_and(|lines| !case.rows_of(lines as u128))),
+    (4, |case| case.used_entry().is_some_and(|entry| entry as u128 >= case.two_l())),
+    (3, |case| case.not_start() && !limits(case.l() as u128, case.w() as u128)),
+    (3, |case| case.not_start() && case.state.list_length as u128 > case.two_l()),
+    (3, |case| case.not_start() && case.misplaced()),
+    (3, |case| case.not_start() && case.updates().any(|(_, update)| update.cell as u128 >= case.two_l())),
+    (3, |case| case.adds_a_cell() && case.state.list_length as u128 == case.two_l()),
+    (2, |case| !case.phase_allows()),
+    (1, |case| matches!(case.call, Call::Format { lines, workers } if !limits(lines as u128, workers as u128))),
+];
+
+/// The answer that the table gives.
+pub fn answer(call: &Call, state: &State, rows: Lent) -> u8 {
+    let case = Case { call: *call, state, rows };
+    TABLE.iter().filter(|(_, holds)| holds(&case)).map(|(number, _)| *number).min().unwrap_or(0)
+}
+
+/// "L ... is 1 to 511. ... W ... is 1 to 8, and W < 2L."
+fn limits(lines: u128, workers: u128) -> bool {
+    (1..512).contains(&lines) && (1..9).contains(&workers) && workers < 2 * lines
+}
+
+impl Case<'_> {
+    /// The state record's L.
+    fn l(&self) -> u64 {
+        self.state.lines.into()
+    }
+
+    /// The state record's W.
+    fn w(&self) -> u64 {
+        self.state.workers.into()
+    }
+
+    /// 2L
+    fn two_l(&self) -> u128 {
+        self.l() as u128 * 2
+    }
+
+    /// "not for the starts"
+    fn not_start(&self) -> bool {
+        !matches!(self.call, Call::Format { .. } | Call::Recovery)
+    }
+
+    /// Each worker under W with its condition.
+    fn under_w(&self) -> impl Iterator<Item = (u64, &Condition)> {
+        (0u64..).zip(self.state.worker.iter()).filter(|(worker, _)| *worker < self.w())
+    }
+
+    /// Each unfinished update of a worker under W.
+    fn updates(&self) -> impl Iterator<Item = (u64, Update)> + '_ {
+        self.under_w().filter_map(|(worker, condition)| match condition {
+            Condition::Updating(update) => Some((worker, *update)),
+            _ => None,
+        })
+    }
+
+    /// The condition of a worker under W.
+    fn condition(&self, worker: u64) -> Option<Condition> {
+        self.under_w().find(|(known, _)| *known == worker).map(|(_, condition)| *condition)
+    }
+
+    /// The worker a call names.
+    fn named_worker(&self) -> Option<u64> {
+        match self.call {
+            Call::Update { worker, .. } | Call::RestartPoint { worker, .. } | Call::Advance { worker } => Some(worker),
+            _ => None,
+        }
+    }
+
+    /// The worker and the cell of an update's or restart point's start.
+    fn begins(&self) -> Option<(u64, u64)> {
+        match self.call {
+            Call::Update { worker, cell, .. } => Some((worker, cell)),
+            Call::RestartPoint { worker, .. } => Some((worker, worker)),
+            _ => None,
+        }
+    }
+
+    /// "Write-back needs recovering or running. The step call needs a phase other than off. All else needs running."
+    fn phase_allows(&self) -> bool {
+        let phase = self.state.phase;
+        match self.call {
+            Call::Format { .. } | Call::Recovery => true,
+            Call::WriteBack { .. } => [Phase::Recovering, Phase::Running].contains(&phase),
+            Call::Step => phase != Phase::Off,
+            _ => phase == Phase::Running,
+        }
+    }
+
+    /// "running step"
+    fn running_step(&self) -> bool {
+        self.call == Call::Step && self.state.phase == Phase::Running
+    }
+
+    /// "the epoch's store": the step at place n of a requested checkpoint.
+    fn at_epoch_store(&self) -> bool {
+        self.running_step() && self.state.requested && self.state.place == self.state.list_length
+    }
+
+    /// "a list entry that this step uses"
+    fn used_entry(&self) -> Option<u16> {
+        let used = self.running_step() && self.state.requested && self.state.place < self.state.list_length;
+        self.rows.list.get(self.state.place as usize).copied().filter(|_| used)
+    }
+
+    /// "place over L+1 in a format, a cell over 2L−1 in a recovery, over n+2 ... when running with ..."
+    fn misplaced(&self) -> bool {
+        let (place, n) = (self.state.place as u128, self.state.list_length as u128);
+        match self.state.phase {
+            Phase::Off => false,
+            Phase::Formatting => place > self.l() as u128 + 1,
+            Phase::Recovering => place + 1 > self.two_l(),
+            Phase::Running => self.state.requested && place > n + 2,
+        }
+    }
+
+    /// "an advance by a worker under W must add a cell"
+    fn adds_a_cell(&self) -> bool {
+        let Call::Advance { worker } = self.call else {
+            return false;
+        };
+        matches!(self.condition(worker), Some(Condition::Updating(Update { next: Store::Mark, .. })))
+    }
+
+    /// The L that the rows must fit: a format's own, none for recovery's start, else the state record's.
+    fn fitting_lines(&self) -> Option<u64> {
+        match self.call {
+            Call::Format { lines, .. } => Some(lines),
+            Call::Recovery => None,
+            _ => Some(self.l()),
+        }
+    }
+
+    /// "cache or memory not 8×(L+1) words, list under 2L", turned round
+    fn rows_of(&self, lines: u128) -> bool {
+        let words = 8 * (lines + 1);
+        self.rows.cache.len() as u128 == words
+            && self.rows.memory.len() as u128 == words
+            && self.rows.list.len() as u128 >= 2 * lines
+    }
+
+    /// "memory not a multiple of 8 in 16 to 4,096 words, cache of another length, list ...", turned round
+    fn recovery_rows_good(&self) -> bool {
+        let words = self.rows.memory.len();
+        (2..=512).any(|lines| 8 * lines == words)
+            && self.rows.cache.len() == words
+            && self.rows.list.len() + 2 >= words / 4
+    }
+
+    /// "epoch 0, L not (words div 8) − 1, W outside the limits, or words 3 to 7 not all zero", turned round
+    fn header_good(&self) -> bool {
+        let words = self.rows.memory.len() as u128;
+        match self.rows.memory.get(..8) {
+            Some([epoch, lines, workers, rest @ ..]) => {
+                *epoch != 0
+                    && *lines as u128 + 1 == words / 8
+                    && limits(*lines as u128, *workers as u128)
+                    && rest.iter().all(|word| *word == 0)
+            }
+            _ => false,
+        }
+    }
+}

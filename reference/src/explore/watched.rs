@@ -1,0 +1,156 @@
+//! A board beside the simple machine, every event checked.
+
+use super::check::{ensure, Check, Checks, Finding, Violation};
+use super::promise::{Finished, Promise};
+use super::{invariant, outcome, stores, table};
+use crate::board::{Board, Phase};
+use crate::call::{Answer, Call};
+use crate::line::{cells, header, LINE_WORDS};
+use crate::machine::{Machine, Value};
+
+/// What one call on a watched board gave.
+pub struct Done {
+    pub answer: Answer,
+    pub finished: Option<Finished>,
+}
+
+/// The board, the machine and what is owed.
+pub struct Watched {
+    pub board: Board,
+    pub machine: Machine,
+    pub promise: Promise,
+    /// A cut fell since the last taken start.
+    pub cut: bool,
+    pub checks: Checks,
+    before: Board,
+    values_before: Vec<Value>,
+}
+
+impl Watched {
+    /// A board as a finished format left it, and the machine where it begins; without one there is nothing to explore.
+    pub fn begin(board: Board, lines: u64, checks: Checks) -> Result<Watched, Violation> {
+        formatted(&board).map_err(|text| Violation { check: Check::Progress, text })?;
+        let machine = Machine::begin(cells(lines));
+        let values_before = machine.values.clone();
+        let before = board.clone();
+        Ok(Watched { board, machine, promise: Promise::default(), cut: false, checks, before, values_before })
+    }
+
+    /// Keep what an event is to be compared with.
+    fn remember(&mut self) {
+        self.before.copy_from(&self.board);
+        self.values_before.clone_from(&self.machine.values);
+    }
+
+    /// A call, refused or taken, on board and machine, and all that is to hold after it.
+    pub fn call(&mut self, call: &Call) -> Result<Done, Violation> {
+        self.remember();
+        let answer = self.board.perform(call);
+        answered(self.checks, call, &self.before, &self.board, answer)?;
+        if answer.number != 0 {
+            let owed = *call == Call::Step && !self.cut && self.promise.owes_step(&self.before);
+            let owed = owed || (*call == Call::Recovery && !self.promise.broken_format);
+            let finding = || ensure(!owed, || format!("{call:?} was owed and refused by {}", answer.number));
+            self.checks.run(Check::Progress, finding)?;
+            return Ok(Done { answer, finished: None });
+        }
+        self.machine.taken(call);
+        self.cut &= !call.is_start();
+        let finished = self.promise.taken(call, &self.before, &self.machine);
+        self.after_taken(call, answer, finished)?;
+        self.after_event(*call == Call::Step && self.before.state.phase == Phase::Formatting)?;
+        Ok(Done { answer, finished })
+    }
+
+    /// A cut: whatever it leaves in cache, list and state record; memory stays.
+    pub fn cut(&mut self, leave: impl FnOnce(&mut Board)) -> Result<(), Violation> {
+        self.remember();
+        leave(&mut self.board);
+        self.cut = true;
+        self.promise.drop_all();
+        self.after_event(false)
+    }
+
+    /// What holds after a taken call.
+    fn after_taken(&mut self, call: &Call, answer: Answer, finished: Option<Finished>) -> Result<(), Violation> {
+        if let Call::Read { cell } = *call {
+            let current = self.machine.values[cell as usize].current;
+            let text = || format!("cell {cell} reads {}, current is {current}", answer.value);
+            self.checks.run(Check::Reads, || ensure(answer.value == current, text))?;
+        }
+        if *call == Call::Step {
+            self.checks.run(Check::Progress, || self.promise.kept(&self.board))?;
+        }
+        if finished == Some(Finished::Recovery) {
+            self.checks.run(Check::Recovery, || self.recovered())?;
+        }
+        Ok(())
+    }
+
+    /// What holds after every event, taken calls and cuts.
+    fn after_event(&self, format_step: bool) -> Result<(), Violation> {
+        self.checks.run(Check::Stores, || stores::spare_words(&self.board, self.cut))?;
+        if !format_step {
+            self.checks.run(Check::Completion, || self.completed())?;
+        }
+        self.checks.run(Check::Progress, || self.promise.can_recover(&self.board))?;
+        self.checks.run(Check::Invariant, || invariant::check(&self.board, &self.machine, self.cut))
+    }
+
+    /// "every cell's read is taken and gives the machine's checkpointed value at that start"
+    fn recovered(&self) -> Finding {
+        let reads = self.reads();
+        let expected = &self.promise.recovery_values;
+        let differs = reads.iter().zip(expected).position(|(read, value)| *read != Some(*value));
+        let Some(cell) = differs else { return Ok(()) };
+        Err(format!("after recovery cell {cell} reads {:?}, checkpointed was {}", reads[cell], expected[cell]))
+    }
+
+    /// Every cell's read, none where it is refused.
+    pub fn reads(&self) -> Vec<Option<u64>> {
+        let mut board = self.board.clone();
+        let read = |cell: usize| board.perform(&Call::Read { cell: cell as u64 });
+        let answers = (0..self.machine.values.len()).map(read);
+        answers.map(|answer| (answer.number == 0).then_some(answer.value)).collect()
+    }
+
+    /// Statement 3: "either ... as before, or memory's epoch is one more and the checkpointed values are the current ones"
+    fn completed(&self) -> Finding {
+        let (old, new) = (self.before.memory[0], self.board.memory[0]);
+        let mut pairs = self.values_before.iter().zip(&self.machine.values);
+        let holds = if old == new {
+            pairs.all(|(before, after)| before.checkpointed == after.checkpointed)
+        } else {
+            old.checked_add(1) == Some(new)
+                && self.machine.values.iter().all(|value| value.checkpointed == value.current)
+        };
+        ensure(holds, || format!("memory's epoch went from {old} to {new}, the checkpointed values otherwise"))
+    }
+}
+
+/// What holds of one call on any board: demand 1, the complete outcome and statement 6.
+pub fn answered(checks: Checks, call: &Call, before: &Board, after: &Board, answer: Answer) -> Result<(), Violation> {
+    checks.run(Check::Causes, || {
+        let expected = table::answer(call, &before.state, before.lent());
+        ensure(answer.number == expected, || {
+            format!("{call:?} answered {}, the table says {expected}", answer.number)
+        })?;
+        let still = answer.number == 0 || (before == after && answer.value == 0);
+        ensure(still, || format!("{call:?} was refused and changed something"))
+    })?;
+    if answer.number != 0 {
+        return Ok(());
+    }
+    checks.run(Check::Stores, || stores::rows_changed(call, before, after))?;
+    checks.run(Check::Outcome, || outcome::complete(call, before, after))
+}
+
+/// "Then running, all free, list empty": the board of a finished format.
+fn formatted(board: &Board) -> Finding {
+    let (lines, workers) = (board.state.lines, board.state.workers);
+    let state = crate::board::State::started(Phase::Running, lines, workers);
+    let mut row = vec![0; board.memory.len()];
+    row[..LINE_WORDS].copy_from_slice(&header(1, lines as u64, workers as u64));
+    let holds = board.state == state && board.memory == row && board.cache == row;
+    ensure(holds, || "a format's L+2 steps left another board than a formatted one".into())
+}

@@ -1,0 +1,48 @@
+//! The right board passes, and the exploration gets everywhere.
+#![deny(warnings)]
+
+use reference::drill;
+use reference::explore::{exhaustive, explore, Options};
+use reference::script::script;
+
+#[test]
+fn random_sequences_hold() {
+    for seed in 0..4 {
+        let tally = explore(&Options { seed, calls: 300_000, mistake: None, only: None }).expect("nothing is violated");
+        assert_eq!(tally.calls, 300_000);
+        assert!(tally.answers.iter().all(|count| *count > 20), "every cause is met: {tally}");
+        assert!(
+            tally.recoveries > 1000 && tally.checkpoints > 1000 && tally.formats > 500 && tally.cuts > 1000,
+            "{tally}"
+        );
+    }
+}
+
+#[test]
+fn every_state_of_the_smallest_board_holds() {
+    let reached = exhaustive::exhaust(None, None).expect("nothing is violated");
+    assert_eq!((reached.states, reached.transitions), (73_881, 378_361));
+}
+
+/// Calls and answers that the drill gives to a script.
+fn answers(text: &[u8]) -> Vec<(String, String)> {
+    let mut output = Vec::new();
+    drill::run(text, &mut output).unwrap();
+    let lines = String::from_utf8(output).unwrap();
+    let fields = |line: &str| line.split('\t').map(String::from).collect::<Vec<_>>();
+    lines.lines().skip(1).map(fields).map(|fields| (fields[1].clone(), fields[2].clone())).collect()
+}
+
+#[test]
+fn scripts_are_the_same_for_the_same_seed_and_mostly_good() {
+    for (seed, size) in [(1, None), (2, None), (3, Some((511, 8))), (4, Some((1, 1)))] {
+        let text = script(seed, 20_000, size);
+        assert_eq!(text, script(seed, 20_000, size));
+        let answers = answers(&text);
+        assert_eq!(answers.len(), 20_000);
+        let good = answers.iter().filter(|(_, answer)| answer == "0").count();
+        let damaged = answers.iter().filter(|(_, answer)| answer == "?").count();
+        assert!(good > 14_000 && damaged > 200, "{good} good, {damaged} damaged");
+        assert_eq!(text.last() == Some(&b'\n'), seed % 2 == 0);
+    }
+}
