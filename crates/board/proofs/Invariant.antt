@@ -21,7 +21,7 @@ use Rattle.board.specs.State.{allFree, conditionOf, isWaiting}
 use Rattle.board.specs.Machine.{Unfinished, none, update, Machine, markedCount}
 use Rattle.board.specs.Sequence.{Run}
 use Rattle.board.specs.Statements.{Spare}
-use Rattle.board.proofs.View.{View, view, Sized}
+use Rattle.board.proofs.Laws.View.{View, view, Sized}
 
 -- ---- rows
 

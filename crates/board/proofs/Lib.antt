@@ -1,7 +1,11 @@
--- The proofs of the statements in `specs/`.
+-- The proofs of the statements in `specs/`. Start at `Theorems`; `Invariant` is what they rest on.
 pub mod Bench
-pub mod Bools
-pub mod View
 pub mod Invariant
-pub mod Taken
-pub mod Rows
+pub mod Laws
+pub mod Format
+pub mod Recovery
+pub mod Checkpoint
+pub mod Keeps
+pub mod Stores
+pub mod Theorems
+pub mod Example

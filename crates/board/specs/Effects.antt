@@ -75,7 +75,7 @@ recorded row c value = withField row c Field.Record value
 -- "L+2 steps: memory and cache line 0 become zeros; each of lines 1 to L, rising, becomes zeros in both; line 0 becomes epoch 1, L, W and zeros in both."
 unfoldable pub formatStep : State → Board → Board
 formatStep s b =
-    cond (leb (s .place) (s .lines)) (inBoth (s .place) zeroWords (placed s (s .place + 1) Restore) b) (inBoth 0 (headerWords 1 (s .lines) (s .workers)) (opened s 0) b)
+    cond (leb (s .place) (s .lines)) (inBoth (s .place) zeroWords (placed s (s .place + 1) (s .undo)) b) (inBoth 0 (headerWords 1 (s .lines) (s .workers)) (opened s 0) b)
 
 -- ---- recovery
 

@@ -15,7 +15,7 @@ use Rattle.line.specs.Cell.{withField}
 use Rattle.line.proofs.Laws.{length-lineOf, getD-lineOf, getD-withLine-in, getD-withLine-out, header-withField, header-withLine, spare-withField}
 use Rattle.board.specs.Board.{workersOutside, epochOf, linesOf, workersOf, restNotZero}
 use Rattle.board.specs.Statements.{Spare}
-use Rattle.board.proofs.View.{Sized, line-in}
+use Rattle.board.proofs.Laws.View.{Sized, line-in}
 use Rattle.board.proofs.Invariant.{Header}
 
 -- ---- the header

@@ -70,6 +70,11 @@ pub and-off-right : (a b : Bool) → b ≡ false → a && b ≡ false
 and-off-right true b e = e
 and-off-right false b e = refl
 
+-- Where the first of two tests rules the second out, not both hold.
+pub and-if : (a b : Bool) → (a ≡ true → b ≡ false) → a && b ≡ false
+and-if true b f = f refl
+and-if false b f = refl
+
 pub not-off : (a : Bool) → not a ≡ false → a ≡ true
 not-off true e = refl
 not-off false e = absurd (true≢false e)

@@ -8,6 +8,7 @@ use lib.Dec.{leb, ltb, eqb}
 use lib.ListN.{length}
 use borrow.Author.Tests.{ltb-true, leb-true, leb-false, eqb-true, eq-eqb, ne-eqb, le-leb, lt-ltb, le-ltb, lt-leb}
 use Rattle.board.specs.declared.State.{State}
+use Rattle.board.specs.declared.Condition.{Condition}
 use Rattle.board.specs.declared.Call.{Call}
 use Rattle.board.specs.declared.Call.the-variants.{FormatStart, RecoveryStart, Step, Update, RestartPoint, Advance, Request, WriteBack, Read}
 use Rattle.board.specs.Board.{Board, cells, rowWords, listWords, linesOutside, workersOutside, outside}
@@ -18,8 +19,8 @@ use Rattle.board.specs.Next.{taken, next}
 use Rattle.board.specs.Machine.{Machine, feed}
 use Rattle.board.specs.Sequence.{Taken, Run, erasedBy}
 use Rattle.board.specs.Next.{kind, isStart}
-use Rattle.board.proofs.Bools.{split, chosen, passedOver, or-left, or-right, or-none, and-left, and-right, and-both, and-off-right, not-off, not-on, under-none, none-under, clash}
-use Rattle.board.proofs.View.{Sized}
+use Rattle.board.proofs.Laws.Bools.{split, chosen, passedOver, or-left, or-right, or-none, and-left, and-right, and-both, and-if, not-off, not-on, under-none}
+use Rattle.board.proofs.Laws.View.{Sized}
 use Rattle.board.proofs.Invariant.{Sizes}
 
 -- ---- a call's causes
@@ -130,6 +131,11 @@ rows-fine l b z =
     (not-on (eqb (length (b .memory)) (rowWords l)) (eq-eqb _ _ (z .memory .size))))
     (le-ltb _ _ (z .entries))
 
+-- No worker under W has a condition that passes the test.
+pub none-worker : (s : State) (test : Condition → Bool) → ((w : ℕ) → w < s .workers → test (conditionOf s w) ≡ false) → anyWorker s test ≡ false
+none-worker s test f =
+    under-none 8 (λ i. ltb i (s .workers) && test (conditionOf s i)) (λ i h. and-if (ltb i (s .workers)) (test (conditionOf s i)) (λ t. f i (ltb-true i (s .workers) t)))
+
 -- A state record within its bounds passes.
 pub record-fine : (l : ℕ) (s : State) → s .lines ≡ l → linesOutside l ≡ false → workersOutside l (s .workers) ≡ false → s .listed ≤ cells l → placePast (s .phase) s ≡ false → ((w : ℕ) → w < s .workers → updates (leb (cells l)) (conditionOf s w) ≡ false) → badRecord s ≡ false
 unfolding badRecord
@@ -140,10 +146,4 @@ record-fine l s e lo wo n p u =
     (subst (λ (k : ℕ). outside k (s .workers) ≡ false) (sym e) (or-none (linesOutside l) (workersOutside l (s .workers)) lo wo))
     (le-ltb (cells (s .lines)) (s .listed) (omega arith)))
     p)
-    (subst (λ (k : ℕ). anyWorker s (updates (leb (cells k))) ≡ false) (sym e) (under-none 8 _ (λ i h. worker-fine i)))
-  where
-    worker-fine : (i : ℕ) → ltb i (s .workers) && updates (leb (cells l)) (conditionOf s i) ≡ false
-    worker-fine i =
-        split (ltb i (s .workers))
-        (λ t. and-off-right (ltb i (s .workers)) (updates (leb (cells l)) (conditionOf s i)) (u i (ltb-true i (s .workers) t)))
-        (λ f. mathlib.Core.Path.subst (λ (t : Bool). t && updates (leb (cells l)) (conditionOf s i) ≡ false) (sym f) refl)
+    (subst (λ (k : ℕ). anyWorker s (updates (leb (cells k))) ≡ false) (sym e) (none-worker s (updates (leb (cells l))) u))

@@ -1,0 +1,72 @@
+-- A running board after a line's write-back, by a call or by a step of its checkpoint.
+use Prim.Native.Nat.{ℕ, _+_, _≤_, _<_}
+use mathlib.Core.Path.{_≡_, refl, sym, subst, _∙_}
+use mathlib.Core.Logic.{inl, inr}
+use mathlib.Core.Bool.{Bool, true}
+use native.Mathlib.Omega.{arith}
+use Rattle.board.specs.Board.{cells, epochOf}
+use Rattle.board.specs.Effects.{writtenBack}
+use Rattle.board.specs.Sequence.{Run}
+use Rattle.board.proofs.Laws.Bools.{chosen}
+use Rattle.board.proofs.Laws.View.{sized-back}
+use Rattle.board.proofs.Invariant.{Undoes, Kept, Stage, early, gap, late, Inv}
+use Rattle.board.proofs.Laws.Rows.{epoch-back-header, spare-back}
+use Rattle.board.proofs.Checkpoint.Run.{Carried, RunningRun, inv-running}
+use Rattle.board.proofs.Checkpoint.Memory.{undoes-same, kept-same, epoch-back, kept-back, kept-next, undoes-next}
+use Rattle.board.proofs.Checkpoint.Stages.{moved, remade, running-moved, late-back}
+
+-- The run with line `i` written back, another place, other checkpointed values and another number of steps.
+abbrev pub backRun : Run → ℕ → ℕ → (ℕ → ℕ) → ℕ → Bool → Run
+backRun r i place xs steps dark =
+    record { board = moved (r .board) (writtenBack i (r .board)) place; machine = remade (r .machine) xs steps; dark = dark; erased = r .erased }
+
+module _ (r : Run) (s : RunningRun r) (place steps : ℕ) (agree : r .board .state .requested ≡ true → steps ≡ place) (dark : Bool) where
+  -- The invariant after a write-back, from what it leaves in memory and the stage it leads to.
+  inv-back : (i : ℕ) → i ≤ r .machine .lines → (xs : ℕ → ℕ) → Kept (r .machine .lines) xs (writtenBack i (r .board)) → Undoes (r .machine .lines) (epochOf (writtenBack i (r .board))) xs (r .board .cache) → Stage (r .machine .lines) (moved (r .board) (writtenBack i (r .board)) place) (remade (r .machine) xs steps) → Inv (backRun r i place xs steps dark)
+  inv-back i h xs k u stage =
+      let z = s .inv .sizes in
+      inv-running (backRun r i place xs steps dark) (s .on) (s .phase)
+      (record { limits = z .limits; memory = sized-back (r .board .memory) (r .board .cache) (z .memory) (z .cache) i h; cache = z .cache; entries = z .entries })
+      (spare-back (r .board .memory) (r .board .cache) (z .memory) (z .cache) i h (s .inv .spare) (s .running .spare))
+      k
+      (running-moved (s .running) (writtenBack i (r .board)) place xs steps agree u stage)
+
+  -- A write-back that leaves memory's epoch: recovery gives what it gave.
+  pub quiet-back : (i : ℕ) → i ≤ r .machine .lines → (i ≡ 0 → epochOf (r .board .cache) ≡ epochOf (r .board .memory)) → (xs : ℕ → ℕ) → ((c : ℕ) → c < cells (r .machine .lines) → r .machine .checkpointed c ≡ xs c) → Stage (r .machine .lines) (moved (r .board) (writtenBack i (r .board)) place) (remade (r .machine) xs steps) → Carried r (backRun r i place xs steps dark)
+  quiet-back i h e xs same stage =
+      let z = s .inv .sizes in
+      let epoch : epochOf (writtenBack i (r .board)) ≡ epochOf (r .board .memory) = epoch-back (r .board .memory) (r .board .cache) (z .memory) (z .cache) i h e in
+      record {
+        keeps =
+            inv-back i h xs
+            (kept-same xs (writtenBack i (r .board)) same
+            (kept-back (r .board .memory) (r .board .cache) (z .memory) (z .cache) (r .machine .checkpointed) i h e (s .running .header) (s .running .undoes) (s .inv .kept (s .on))))
+            (subst (λ (n : ℕ). Undoes (r .machine .lines) n xs (r .board .cache)) (sym epoch)
+            (undoes-same (r .machine .lines) (r .machine .checkpointed) xs (r .board .cache) same (s .running .undoes)))
+            stage;
+        completion = inl (record { epoch = epoch; values = λ c p. sym (same c p) });
+      }
+
+  -- Line 0's write-back after the epoch's store completes the checkpoint, and done again changes nothing.
+  pub header-back : r .board .state .requested ≡ true → r .board .state .listed + 1 ≤ r .board .state .place → r .board .state .listed + 1 ≤ place → place ≤ r .board .state .listed + 2 → Stage (r .machine .lines) (r .board) (r .machine) → Carried r (backRun r 0 place (r .machine .current) steps dark)
+  header-back on past low high (early e) =
+      absurd (omega (arith, e .within, chosen (r .board .state .requested) (r .board .state .place) 0 on))
+  header-back on past low high (gap g) =
+      let z = s .inv .sizes in
+      let v = s .running in
+      let epoch = epoch-back-header (r .board .memory) (r .board .cache) (z .memory) (z .cache) in
+      record {
+        keeps =
+            inv-back 0 (omega arith) (r .machine .current)
+            (kept-next (r .board .memory) (r .board .cache) (z .memory) (z .cache) (r .machine .checkpointed) (r .machine .current) (g .epochs) (v .header) (s .inv .kept (s .on)) (λ c p. g .same c p ∙ v .current c p))
+            (undoes-next (r .board .memory) (r .board .cache) (z .memory) (z .cache) (r .machine .checkpointed) (r .machine .current) (g .epochs) (v .undoes) (v .current))
+            (late (late-back (r .board) z 0 (omega arith) (r .machine) place (r .machine .current) steps on low high epoch (g .same) (g .waiting) (λ c p. refl)
+            (λ c p q. omega (arith, v .undoes c p .bounded, q, g .epochs))));
+        completion = inr (record { epoch = epoch ∙ g .epochs; values = λ c p. refl });
+      }
+  header-back on past low high (late e) =
+      let z = s .inv .sizes in
+      quiet-back 0 (omega arith) (λ q. e .epochs) (r .machine .current) (e .complete)
+      (late (late-back (r .board) z 0 (omega arith) (r .machine) place (r .machine .current) steps on low high
+      (epoch-back-header (r .board .memory) (r .board .cache) (z .memory) (z .cache)) (e .same) (e .waiting) (λ c p. refl)
+      (λ c p q. e .unlogged c p (q ∙ e .epochs))))

@@ -1,0 +1,47 @@
+-- A run whose board is running: the invariant taken apart and put together, and what a call leaves of it.
+use mathlib.Core.Path.{_≡_, refl, sym, subst}
+use mathlib.Core.Logic.{_⊎_}
+use mathlib.Core.Bool.{true, false, true≢false}
+use Rattle.board.specs.declared.Phase.{Phase}
+use Rattle.board.specs.declared.Phase.the-variants.{Off, Formatting, Recovering, Running}
+use Rattle.board.specs.State.{isRunning}
+use Rattle.board.specs.Sequence.{Run}
+use Rattle.board.specs.Statements.{Spare, Unchanged, Completed}
+use Rattle.board.proofs.Laws.Bools.{clash}
+use Rattle.board.proofs.Invariant.{Kept, Sizes, RunningInv, InPhase, Inv}
+
+-- A call from run `r` to run `r′` carries the invariant over, and leaves the last checkpoint as it was or completes the next.
+pub record Carried (r r′ : Run) : Type 0 where
+  pub keeps : Inv r′
+  pub completion : Unchanged r r′ ⊎ Completed r r′
+
+-- The only phase in which the board runs.
+pub is-running : (p : Phase) → isRunning p ≡ true → p ≡ Running
+is-running Off e = absurd (true≢false (sym e))
+is-running Formatting e = absurd (true≢false (sym e))
+is-running Recovering e = absurd (true≢false (sym e))
+is-running Running e = refl
+
+-- A running board under the invariant.
+pub record RunningRun (r : Run) : Type 0 where
+  pub inv : Inv r
+  pub running : RunningInv (r .machine .lines) (r .board) (r .machine)
+  pub on : r .erased ≡ false
+  pub phase : r .board .state .phase ≡ Running
+
+-- What the invariant says of a running board.
+pub running-run : (r : Run) → Inv r → r .dark ≡ false → r .board .state .phase ≡ Running → RunningRun r
+running-run r inv d e =
+    let v : InPhase Running r = subst (λ (p : Phase). InPhase p r) e (inv .phase d) in
+    record { inv = inv; running = v .0; on = v .1; phase = e }
+
+-- The invariant of a running board from its parts.
+pub inv-running : (r : Run) → r .erased ≡ false → r .board .state .phase ≡ Running → Sizes (r .machine .lines) (r .board) → Spare (r .machine .lines) (r .board .memory) → Kept (r .machine .lines) (r .machine .checkpointed) (r .board .memory) → RunningInv (r .machine .lines) (r .board) (r .machine) → Inv r
+inv-running r off e z s k v =
+    record {
+      sizes = z;
+      spare = s;
+      kept = λ q. k;
+      lost = λ q. absurd (clash q off);
+      phase = λ d. subst (λ (p : Phase). InPhase p r) (sym e) (v, off);
+    }

@@ -1,0 +1,118 @@
+-- The stages of a checkpoint after a line's write-back, by a call or by a step.
+use Prim.Native.Nat.{ℕ, _+_, _≤_, _<_}
+use mathlib.Core.Path.{_≡_, sym, ap, subst, _∙_}
+use mathlib.Core.List.{List}
+use mathlib.Core.Bool.{true}
+use native.Mathlib.Omega.{arith}
+use native.Mathlib.Decide.{ℕ-discrete}
+use lib.Dec.{eqb}
+use lib.ListN.{getD}
+use Rattle.board.specs.Board.{Board, cells, epochOf}
+use Rattle.board.specs.State.{placed}
+use Rattle.board.specs.Effects.{writtenBack}
+use Rattle.board.specs.Machine.{Machine}
+use Rattle.board.proofs.Laws.Bools.{chosen}
+use Rattle.board.proofs.Laws.View.{view}
+use Rattle.board.proofs.Invariant.{Sizes, Undoes, progress, AllWait, SameRecords, Early, Gap, Late, Stage, early, gap, late, RunningInv}
+use Rattle.board.proofs.Checkpoint.Memory.{value-back, epoch-back}
+
+-- The board with another memory and another place.
+abbrev pub moved : Board → List ℕ → ℕ → Board
+moved b memory place =
+    record { state = placed (b .state) place (b .state .undo); memory = memory; cache = b .cache; entries = b .entries }
+
+-- The machine with other checkpointed values and another number of steps.
+abbrev pub remade : Machine → (ℕ → ℕ) → ℕ → Machine
+remade m xs steps =
+    record { current = m .current; checkpointed = xs; marked = m .marked; unfinished = m .unfinished; requested = m .requested; steps = steps; formatting = m .formatting; lines = m .lines }
+
+-- A requested checkpoint's place is at most the release's.
+pub place-high : {l : ℕ} {b : Board} {m : Machine} → b .state .requested ≡ true → Stage l b m → b .state .place ≤ b .state .listed + 2
+place-high {l} {b} on (early e) = omega (arith, e .within, chosen (b .state .requested) (b .state .place) 0 on)
+place-high on (gap g) = omega (arith, g .place)
+place-high on (late e) = e .high
+
+-- A running board whose memory, place and checkpointed values change.
+pub running-moved : {l : ℕ} {b : Board} {m : Machine} → RunningInv l b m → (memory : List ℕ) (place : ℕ) (xs : ℕ → ℕ) (steps : ℕ) → (b .state .requested ≡ true → steps ≡ place) → Undoes l (epochOf memory) xs (b .cache) → Stage l (moved b memory place) (remade m xs steps) → RunningInv l (moved b memory place) (remade m xs steps)
+running-moved v memory place xs steps agree undoes stage =
+    record {
+      lines = v .lines;
+      workers = v .workers;
+      request = v .request;
+      eight = v .eight;
+      header = v .header;
+      undoes = undoes;
+      current = v .current;
+      spare = v .spare;
+      count = v .count;
+      listed = v .listed;
+      steps = agree;
+      stage = stage;
+      worker = v .worker;
+      apart = v .apart;
+    }
+
+-- The early stage, the entry at the checkpoint's place having its record in memory.
+pub early-placed : {l : ℕ} (b : Board) {m : Machine} (steps : ℕ) → Early l b m → b .state .requested ≡ true → b .state .place < b .state .listed → AllWait (b .state) → view (b .memory) (getD (b .entries) (b .state .place) 0) .value ≡ view (b .cache) (getD (b .entries) (b .state .place) 0) .value → Early l (moved b (b .memory) (b .state .place + 1)) (remade m (m .checkpointed) steps)
+early-placed b steps e on h w same =
+    let was : progress (b .state) ≡ b .state .place = chosen (b .state .requested) (b .state .place) 0 on in
+    let now : progress (placed (b .state) (b .state .place + 1) (b .state .undo)) ≡ b .state .place + 1 = chosen (b .state .requested) (b .state .place + 1) 0 on in
+    record {
+      epochs = e .epochs;
+      marks = e .marks;
+      clean = e .clean;
+      listing = e .listing;
+      written = λ j p.
+          elim (ℕ-discrete (b .state .place) j) [
+            | yes q ↦ subst (λ (k : ℕ). view (b .memory) (getD (b .entries) k 0) .value ≡ view (b .cache) (getD (b .entries) k 0) .value) q same
+            | no o ↦ e .written j (omega (arith, was, now))
+          ];
+      within = omega (arith, now);
+      waiting = λ p. w;
+      room = e .room;
+    }
+
+module _ {l : ℕ} (b : Board) (z : Sizes l b) (i : ℕ) (h : i ≤ l) where
+  -- The records that memory has stay there.
+  same-back : SameRecords l b → SameRecords l (moved b (writtenBack i b) (b .state .place))
+  same-back same c p = value-back (b .memory) (b .cache) (z .memory) (z .cache) i c h p (same c p)
+
+  -- Before the epoch's store a write-back of any line leaves the early stage.
+  pub early-back : {m : Machine} → ((j : ℕ) → j < b .state .listed → getD (b .entries) j 0 < cells l) → Early l b m → Early l (moved b (writtenBack i b) (b .state .place)) m
+  early-back listed e =
+      let same : epochOf (writtenBack i b) ≡ epochOf (b .memory) = epoch-back (b .memory) (b .cache) (z .memory) (z .cache) i h (λ q. e .epochs) in
+      record {
+        epochs = e .epochs ∙ sym same;
+        marks = λ c p. e .marks c p ∙ ap (eqb (view (b .cache) c .mark)) (sym same);
+        clean = λ c p o. value-back (b .memory) (b .cache) (z .memory) (z .cache) i c h p (e .clean c p (λ q. o (q ∙ sym same)));
+        listing = λ c p q. e .listing c p (q ∙ same);
+        written = λ j p. value-back (b .memory) (b .cache) (z .memory) (z .cache) i (getD (b .entries) j 0) h (listed j (omega (arith, e .within))) (e .written j p);
+        within = e .within;
+        waiting = e .waiting;
+        room = e .room;
+      }
+
+  -- Between the epoch's store and line 0's write-back another line's leaves the gap.
+  pub gap-back : (i ≡ 0 → ⊥) → Gap l b → Gap l (moved b (writtenBack i b) (b .state .place))
+  gap-back o g =
+      record {
+        request = g .request;
+        place = g .place;
+        epochs = g .epochs ∙ ap (λ (e : ℕ). e + 1) (sym (epoch-back (b .memory) (b .cache) (z .memory) (z .cache) i h (λ q. absurd (o q))));
+        same = same-back (g .same);
+        waiting = g .waiting;
+      }
+
+  -- After a write-back that leaves the cache's epoch in memory the board is in the late stage.
+  pub late-back : (m : Machine) (place : ℕ) (xs : ℕ → ℕ) (steps : ℕ) → b .state .requested ≡ true → b .state .listed + 1 ≤ place → place ≤ b .state .listed + 2 → epochOf (writtenBack i b) ≡ epochOf (b .cache) → SameRecords l b → AllWait (b .state) → ((c : ℕ) → c < cells l → xs c ≡ m .current c) → ((c : ℕ) → c < cells l → view (b .cache) c .mark ≡ epochOf (b .cache) → ⊥) → Late l (moved b (writtenBack i b) place) (remade m xs steps)
+  late-back m place xs steps on low high epoch same waiting complete unlogged =
+      record {
+        request = on;
+        low = low;
+        high = high;
+        epochs = sym epoch;
+        same = same-back same;
+        waiting = waiting;
+        complete = complete;
+        unlogged = λ c p q. unlogged c p (q ∙ epoch);
+      }

@@ -1,0 +1,12 @@
+-- Each call keeps the invariant; `Every` is all of them over whole sequences.
+pub mod OneCell
+pub mod FormatStart
+pub mod FormatStep
+pub mod RecoveryStart
+pub mod RecoveryStep
+pub mod Request
+pub mod Update
+pub mod Advance
+pub mod WriteBack
+pub mod CheckpointStep
+pub mod Every

@@ -1,0 +1,165 @@
+-- Each store of an unfinished update keeps the invariant.
+use Prim.Native.Nat.{ℕ, _+_, _-_, _<_}
+use mathlib.Core.Path.{_≡_, refl, sym, subst, subst₂, _∙_}
+use mathlib.Core.List.{List}
+use mathlib.Core.Bool.{Bool, true, false, not, _&&_, true≢false}
+use native.Mathlib.Omega.{arith}
+use lib.Dec.{ltb}
+use lib.ListN.{length, set, length-set}
+use borrow.Author.Tests.{eq-eqb, ne-eqb}
+use Rattle.line.specs.declared.Field.{Field}
+use Rattle.line.specs.Cell.{fieldOf, withField}
+use Rattle.board.specs.declared.State.{State}
+use Rattle.board.specs.declared.Condition.{Condition}
+use Rattle.board.specs.declared.Condition.the-variants.{Free, Waiting, Updating}
+use Rattle.board.specs.declared.Store.{Store}
+use Rattle.board.specs.declared.Store.the-variants.{Backup, Mark, Record}
+use Rattle.board.specs.declared.Call.the-variants.{Advance}
+use Rattle.board.specs.Board.{cells, epochOf}
+use Rattle.board.specs.State.{conditionOf, isUpdating}
+use Rattle.board.specs.Causes.{causes}
+use Rattle.board.specs.Effects.{recorded, afterLast, advance, advanceOf, effect}
+use Rattle.board.specs.Machine.{Unfinished, none, update, changed, fewer, advanced, feed}
+use Rattle.board.specs.Sequence.{Taken, Run}
+use Rattle.board.proofs.Laws.Bools.{on}
+use Rattle.board.proofs.Laws.View.{View, view, put, view-value, view-store}
+use Rattle.board.proofs.Invariant.{BeforeStore, storesLeft, WorkerInv, Touches, Inv}
+use Rattle.board.proofs.Laws.Taken.{standsAt, passed, afterTaken}
+use Rattle.board.proofs.Laws.Rows.{epoch-store}
+use Rattle.board.proofs.Laws.Count.{changed-at, changed-other}
+use Rattle.board.proofs.Keeps.OneCell.{CellInv, ListInv, cell-inv, list-inv, list-more, only-store, Change, changedRun, Ready, ready, one-cell}
+
+-- ---- a cell's view
+
+module _ {e x y : ℕ} {t : Bool} {memory v : View} (inv : CellInv e x y t memory v) where
+  -- A backup stored in a cell that is not logged.
+  cell-backed : (z : ℕ) → (v .mark ≡ e → ⊥) → CellInv e x y t memory (put Field.Backup z v)
+  cell-backed z o =
+      record { undo = record { logged = λ p. absurd (o p); plain = inv .undo .plain; bounded = inv .undo .bounded }; current = inv .current; marks = inv .marks; clean = inv .clean }
+
+  -- The mark stored in a cell whose backup is its record.
+  cell-marked : {t′ : Bool} (z : ℕ) → z ≡ e → (v .mark ≡ e → ⊥) → v .backup ≡ v .value → t′ ≡ true → CellInv e x y t′ memory (put Field.Mark z v)
+  cell-marked z p o q t =
+      record { undo = record { logged = λ n. q ∙ inv .undo .plain o; plain = λ n. absurd (n p); bounded = omega arith }; current = inv .current; marks = t ∙ sym (eq-eqb z e p); clean = λ n. absurd (n p) }
+
+  -- The record stored in a cell that is logged.
+  cell-recorded : {y′ : ℕ} (z : ℕ) → v .mark ≡ e → y′ ≡ z → CellInv e x y′ t memory (put Field.Record z v)
+  cell-recorded z p q =
+      record { undo = record { logged = inv .undo .logged; plain = λ n. absurd (n p); bounded = inv .undo .bounded }; current = sym q; marks = inv .marks; clean = λ n. absurd (n p) }
+
+-- ---- a store
+
+-- Worker `w` is about to do the store `next` of its update.
+record Turn (r : Run) (w c v : ℕ) (next : Store) : Type 0 where
+  now : Ready r w
+  here : conditionOf (r .board .state) w ≡ Updating c v next
+  cell : c < cells (r .machine .lines)
+  before : BeforeStore next (epochOf (r .board .memory)) (view (r .board .cache) c)
+
+-- What a store leaves.
+abbrev storing : ℕ → ℕ → List ℕ → Condition → ℕ → List ℕ → (ℕ → ℕ) → (ℕ → Bool) → Unfinished → Change
+storing w c cache condition listed entries current marked unfinished =
+    record { worker = w; cell = c; condition = condition; listed = listed; cache = cache; entries = entries; current = current; marked = marked; unfinished = unfinished }
+
+-- A store of `x` in field `f` of the worker's cell.
+module _ (r : Run) (w c v : ℕ) (next : Store) (inv : Inv r) (turn : Turn r w c v next) (f : Field) (x : ℕ) where
+  -- The view of the cell after the store.
+  view-after : view (withField (r .board .cache) c f x) c ≡ put f x (view (r .board .cache) c)
+  view-after = view-store (r .board .cache) c x (inv .sizes .cache) (turn .cell) f
+
+  -- The worker is about to do the store after this one.
+  worker-after : (then : Store) → BeforeStore then (epochOf (r .board .memory)) (put f x (view (r .board .cache) c)) → WorkerInv (r .machine .lines) (withField (r .board .cache) c f x) (Updating c v then) (update c v (storesLeft then))
+  worker-after then before =
+      let epoch : epochOf (r .board .memory) ≡ epochOf (withField (r .board .cache) c f x) = sym (epoch-store (r .board .cache) c f x ∙ turn .now .stage .epochs) in
+      (refl, turn .cell, subst₂ (BeforeStore then) epoch (sym view-after) before)
+
+  -- No other worker has an update of the cell.
+  alone : (u : ℕ) → u < r .board .state .workers → (w ≡ u → ⊥) → Touches (conditionOf (r .board .state) u) c → ⊥
+  alone u h o t = o (turn .now .run .apart w u c (turn .now .under) h (subst (λ (k : Condition). Touches k c) (sym (turn .here)) refl) t)
+
+  -- The store keeps the invariant where what it leaves of cell, list and worker fits.
+  store :
+      (condition : Condition) (listed : ℕ) (entries : List ℕ) (current : ℕ → ℕ) (marked : ℕ → Bool) (unfinished : Unfinished) (dark : Bool) →
+      ((d : ℕ) → (c ≡ d → ⊥) → current d ≡ r .machine .current d) →
+      ((d : ℕ) → (c ≡ d → ⊥) → marked d ≡ r .machine .marked d) →
+      CellInv (epochOf (r .board .memory)) (r .machine .checkpointed c) (current c) (marked c) (view (r .board .memory) c) (put f x (view (r .board .cache) c)) →
+      ListInv (cells (r .machine .lines)) listed entries marked →
+      length entries ≡ length (r .board .entries) →
+      WorkerInv (r .machine .lines) (withField (r .board .cache) c f x) condition unfinished →
+      ((d : ℕ) → Touches condition d → c ≡ d) →
+      Inv (changedRun (storing w c (withField (r .board .cache) c f x) condition listed entries current marked unfinished) dark r)
+  store condition listed entries current marked unfinished dark currents marks cell list size worker own =
+      one-cell r (storing w c (withField (r .board .cache) c f x) condition listed entries current marked unfinished) dark inv (turn .now)
+      (record {
+        only = only-store (r .board .cache) c f x;
+        currents = currents;
+        marks = marks;
+        here = subst (CellInv (epochOf (r .board .memory)) (r .machine .checkpointed c) (current c) (marked c) (view (r .board .memory) c)) (sym view-after) cell;
+        list = list;
+        size = size;
+        worker = worker;
+        own = own;
+        alone = alone;
+      })
+
+-- The run after the store.
+abbrev stored : Run → ℕ → ℕ → ℕ → Store → Bool → Run
+stored r w c v next dark =
+    record { board = advance next w c v (r .board .state) (r .board); machine = fewer (storesLeft next - 1) w c v (r .machine); dark = dark; erased = r .erased }
+
+-- Each of the three stores keeps the invariant.
+keeps-store : (r : Run) (w c v : ℕ) (next : Store) (dark : Bool) → Inv r → Turn r w c v next → Inv (stored r w c v next dark)
+unfolding advance fewer
+keeps-store r w c v Backup dark inv turn =
+    let b = r .board in
+    let m = r .machine in
+    let old = fieldOf (b .cache) c Field.Record in
+    store r w c v Backup inv turn Field.Backup old (Updating c v Mark) (b .state .listed) (b .entries) (m .current) (m .marked) (update c v 2) dark (λ d o. refl) (λ d o. refl)
+    (cell-backed (cell-inv (turn .now .run) (turn .now .stage) c (turn .cell)) old (turn .before))
+    (list-inv (turn .now .run) (turn .now .stage)) refl
+    (worker-after r w c v Backup inv turn Field.Backup old Mark (turn .before, view-value (b .cache) c)) (λ d t. t)
+keeps-store r w c v Mark dark inv turn =
+    let b = r .board in
+    let m = r .machine in
+    let ear = turn .now .stage in
+    let e = epochOf (b .cache) in
+    let unmarked : m .marked c ≡ false = ear .marks c (turn .cell) ∙ ne-eqb _ _ (turn .before .0) in
+    store r w c v Mark inv turn Field.Mark e (Updating c v Record) (b .state .listed + 1) (set (b .entries) (b .state .listed) c) (m .current) (changed (m .marked) c true) (update c v 1) dark (λ d o. refl)
+    (changed-other (m .marked) c true)
+    (cell-marked (cell-inv (turn .now .run) ear c (turn .cell)) e (ear .epochs) (turn .before .0) (turn .before .1) (changed-at (m .marked) c true))
+    (list-more c (turn .cell) (inv .sizes .entries) unmarked (list-inv (turn .now .run) ear)) (length-set (b .entries) (b .state .listed) c)
+    (worker-after r w c v Mark inv turn Field.Mark e Record (ear .epochs)) (λ d t. t)
+keeps-store r w c v Record dark inv turn =
+    let b = r .board in
+    let m = r .machine in
+    let waits = ltb c (b .state .workers) && b .state .requested in
+    store r w c v Record inv turn Field.Record v (afterLast (b .state) c) (b .state .listed) (b .entries) (changed (m .current) c v) (m .marked) none dark (changed-other (m .current) c v) (λ d o. refl)
+    (cell-recorded (cell-inv (turn .now .run) (turn .now .stage) c (turn .cell)) v (turn .before) (changed-at (m .current) c v))
+    (list-inv (turn .now .run) (turn .now .stage)) refl
+    (on (λ (k : Condition). WorkerInv (m .lines) (recorded (b .cache) c v) k none) waits Waiting Free (λ t. refl) (λ t. refl))
+    (on (λ (k : Condition). (d : ℕ) → Touches k d → c ≡ d) waits Waiting Free (λ t d n. absurd n) (λ t d n. absurd n))
+
+-- ---- the call
+
+-- A taken advance.
+pub keeps-advance : (r : Run) (w : ℕ) → Inv r → r .dark ≡ false → Taken (Advance w) (r .board) → Inv (afterTaken (Advance w) r)
+unfolding standsAt causes effect feed advanceOf advanced
+keeps-advance r w inv dark t = go (conditionOf s w) refl (pass 8) (now .run .worker w (now .under))
+  where
+    s : State
+    s = r .board .state
+
+    pass : (n : ℕ) → standsAt n (causes (Advance w) (r .board)) ≡ false
+    pass = passed (Advance w) (r .board) t
+
+    now : Ready r w
+    now = ready r w isUpdating refl inv dark (pass 2) (pass 6) (pass 8)
+
+    go : (k : Condition) → conditionOf s w ≡ k → not (isUpdating k) ≡ false → WorkerInv (r .machine .lines) (r .board .cache) k (r .machine .unfinished w) → Inv (afterTaken (Advance w) r)
+    go Free e busy worker = absurd (true≢false busy)
+    go Waiting e busy worker = absurd (true≢false busy)
+    go (Updating c v next) e busy worker =
+        subst₂ (λ (k : Condition) (u : Unfinished). Inv (record { board = advanceOf k w s (r .board); machine = advanced u w (r .machine); dark = r .dark && true; erased = r .erased }))
+        (sym e) (sym (worker .0))
+        (keeps-store r w c v next (r .dark && true) inv
+        (record { now = now; here = e; cell = worker .1; before = subst (λ (n : ℕ). BeforeStore next n (view (r .board .cache) c)) (now .stage .epochs) (worker .2) }))

@@ -1,0 +1,218 @@
+-- A taken step of a requested checkpoint keeps the invariant, act by act.
+use Prim.Native.Nat.{ℕ, zero, suc, _+_, _≤_, _<_}
+use mathlib.Core.Path.{_≡_, refl, sym, ap, subst, _∙_}
+use mathlib.Core.Logic.{inl}
+use mathlib.Core.List.{List}
+use mathlib.Core.Bool.{Bool, true, false, _&&_, false≢true}
+use native.Mathlib.Omega.{arith}
+use native.Mathlib.Decide.{ℕ-discrete, decLt}
+use lib.ListN.{getD, set, length-replicate, getD-replicate}
+use borrow.Author.Tests.{ne-eqb}
+use Rattle.line.specs.Cell.{cellLine}
+use Rattle.board.specs.declared.Worker.{Worker}
+use Rattle.board.specs.declared.Condition.{Condition}
+use Rattle.board.specs.declared.Condition.the-variants.{Free, Waiting, Updating}
+use Rattle.board.specs.declared.Phase.the-variants.{Running}
+use Rattle.board.specs.declared.Call.the-variants.{Step}
+use Rattle.board.specs.Board.{Board, cells, epochOf}
+use Rattle.board.specs.State.{freeWorker, allFree, conditionOf, isWaiting, placed, released}
+use Rattle.board.specs.Effects.{writtenBack, cached, stated, Act, writeLine, storeEpoch, writeHeader, release, actAt, perform}
+use Rattle.board.specs.Machine.{Unfinished, none, update, Machine, countUnder, counted, completed, dropped, checkpointStep}
+use Rattle.board.specs.Sequence.{Taken, Run}
+use Rattle.board.proofs.Laws.Bools.{chosen, passedOver}
+use Rattle.board.proofs.Laws.View.{View, view, Sized, cell-line, view-backed, view-header}
+use Rattle.board.proofs.Invariant.{Undo, WorkerInv, Touches, AllWait, SameRecords, Early, Late, Stage, early, gap, late, RunningInv, Inv}
+use Rattle.board.proofs.Laws.Rows.{epoch-set, sized-set, header-set, spare-set}
+use Rattle.board.proofs.Laws.Taken.{workers-in, afterTaken}
+use Rattle.board.proofs.Laws.Idle.{free-condition}
+use Rattle.board.proofs.Laws.Count.{count-none}
+use Rattle.board.proofs.Checkpoint.Run.{Carried, RunningRun, running-run, inv-running}
+use Rattle.board.proofs.Checkpoint.Stages.{moved, early-placed, early-back}
+use Rattle.board.proofs.Checkpoint.Back.{quiet-back, header-back}
+use Rattle.board.proofs.Checkpoint.Acts.{act-line, act-epoch, act-header, act-release, machine-counts, machine-completes, machine-drops, acted, step-acts, step-ready}
+
+-- ---- workers that wait
+
+-- A waiting worker has no unfinished update, whatever the cache.
+waiting-worker : (l : ℕ) (cache cache′ : List ℕ) (d : Condition) (u : Unfinished) → isWaiting d ≡ true → WorkerInv l cache d u → (u ≡ none) × WorkerInv l cache′ d u
+waiting-worker l cache cache′ Free u w p = absurd (false≢true w)
+waiting-worker l cache cache′ Waiting u w p = (p, p)
+waiting-worker l cache cache′ (Updating c v next) u w p = absurd (false≢true w)
+
+-- ---- the epoch's store
+
+-- At the list's end memory has the record of every cell.
+early-same : {l : ℕ} (b : Board) {m : Machine} → b .state .requested ≡ true → b .state .place ≡ b .state .listed → Early l b m → SameRecords l b
+early-same b on end e c h =
+    elim (ℕ-discrete (view (b .cache) c .mark) (epochOf (b .memory))) [
+      | yes q ↦
+          let (i, p, k) = e .listing c h q in
+          subst (λ (n : ℕ). view (b .memory) n .value ≡ view (b .cache) n .value) k
+          (e .written i (omega (arith, chosen (b .state .requested) (b .state .place) 0 on)))
+      | no o ↦ e .clean c h o
+    ]
+
+-- The epoch's store leads into the gap.
+running-epoch : {l : ℕ} (b : Board) (m : Machine) → Sized l (b .cache) → b .state .requested ≡ true → b .state .place ≡ b .state .listed → AllWait (b .state) → Early l b m → RunningInv l b m → RunningInv l (cached (set (b .cache) 0 (epochOf (b .cache) + 1)) (placed (b .state) (b .state .place + 1) (b .state .undo)) b) (counted m)
+running-epoch {l} b m z on end wait e v =
+    record {
+      lines = v .lines;
+      workers = v .workers;
+      request = v .request;
+      eight = v .eight;
+      header = header-set (b .cache) (epochOf (b .cache) + 1) z (omega arith) (v .header);
+      undoes = λ c h. subst (Undo (epochOf (b .memory)) (m .checkpointed c)) (sym (same c)) (v .undoes c h);
+      current = λ c h. ap (λ (k : View). k .value) (same c) ∙ v .current c h;
+      spare = spare-set (b .cache) (epochOf (b .cache) + 1) (v .spare);
+      count = v .count;
+      listed = v .listed;
+      steps = λ q. ap (λ (n : ℕ). n + 1) (v .steps q);
+      stage =
+          gap (record {
+            request = on;
+            place = ap (λ (n : ℕ). n + 1) end;
+            epochs = epoch-set (b .cache) (epochOf (b .cache) + 1) z ∙ ap (λ (n : ℕ). n + 1) (e .epochs);
+            same = λ c h. early-same b on end e c h ∙ sym (ap (λ (k : View). k .value) (same c));
+            waiting = wait;
+          });
+      worker = λ w h. waiting-worker l (b .cache) (set (b .cache) 0 (epochOf (b .cache) + 1)) (conditionOf (b .state) w) (m .unfinished w) (wait w h) (v .worker w h) .1;
+      apart = v .apart;
+    }
+  where
+    same : (c : ℕ) → view (set (b .cache) 0 (epochOf (b .cache) + 1)) c ≡ view (b .cache) c
+    same c = view-header (b .cache) 0 (epochOf (b .cache) + 1) c (omega arith)
+
+-- ---- the release
+
+-- The release leads to a running board with no request and no marks.
+running-release : {l : ℕ} (b : Board) (m : Machine) → Late l b m → RunningInv l b m → RunningInv l (stated (released (b .state)) b) (dropped (counted m))
+running-release {l} b m e v =
+    record {
+      lines = v .lines;
+      workers = v .workers;
+      request = refl;
+      eight = length-replicate 8 freeWorker;
+      header = v .header;
+      undoes = v .undoes;
+      current = v .current;
+      spare = v .spare;
+      count = sym (count-none (cells (m .lines)) (λ c. false) (λ c. refl));
+      listed = λ i h. absurd (omega arith);
+      steps = λ q. absurd (false≢true q);
+      stage =
+          early (record {
+            epochs = e .epochs;
+            marks = λ c h. sym (ne-eqb (view (b .cache) c .mark) (epochOf (b .memory)) (e .unlogged c h));
+            clean = λ c h o. e .same c h;
+            listing = λ c h q. absurd (e .unlogged c h q);
+            written = λ i h. absurd (omega arith);
+            within = omega arith;
+            waiting = λ h. absurd (omega arith);
+            room = λ q. absurd (false≢true q);
+          });
+      worker = λ w h. subst (λ (d : Condition). WorkerInv l (b .cache) d (m .unfinished w)) (sym (free w h)) (waiting-worker l (b .cache) (b .cache) (conditionOf (b .state) w) (m .unfinished w) (e .waiting w h) (v .worker w h) .0);
+      apart = λ w w′ d h h′ t t′. absurd (subst (λ (k : Condition). Touches k d) (free w h) t);
+    }
+  where
+    free : (w : ℕ) → w < b .state .workers → getD allFree w freeWorker .condition ≡ Free
+    free w h = free-condition (released (b .state)) w refl
+
+-- ---- the acts, by stage
+
+module _ (r : Run) (s : RunningRun r) (on : r .board .state .requested ≡ true) (wait : AllWait (r .board .state)) where
+  -- The steps taken are the checkpoint's place.
+  placed-steps : r .board .state .requested ≡ true → r .machine .steps + 1 ≡ r .board .state .place + 1
+  placed-steps q = ap (λ (n : ℕ). n + 1) (s .running .steps q)
+
+  -- A step, from its act with what the machine sees of it.
+  by-act : (act : Act) (m : Machine) → actAt (r .board .state .listed) (r .board .state .place) ≡ act → checkpointStep (r .machine) ≡ m → Carried r (acted r act m) → Carried r (afterTaken Step r)
+  by-act act m p q o =
+      subst (Carried r) (sym (step-acts r (s .phase) (s .running .request ∙ on) ∙ (λ i. acted r (p i) (q i)))) o
+
+  -- An entry's line written back.
+  line-carried : r .board .state .place < r .board .state .listed → Early (r .machine .lines) (r .board) (r .machine) → Carried r (acted r writeLine (counted (r .machine)))
+  unfolding perform
+  line-carried h e =
+      let b = r .board in
+      let m = r .machine in
+      let z = s .inv .sizes in
+      let v = s .running in
+      let c = getD (b .entries) (b .state .place) 0 in
+      let p : c < cells (m .lines) = v .listed (b .state .place) h in
+      let i = cellLine c in
+      let q : i ≤ m .lines = cell-line (m .lines) c p in
+      quiet-back r s (b .state .place + 1) (m .steps + 1) placed-steps (r .dark && true) i q (λ k. e .epochs) (m .checkpointed) (λ d k. refl)
+      (early (early-placed (moved b (writtenBack i b) (b .state .place)) (m .steps + 1) (early-back b z i q (v .listed) e) on h wait
+      (ap (λ (k : View). k .value) (view-backed (b .memory) (b .cache) (z .memory) (z .cache) i c p refl))))
+
+  -- The epoch stored.
+  epoch-carried : r .board .state .place ≡ r .board .state .listed → Early (r .machine .lines) (r .board) (r .machine) → Carried r (acted r storeEpoch (counted (r .machine)))
+  unfolding perform
+  epoch-carried end e =
+      let b = r .board in
+      let z = s .inv .sizes in
+      record {
+        keeps =
+            inv-running (acted r storeEpoch (counted (r .machine))) (s .on) (s .phase)
+            (record { limits = z .limits; memory = z .memory; cache = sized-set (b .cache) (epochOf (b .cache) + 1) (z .cache); entries = z .entries })
+            (s .inv .spare) (s .inv .kept (s .on)) (running-epoch b (r .machine) (z .cache) on end wait e (s .running));
+        completion = inl (record { epoch = refl; values = λ c h. refl });
+      }
+
+  -- Line 0 written back.
+  header-carried : r .board .state .place ≡ r .board .state .listed + 1 → Carried r (acted r writeHeader (completed (counted (r .machine))))
+  unfolding perform
+  header-carried e =
+      header-back r s (r .board .state .place + 1) (r .machine .steps + 1) placed-steps (r .dark && true) on (omega arith) (omega arith) (omega arith) (s .running .stage)
+
+  -- The workers released.
+  release-carried : Late (r .machine .lines) (r .board) (r .machine) → Carried r (acted r release (dropped (counted (r .machine))))
+  unfolding perform
+  release-carried e =
+      let z = s .inv .sizes in
+      record {
+        keeps =
+            inv-running (acted r release (dropped (counted (r .machine)))) (s .on) (s .phase)
+            (record { limits = z .limits; memory = z .memory; cache = z .cache; entries = z .entries })
+            (s .inv .spare) (s .inv .kept (s .on)) (running-release (r .board) (r .machine) e (s .running));
+        completion = inl (record { epoch = refl; values = λ c h. refl });
+      }
+
+  -- A step at line 0's write-back.
+  header-step : r .board .state .place ≡ r .board .state .listed + 1 → Carried r (afterTaken Step r)
+  header-step e =
+      by-act writeHeader (completed (counted (r .machine))) (act-header (r .board .state .listed) (r .board .state .place) e)
+      (machine-completes (r .machine) (omega (arith, s .running .count, s .running .steps on))) (header-carried e)
+
+  -- A step in each stage.
+  stage-step : Stage (r .machine .lines) (r .board) (r .machine) → Carried r (afterTaken Step r)
+  stage-step (early e) =
+      let n = r .board .state .listed in
+      let place = r .board .state .place in
+      let within : place ≤ n = omega (arith, e .within, chosen (r .board .state .requested) place 0 on) in
+      let counts : checkpointStep (r .machine) ≡ counted (r .machine) = machine-counts (r .machine) (omega (arith, s .running .count, s .running .steps on)) in
+      elim (decLt place n) [
+        | yes h ↦ by-act writeLine (counted (r .machine)) (act-line n place h) counts (line-carried h e)
+        | no o ↦ let end : place ≡ n = omega arith in by-act storeEpoch (counted (r .machine)) (act-epoch n place end) counts (epoch-carried end e)
+      ]
+  stage-step (gap g) = header-step (g .place)
+  stage-step (late e) =
+      let n = r .board .state .listed in
+      let place = r .board .state .place in
+      elim (ℕ-discrete place (n + 1)) [
+        | yes q ↦ header-step q
+        | no o ↦
+            let end : place ≡ n + 2 = omega (arith, e .low, e .high) in
+            by-act release (dropped (counted (r .machine))) (act-release n place end) (machine-drops (r .machine) (omega (arith, s .running .count, s .running .steps on))) (release-carried e)
+      ]
+
+-- What a taken step of a running board leaves.
+pub carried-checkpoint-step : (r : Run) → Inv r → r .dark ≡ false → r .board .state .phase ≡ Running → Taken Step (r .board) → Carried r (afterTaken Step r)
+carried-checkpoint-step r inv d e t =
+    let s = running-run r inv d e in
+    let ready = step-ready (r .board) e (workers-in (r .machine .lines) (r .board .state .workers) (s .running .workers) .1) t in
+    stage-step r s (ready .0) (ready .1) (s .running .stage)
+
+-- A taken step of a running board keeps the invariant.
+pub keeps-checkpoint-step : (r : Run) → Inv r → r .dark ≡ false → r .board .state .phase ≡ Running → Taken Step (r .board) → Inv (afterTaken Step r)
+keeps-checkpoint-step r inv d e t = carried-checkpoint-step r inv d e t .keeps

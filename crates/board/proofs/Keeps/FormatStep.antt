@@ -1,0 +1,104 @@
+-- A format's step keeps the invariant: it erases a line, or it stores the header and the machine begins anew.
+use Prim.Native.Nat.{ℕ, _+_, _≤_}
+use mathlib.Core.Path.{_≡_, refl, sym, ap, subst, subst₃, _∙_}
+use mathlib.Core.Bool.{Bool, true, false, cond, not, _&&_, true≢false, false≢true}
+use native.Mathlib.Omega.{arith}
+use native.Mathlib.Decide.{decLe}
+use lib.Dec.{eqb}
+use borrow.Author.Tests.{eq-eqb, ne-eqb}
+use Rattle.board.specs.declared.Phase.{Phase}
+use Rattle.board.specs.declared.Phase.the-variants.{Formatting}
+use Rattle.board.specs.declared.Call.the-variants.{Step}
+use Rattle.board.specs.Board.{Board}
+use Rattle.board.specs.Effects.{effect}
+use Rattle.board.specs.Machine.{Machine, beginning, counted, formatSteps, finishesFormat, checkpointStep, stepped, feed}
+use Rattle.board.specs.Sequence.{Taken, Run, erasedBy}
+use Rattle.board.specs.Statements.{Spare}
+use Rattle.board.proofs.Laws.Bools.{chosen, passedOver, and-both, and-off-right}
+use Rattle.board.proofs.Invariant.{FormatMachine, InPhase, Inv}
+use Rattle.board.proofs.Laws.Taken.{afterTaken}
+use Rattle.board.proofs.Format.Board.{Formats, Erased, Fresh, erasing, erasing-step, format-erases, finishing, finishing-step, format-finishes}
+
+-- ---- the machine
+
+-- With no request a step counts, unless it finishes a format: then the machine begins anew.
+unrequested : (m : Machine) → m .requested ≡ false → feed Step m ≡ cond (finishesFormat m) (beginning (m .lines)) (counted m)
+unfolding feed stepped
+unrequested m q = passedOver (m .requested) (checkpointStep m) (cond (finishesFormat m) (beginning (m .lines)) (counted m)) q
+
+-- A format's step leaves the memory erased unless it is the last.
+erases : (m : Machine) (e : Bool) → m .requested ≡ false → m .formatting ≡ true → erasedBy Step m e ≡ not (finishesFormat m)
+erases m e q f =
+    chosen (m .formatting && not (m .requested)) (not (finishesFormat m)) e
+    (and-both (m .formatting) (not (m .requested)) f (ap not q))
+
+-- ---- the run
+
+-- The invariant of a run whose board, machine and erasure are given by equations.
+pub inv-of : (d : Bool) {b b′ : Board} {m m′ : Machine} {e e′ : Bool} → b ≡ b′ → m ≡ m′ → e ≡ e′ → Inv (record { board = b′; machine = m′; dark = d; erased = e′ }) → Inv (record { board = b; machine = m; dark = d; erased = e })
+inv-of d p q s inv =
+    subst₃ (λ (b : Board) (m : Machine) (e : Bool). Inv (record { board = b; machine = m; dark = d; erased = e })) (sym p) (sym q) (sym s) inv
+
+-- A finished format beside the machine at its beginning.
+pub fresh-inv : (l : ℕ) (b : Board) (d : Bool) → Fresh l b → Inv (record { board = b; machine = beginning l; dark = d; erased = false })
+fresh-inv l b d f =
+    record {
+      sizes = f .sizes;
+      spare = f .spare;
+      kept = λ e. f .kept;
+      lost = λ e. absurd (false≢true e);
+      phase = λ e. subst (λ (k : Phase). InPhase k (record { board = b; machine = beginning l; dark = d; erased = false })) (sym (f .phase)) (f .running, refl);
+    }
+
+-- A format with one more line erased beside a machine that counts the step.
+erased-inv : (b b′ : Board) (m : Machine) (d : Bool) → Erased (m .lines) b b′ → Spare (m .lines) (b .memory) → m .formatting ≡ true → m .requested ≡ false → m .steps ≡ b .state .place → Inv (record { board = b′; machine = counted m; dark = d; erased = true })
+erased-inv b b′ m d s spare f q n =
+    record {
+      sizes = s .formats .sizes;
+      spare = s .spare spare;
+      kept = λ e. absurd (true≢false e);
+      lost = λ e. s .epoch;
+      phase = λ e. subst (λ (k : Phase). InPhase k (record { board = b′; machine = counted m; dark = d; erased = true })) (sym (s .formats .phase))
+          (s .formats .format, record { formatting = f; request = q; steps = omega (arith, s .place); erased = λ h. refl });
+    }
+
+-- A format's step keeps the invariant.
+pub keeps-format-step : (r : Run) → Inv r → r .dark ≡ false → r .board .state .phase ≡ Formatting → Taken Step (r .board) → Inv (afterTaken Step r)
+keeps-format-step r inv d p t =
+    elim (decLe (r .board .state .place) (r .machine .lines)) [
+      | yes h ↦ erased h
+      | no h ↦ finished (omega (arith, formats .format .within))
+    ]
+  where
+    at : InPhase Formatting r
+    at = subst (λ (k : Phase). InPhase k r) p (inv .phase d)
+
+    formats : Formats (r .machine .lines) (r .board)
+    formats = record { sizes = inv .sizes; format = at .0; phase = p }
+
+    beside : FormatMachine r
+    beside = at .1
+
+    -- the machine and the erasure, by whether the step finishes the format
+    kept : {last : Bool} (b : Board) → finishesFormat (r .machine) ≡ last → effect Step (r .board) ≡ b → Inv (record { board = b; machine = cond last (beginning (r .machine .lines)) (counted (r .machine)); dark = r .dark && true; erased = not last }) → Inv (afterTaken Step r)
+    kept b e s next =
+        inv-of (r .dark && true) s
+        (unrequested (r .machine) (beside .request) ∙ ap (λ (k : Bool). cond k (beginning (r .machine .lines)) (counted (r .machine))) e)
+        (erases (r .machine) (r .erased) (beside .request) (beside .formatting) ∙ ap not e)
+        next
+
+    erased : r .board .state .place ≤ r .machine .lines → Inv (afterTaken Step r)
+    erased h =
+        kept (erasing (r .board))
+        (and-off-right (r .machine .formatting) (eqb (r .machine .steps + 1) (formatSteps (r .machine .lines)))
+        (ne-eqb (r .machine .steps + 1) (formatSteps (r .machine .lines)) (λ e. omega (arith, beside .steps))))
+        (erasing-step (r .machine .lines) (r .board) formats h)
+        (erased-inv (r .board) (erasing (r .board)) (r .machine) (r .dark && true) (format-erases (r .machine .lines) (r .board) formats h) (inv .spare) (beside .formatting) (beside .request) (beside .steps))
+
+    finished : r .board .state .place ≡ r .machine .lines + 1 → Inv (afterTaken Step r)
+    finished e =
+        kept (finishing (r .board))
+        (and-both (r .machine .formatting) (eqb (r .machine .steps + 1) (formatSteps (r .machine .lines))) (beside .formatting)
+        (eq-eqb (r .machine .steps + 1) (formatSteps (r .machine .lines)) (omega (arith, beside .steps))))
+        (finishing-step (r .machine .lines) (r .board) formats e)
+        (fresh-inv (r .machine .lines) (finishing (r .board)) (r .dark && true) (format-finishes (r .machine .lines) (r .board) formats e))

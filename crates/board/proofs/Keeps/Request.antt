@@ -1,0 +1,68 @@
+-- A taken request keeps the invariant.
+use Prim.Native.Nat.{ℕ}
+use mathlib.Core.Path.{_≡_, refl}
+use mathlib.Core.Bool.{false}
+use native.Mathlib.Omega.{arith}
+use borrow.Author.Tests.{eqb-false}
+use Rattle.board.specs.declared.Phase.the-variants.{Running}
+use Rattle.board.specs.declared.Call.the-variants.{Request}
+use Rattle.board.specs.Board.{Board, epochOf, lastEpoch}
+use Rattle.board.specs.State.{isRunning, requesting}
+use Rattle.board.specs.Causes.{causes, epochSpent}
+use Rattle.board.specs.Effects.{stated, effect}
+use Rattle.board.specs.Machine.{Machine, startedRequest, feed}
+use Rattle.board.specs.Sequence.{Taken, Run}
+use Rattle.board.proofs.Laws.Bools.{clash, not-off}
+use Rattle.board.proofs.Invariant.{Early, Stage, early, gap, late, RunningInv, Inv}
+use Rattle.board.proofs.Laws.Taken.{standsAt, passed, afterTaken}
+use Rattle.board.proofs.Checkpoint.Run.{is-running, running-run, inv-running}
+
+-- Where no request stands the board is before the epoch's store.
+pub unrequested-early : {l : ℕ} {b : Board} {m : Machine} → b .state .requested ≡ false → Stage l b m → Early l b m
+unrequested-early off (early e) = e
+unrequested-early off (gap g) = absurd (clash (g .request) off)
+unrequested-early off (late e) = absurd (clash (e .request) off)
+
+-- A request leaves a running board that has taken no step of its checkpoint.
+running-request : {l : ℕ} (b : Board) (m : Machine) → b .state .requested ≡ false → epochSpent b ≡ false → RunningInv l b m → RunningInv l (stated (requesting (b .state)) b) (startedRequest m)
+running-request b m off room v =
+    let e = unrequested-early off (v .stage) in
+    record {
+      lines = v .lines;
+      workers = v .workers;
+      request = refl;
+      eight = v .eight;
+      header = v .header;
+      undoes = v .undoes;
+      current = v .current;
+      spare = v .spare;
+      count = v .count;
+      listed = v .listed;
+      steps = λ q. refl;
+      stage =
+          early (record {
+            epochs = e .epochs;
+            marks = e .marks;
+            clean = e .clean;
+            listing = e .listing;
+            written = λ i h. absurd (omega arith);
+            within = omega arith;
+            waiting = λ h. absurd (omega arith);
+            room = λ q. eqb-false (epochOf (b .cache)) lastEpoch room;
+          });
+      worker = v .worker;
+      apart = v .apart;
+    }
+
+-- A taken request keeps the invariant.
+pub keeps-request : (r : Run) → Inv r → r .dark ≡ false → Taken Request (r .board) → Inv (afterTaken Request r)
+unfolding effect feed standsAt causes
+keeps-request r inv d t =
+    let b = r .board in
+    let run : b .state .phase ≡ Running = is-running (b .state .phase) (not-off (isRunning (b .state .phase)) (passed Request b t 2)) in
+    let off : b .state .requested ≡ false = passed Request b t 10 in
+    let room : epochSpent b ≡ false = passed Request b t 11 in
+    let s = running-run r inv d run in
+    inv-running (afterTaken Request r) (s .on) run
+    (record { limits = inv .sizes .limits; memory = inv .sizes .memory; cache = inv .sizes .cache; entries = inv .sizes .entries })
+    (inv .spare) (inv .kept (s .on)) (running-request b (r .machine) off room (s .running))

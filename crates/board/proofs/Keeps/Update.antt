@@ -1,0 +1,96 @@
+-- The starts of an update and of a restart point keep the invariant.
+use Prim.Native.Nat.{ℕ, _≤_, _<_}
+use mathlib.Core.Path.{_≡_, refl, sym, ap, ap₂, subst, _∙_}
+use mathlib.Core.List.{List}
+use mathlib.Core.Bool.{Bool, true, false, cond, not, _&&_}
+use native.Mathlib.Omega.{arith}
+use lib.Dec.{leb, ltb, eqb}
+use borrow.Author.Tests.{leb-false, eqb-true, eqb-false, eq-eqb, ne-eqb, lt-ltb}
+use Rattle.board.specs.declared.State.{State}
+use Rattle.board.specs.declared.Condition.{Condition}
+use Rattle.board.specs.declared.Condition.the-variants.{Free, Waiting, Updating}
+use Rattle.board.specs.declared.Store.the-variants.{Backup, Record}
+use Rattle.board.specs.declared.Call.the-variants.{Update, RestartPoint}
+use Rattle.board.specs.Board.{Board, cells, epochOf}
+use Rattle.board.specs.State.{conditionOf, isFree, updates, othersUpdate}
+use Rattle.board.specs.Causes.{causes}
+use Rattle.board.specs.Effects.{firstStore, logged, effect}
+use Rattle.board.specs.Machine.{update, Machine, feed}
+use Rattle.board.specs.Sequence.{Taken, Run}
+use Rattle.board.proofs.Laws.Bools.{clash, or-right, and-not, and-both, not-to, none-under}
+use Rattle.board.proofs.Laws.View.{View, view, view-mark}
+use Rattle.board.proofs.Invariant.{BeforeStore, storesLeft, WorkerInv, Touches, Inv}
+use Rattle.board.proofs.Laws.Taken.{standsAt, passed, afterTaken, workers-in}
+use Rattle.board.proofs.Keeps.OneCell.{cell-inv, list-inv, only-none, Change, changedRun, Ready, ready, one-cell}
+
+-- ---- what the passed tests say
+
+-- An update of the cell is seen by the test for it.
+touch-seen : (k : Condition) (c : ℕ) → Touches k c → updates (eqb c) k ≡ true
+touch-seen Free c t = absurd t
+touch-seen Waiting c t = absurd t
+touch-seen (Updating d v next) c t = eq-eqb c d (sym t)
+
+-- No other worker has an unfinished update of the cell.
+alone : (s : State) (w c : ℕ) → s .workers ≤ 8 → othersUpdate s w c ≡ false → (u : ℕ) → u < s .workers → (w ≡ u → ⊥) → Touches (conditionOf s u) c → ⊥
+alone s w c h e u b o t =
+    clash (touch-seen (conditionOf s u) c t)
+    (and-not (ltb u (s .workers) && not (eqb u w)) (updates (eqb c) (conditionOf s u))
+    (none-under 8 (λ i. ltb i (s .workers) && not (eqb i w) && updates (eqb c) (conditionOf s i)) e u (omega arith))
+    (and-both (ltb u (s .workers)) (not (eqb u w)) (lt-ltb u (s .workers) b) (not-to (eqb u w) (ne-eqb u w (λ p. o (sym p))))))
+
+-- ---- the start
+
+-- An update's first store is decided by the mark, and the machine counts the stores alike.
+first-store : (t : Bool) (e : ℕ) (v : View) (c x : ℕ) → t ≡ eqb (v .mark) e → (update c x (cond t 1 3) ≡ update c x (storesLeft (cond t Record Backup))) × BeforeStore (cond t Record Backup) e v
+first-store true e v c x p = (refl, eqb-true (v .mark) e (sym p))
+first-store false e v c x p = (refl, eqb-false (v .mark) e (sym p))
+
+-- The worker after the start.
+started-worker : (l c v : ℕ) (cache : List ℕ) (marked : Bool) → c < cells l → marked ≡ logged cache c → WorkerInv l cache (Updating c v (firstStore cache c)) (update c v (cond marked 1 3))
+started-worker l c v cache marked h e =
+    let first = first-store (logged cache c) (epochOf cache) (view cache c) c v (ap (λ (k : ℕ). eqb k (epochOf cache)) (view-mark cache c)) in
+    (ap (λ (t : Bool). update c v (cond t 1 3)) e ∙ first .0, h, first .1)
+
+-- What the start of an update of cell `c` leaves.
+abbrev starting : ℕ → ℕ → ℕ → Board → Machine → Change
+starting w c v b m =
+    record { worker = w; cell = c; condition = Updating c v (firstStore (b .cache) c); listed = b .state .listed; cache = b .cache; entries = b .entries; current = m .current; marked = m .marked; unfinished = update c v (cond (m .marked c) 1 3) }
+
+-- The start of an update of a cell that no other worker updates.
+start : (r : Run) (w c v : ℕ) (dark : Bool) → Inv r → Ready r w → c < cells (r .machine .lines) → othersUpdate (r .board .state) w c ≡ false → Inv (changedRun (starting w c v (r .board) (r .machine)) dark r)
+start r w c v dark inv now h e =
+    let b = r .board in
+    let m = r .machine in
+    let same : m .marked c ≡ logged (b .cache) c = now .stage .marks c h ∙ ap₂ eqb (sym (view-mark (b .cache) c)) (sym (now .stage .epochs)) in
+    one-cell r (starting w c v b m) dark inv now
+    (record {
+      only = only-none c (b .cache);
+      currents = λ d o. refl;
+      marks = λ d o. refl;
+      here = cell-inv (now .run) (now .stage) c h;
+      list = list-inv (now .run) (now .stage);
+      size = refl;
+      worker = started-worker (m .lines) c v (b .cache) (m .marked c) h same;
+      own = λ d t. t;
+      alone = alone (b .state) w c (workers-in (m .lines) (b .state .workers) (now .run .workers) .1) e;
+    })
+
+-- A taken start of an update.
+pub keeps-update : (r : Run) (w c v : ℕ) → Inv r → r .dark ≡ false → Taken (Update w c v) (r .board) → Inv (afterTaken (Update w c v) r)
+unfolding standsAt causes effect feed
+keeps-update r w c v inv dark t =
+    let s = r .board .state in
+    let pass = passed (Update w c v) (r .board) t in
+    let now = ready r w isFree refl inv dark (pass 2) (pass 6) (pass 8) in
+    let inside : c < cells (s .lines) = leb-false (cells (s .lines)) c (or-right (ltb c (s .workers)) (leb (cells (s .lines)) c) (pass 7)) in
+    start r w c v _ inv now (subst (λ (l : ℕ). c < cells l) (now .run .lines) inside) (pass 9)
+
+-- A taken start of a restart point.
+pub keeps-restart : (r : Run) (w v : ℕ) → Inv r → r .dark ≡ false → Taken (RestartPoint w v) (r .board) → Inv (afterTaken (RestartPoint w v) r)
+unfolding standsAt causes effect feed
+keeps-restart r w v inv dark t =
+    let s = r .board .state in
+    let pass = passed (RestartPoint w v) (r .board) t in
+    let now = ready r w isFree refl inv dark (pass 2) (pass 6) (pass 8) in
+    start r w w v _ inv now (omega (arith, now .under, workers-in (r .machine .lines) (s .workers) (now .run .workers) .2)) (pass 9)

@@ -1,0 +1,8 @@
+-- Laws that every proof here leans on.
+pub mod Bools
+pub mod Count
+pub mod View
+pub mod Rows
+pub mod Taken
+pub mod Idle
+pub mod Reading

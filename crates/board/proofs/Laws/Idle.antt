@@ -1,0 +1,69 @@
+-- Workers all free; and that a step of a format or recovery is then taken.
+use Prim.Native.Nat.{ℕ, zero, suc, _<_}
+use mathlib.Core.Path.{_≡_, refl, sym, ap, subst, _∙_}
+use mathlib.Core.List.{List}
+use mathlib.Core.Bool.{Bool, false, not, _&&_, _||_}
+use native.Mathlib.Omega.{arith}
+use lib.Dec.{leb, ltb, eqb}
+use lib.ListN.{getD, replicate}
+use Rattle.board.specs.declared.State.{State}
+use Rattle.board.specs.declared.Worker.{Worker}
+use Rattle.board.specs.declared.Condition.the-variants.{Free}
+use Rattle.board.specs.declared.Call.the-variants.{Step}
+use Rattle.board.specs.Board.{Board, cells, workersOutside}
+use Rattle.board.specs.State.{freeWorker, allFree, conditionOf, isOff, isRunning, isWaiting, updates, anyWorker}
+use Rattle.board.specs.Causes.{causes, placePast, badRows, badEntry, checkpointing, epochSpent}
+use Rattle.board.specs.Next.{next}
+use Rattle.board.specs.Sequence.{Taken}
+use Rattle.board.specs.Statements.{stepsFrom, AllTaken, EndsIn}
+use Rattle.board.proofs.Laws.Bools.{or-none, and-off}
+use Rattle.board.proofs.Invariant.{Sizes}
+use Rattle.board.proofs.Laws.Taken.{Clear, take, rows-fine, record-fine}
+
+-- A row of one thing has it at every place.
+all-alike : (n i : ℕ) (a : Worker) → getD (replicate n a) i a ≡ a
+all-alike zero i a = refl
+all-alike (suc n) zero a = refl
+all-alike (suc n) (suc i) a = all-alike n i a
+
+-- Where all eight workers are free, each is.
+pub free-condition : (s : State) (w : ℕ) → s .worker ≡ allFree → conditionOf s w ≡ Free
+free-condition s w e =
+    ap (λ (ws : List Worker). getD ws w freeWorker .condition) e ∙ ap (λ (k : Worker). k .condition) (all-alike 8 w freeWorker)
+
+-- Of three tests the first fails, so not all hold.
+three-off : (a b c : Bool) → a ≡ false → a && b && c ≡ false
+three-off a b c e = and-off (a && b) c (and-off a b e)
+
+-- On a board that is on and not running, with an empty list and all workers free, a step is taken while its place is within bounds.
+pub idle-step-taken : (l : ℕ) (b : Board) → Sizes l b → b .state .lines ≡ l → workersOutside l (b .state .workers) ≡ false → b .state .listed ≡ 0 → b .state .worker ≡ allFree → isOff (b .state .phase) ≡ false → isRunning (b .state .phase) ≡ false → placePast (b .state .phase) (b .state) ≡ false → Taken Step b
+unfolding Clear causes
+idle-step-taken l b z lines workers empty free on idle place =
+    let s = b .state in
+    let none : checkpointing s ≡ false = and-off (isRunning (s .phase)) (s .requested) idle in
+    take Step b (
+      on,
+      (
+        record-fine l s lines (z .limits) workers (omega arith) place
+            (λ w h. ap (updates (leb (cells l))) (free-condition s w free)),
+        (
+          or-none (badRows (s .lines) b) (badEntry b)
+              (rows-fine (s .lines) b (subst (λ (k : ℕ). Sizes k b) (sym lines) z))
+              (three-off (checkpointing s) (ltb (s .place) (s .listed)) (leb (cells (s .lines)) (getD (b .entries) (s .place) 0)) none),
+          (
+            and-off (isRunning (s .phase)) (not (s .requested) || anyWorker s (λ condition. not (isWaiting condition))) idle,
+            (
+              three-off (checkpointing s) (eqb (s .place) (s .listed)) (epochSpent b) none,
+              tt,
+            ),
+          ),
+        ),
+      ),
+    )
+
+-- One more step: it is taken, and the rest ends.
+pub ends-more : (n : ℕ) (b d : Board) → Taken Step b → next Step b ≡ d → EndsIn n d → EndsIn (suc n) b
+unfolding stepsFrom AllTaken
+ends-more n b d t e h =
+    let rest = subst (λ (x : Board). EndsIn n x) (sym e) h in
+    ((t, rest .0), rest .1, rest .2)

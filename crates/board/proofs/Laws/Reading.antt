@@ -1,0 +1,84 @@
+-- A running board takes every read, and gives the machine's current value.
+use Prim.Native.Nat.{ℕ, _+_, _≤_, _<_}
+use mathlib.Core.Path.{_≡_, refl, sym, ap, subst, _∙_}
+use mathlib.Core.Bool.{Bool, true, false, cond, not, _&&_}
+use native.Mathlib.Omega.{arith}
+use lib.Dec.{leb, ltb}
+use lib.ListN.{length}
+use borrow.Author.Tests.{eq-eqb, le-ltb, lt-leb, leb-false}
+use Rattle.line.specs.Cell.{fieldOf}
+use Rattle.line.specs.declared.Field.{Field}
+use Rattle.board.specs.declared.State.{State}
+use Rattle.board.specs.declared.Condition.{Condition}
+use Rattle.board.specs.declared.Condition.the-variants.{Free, Waiting, Updating}
+use Rattle.board.specs.declared.Phase.{Phase}
+use Rattle.board.specs.declared.Phase.the-variants.{Running}
+use Rattle.board.specs.declared.Call.{Call}
+use Rattle.board.specs.declared.Call.the-variants.{Read}
+use Rattle.board.specs.Board.{Board, cells, linesOutside}
+use Rattle.board.specs.State.{conditionOf, updates, isRunning}
+use Rattle.board.specs.Causes.{causes, cause, badRecord, badRows, placePast}
+use Rattle.board.specs.Next.{taken, valueRead}
+use Rattle.board.specs.Machine.{Machine, Unfinished}
+use Rattle.board.specs.Sequence.{Taken, Run}
+use Rattle.board.proofs.Laws.Bools.{split, chosen, and-off, and-off-right, not-on}
+use Rattle.board.proofs.Laws.View.{view, view-value}
+use Rattle.board.proofs.Invariant.{Inv, InPhase, RunningInv, Stage, early, gap, late, WorkerInv, progress}
+use Rattle.board.proofs.Laws.Count.{count-most}
+use Rattle.board.proofs.Laws.Taken.{Clear, take, rows-fine, record-fine}
+
+-- A checkpoint's place is at most two past the list.
+place-in : (l : ℕ) (b : Board) (m : Machine) → Stage l b m → b .state .requested ≡ true → b .state .place ≤ b .state .listed + 2
+place-in l b m (early e) q =
+    let p : progress (b .state) ≡ b .state .place = chosen (b .state .requested) (b .state .place) 0 q in
+    omega (arith, e .within, p)
+place-in l b m (gap g) q = omega (arith, g .place)
+place-in l b m (late k) q = k .high
+
+-- An unfinished update has a cell of the board.
+cell-fine : (l : ℕ) (b : Board) (k : Condition) (u : Unfinished) → WorkerInv l (b .cache) k u → updates (leb (cells l)) k ≡ false
+cell-fine l b Free u i = refl
+cell-fine l b Waiting u i = refl
+cell-fine l b (Updating c v next) u i = lt-leb (cells l) c (i .1)
+
+-- The state record of a running board passes its test.
+pub running-record : (l : ℕ) (b : Board) (m : Machine) → linesOutside l ≡ false → b .state .phase ≡ Running → RunningInv l b m → m .lines ≡ l → badRecord (b .state) ≡ false
+running-record l b m lo p i n =
+    record-fine l (b .state) (i .lines) lo (i .workers)
+    (let h = count-most (cells (m .lines)) (m .marked) in omega (arith, i .count, n))
+    (subst (λ (ph : Phase). placePast ph (b .state) ≡ false) (sym p)
+    (split (b .state .requested)
+    (λ q. and-off-right (b .state .requested) (ltb (b .state .listed + 2) (b .state .place)) (le-ltb (b .state .listed + 2) (b .state .place) (place-in l b m (i .stage) q)))
+    (λ q. and-off (b .state .requested) (ltb (b .state .listed + 2) (b .state .place)) q)))
+    (λ w h. cell-fine l b (conditionOf (b .state) w) (m .unfinished w) (i .worker w h))
+
+-- What holds in the phase that is known.
+pub in-phase : (r : Run) → Inv r → r .dark ≡ false → (p : Phase) → r .board .state .phase ≡ p → InPhase p r
+in-phase r i d p e = subst (λ (q : Phase). InPhase q r) e (i .phase d)
+
+-- The value of a read that is taken.
+pub value-taken : (c : ℕ) (b : Board) → Taken (Read c) b → valueRead c b ≡ view (b .cache) c .value
+unfolding valueRead
+value-taken c b t =
+    chosen (taken (Read c) b) (fieldOf (b .cache) c Field.Record) 0 (eq-eqb (cause (Read c) b) 0 t) ∙ view-value (b .cache) c
+
+-- A running board takes the read of every cell.
+pub read-taken : (r : Run) → Inv r → r .dark ≡ false → r .board .state .phase ≡ Running → (c : ℕ) → c < cells (r .machine .lines) → Taken (Read c) (r .board)
+unfolding Clear causes
+read-taken r i d p c h =
+    let v : RunningInv (r .machine .lines) (r .board) (r .machine) = in-phase r i d Running p .0 in
+    let lines : r .board .state .lines ≡ r .machine .lines = v .lines in
+    take (Read c) (r .board) (
+      not-on (isRunning (r .board .state .phase)) (ap isRunning p),
+      (
+        running-record (r .machine .lines) (r .board) (r .machine) (i .sizes .limits) p v refl,
+        (
+          subst (λ (l : ℕ). badRows l (r .board) ≡ false) (sym lines) (rows-fine (r .machine .lines) (r .board) (i .sizes)),
+          (lt-leb (cells (r .board .state .lines)) c (omega (arith, lines)), tt),
+        ),
+      ),
+    )
+
+-- A running board reads the machine's current values.
+pub read-current : (r : Run) → Inv r → r .dark ≡ false → r .board .state .phase ≡ Running → (c : ℕ) → c < cells (r .machine .lines) → valueRead c (r .board) ≡ r .machine .current c
+read-current r i d p c h = value-taken c (r .board) (read-taken r i d p c h) ∙ in-phase r i d Running p .0 .current c h

@@ -1,0 +1,129 @@
+-- A recovery's step by cases, and what every state record of a recovery has.
+use Prim.Native.Nat.{ℕ, zero, suc, _+_, _-_, _/_, _%_, _≤_, _<_}
+use mathlib.Core.Path.{_≡_, refl, sym, ap, subst, _∙_}
+use mathlib.Core.List.{List}
+use mathlib.Core.Bool.{true, false, not, _&&_, _||_}
+use native.Mathlib.Omega.{arith}
+use lib.Dec.{leb, ltb, eqb}
+use lib.ListN.{length, getD, replicate}
+use borrow.Author.Tests.{ltb-true, ltb-false, leb-true, eqb-true, eqb-false, le-leb}
+use Rattle.line.specs.Cell.{cellLine}
+use Rattle.board.specs.declared.State.{State}
+use Rattle.board.specs.declared.Worker.{Worker}
+use Rattle.board.specs.declared.Condition.the-variants.{Free}
+use Rattle.board.specs.declared.UndoStep.{UndoStep}
+use Rattle.board.specs.declared.UndoStep.the-variants.{Restore, Unmark, WriteLine}
+use Rattle.board.specs.declared.Phase.{Phase}
+use Rattle.board.specs.declared.Phase.the-variants.{Recovering}
+use Rattle.board.specs.declared.Call.the-variants.{RecoveryStart, Step}
+use Rattle.board.specs.Board.{Board, cells, rowWords, listWords, linesOutside, workersOutside, epochOf, linesOf, workersOf, restNotZero}
+use Rattle.board.specs.State.{freeWorker, allFree, conditionOf, placed, opened}
+use Rattle.board.specs.Effects.{cached, stated, backed, logged, restored, unmarked, pastCell, recoveryStep, step, effect}
+use Rattle.board.specs.Causes.{causes}
+use Rattle.board.specs.Sequence.{Taken}
+use Rattle.board.proofs.Laws.Bools.{on, or-left, or-right, and-left, and-right, and-both, not-off, not-on}
+use Rattle.board.proofs.Invariant.{Sizes}
+use Rattle.board.proofs.Laws.Idle.{free-condition}
+use Rattle.board.proofs.Laws.Taken.{standsAt, passed, lines-in}
+
+-- ---- the step by cases
+
+-- What holds of each outcome of a recovery's step holds of what the step leaves.
+pub recovery-cases {ℓ} : (P : Board → Type ℓ) (b : Board) → b .state .phase ≡ Recovering →
+    (b .state .undo ≡ Restore → logged (b .cache) (b .state .place) ≡ true → P (cached (restored (b .cache) (b .state .place)) (placed (b .state) (b .state .place) Unmark) b)) →
+    (b .state .undo ≡ Restore → logged (b .cache) (b .state .place) ≡ false → P (stated (pastCell (b .state)) b)) →
+    (b .state .undo ≡ Unmark → P (cached (unmarked (b .cache) (b .state .place)) (placed (b .state) (b .state .place) WriteLine) b)) →
+    (b .state .undo ≡ WriteLine → P (backed (cellLine (b .state .place)) (pastCell (b .state)) b)) →
+    P (effect Step b)
+unfolding effect step recoveryStep
+recovery-cases P b e restores passes unmarks writes =
+    subst (λ (p : Phase). P (step p (b .state) b)) (sym e) (go (b .state .undo) refl)
+  where
+    go : (u : UndoStep) → b .state .undo ≡ u → P (recoveryStep u (b .state) b)
+    go Restore q = on P (logged (b .cache) (b .state .place)) _ _ (restores q) (passes q)
+    go Unmark q = unmarks q
+    go WriteLine q = writes q
+
+-- Past a cell a recovery goes on to the next one, or ends.
+pub past-cases {ℓ} : (P : State → Type ℓ) (s : State) →
+    (s .place + 1 < cells (s .lines) → P (placed s (s .place + 1) Restore)) →
+    (cells (s .lines) ≤ s .place + 1 → P (opened s (s .listed))) →
+    P (pastCell s)
+past-cases P s f g =
+    on P (ltb (s .place + 1) (cells (s .lines))) _ _ (λ t. f (ltb-true _ _ t)) (λ t. g (ltb-false _ _ t))
+
+-- ---- the state record
+
+-- What the state record of a recovery on a board of `l` lines has, and the one that it ends in.
+pub record Underway (l : ℕ) (s : State) : Type 0 where
+  pub lines : s .lines ≡ l
+  pub workers : workersOutside l (s .workers) ≡ false
+  pub listed : s .listed ≡ 0
+  pub request : s .requested ≡ false
+  pub free : s .worker ≡ allFree
+  pub within : s .place < cells l
+
+-- The record with another place has it.
+pub underway-placed : {l : ℕ} {s : State} (place : ℕ) (undo : UndoStep) → place < cells l → Underway l s → Underway l (placed s place undo)
+underway-placed place undo h u =
+    record { lines = u .lines; workers = u .workers; listed = u .listed; request = u .request; free = u .free; within = h }
+
+-- The record that a recovery ends in has it.
+pub underway-opened : {l : ℕ} {s : State} → 0 < cells l → Underway l s → Underway l (opened s (s .listed))
+underway-opened h u =
+    record { lines = u .lines; workers = u .workers; listed = u .listed; request = u .request; free = refl; within = h }
+
+-- Every worker is free.
+pub all-free : {l : ℕ} {s : State} → Underway l s → (w : ℕ) → conditionOf s w ≡ Free
+all-free {s = s} u w = free-condition s w (u .free)
+
+-- A board within the limits has a cell.
+pub some-cell : (l : ℕ) → linesOutside l ≡ false → 0 < cells l
+some-cell l e = omega (arith, lines-in l e)
+
+-- ---- a taken start
+
+-- What memory's header has where a recovery start is taken.
+pub started-header : (b : Board) → Taken RecoveryStart b →
+    (epochOf (b .memory) ≡ 0 → ⊥) × (linesOf (b .memory) ≡ length (b .memory) / 8 - 1) × (workersOutside (linesOf (b .memory)) (workersOf (b .memory)) ≡ false)
+unfolding standsAt causes
+started-header b t =
+    let epoch = eqb (epochOf (b .memory)) 0 in
+    let lines = eqb (linesOf (b .memory)) (length (b .memory) / 8 - 1) in
+    let workers = workersOutside (linesOf (b .memory)) (workersOf (b .memory)) in
+    let upTo3 : epoch || not lines || workers ≡ false = or-left (epoch || not lines || workers) (restNotZero (b .memory)) (passed RecoveryStart b t 5) in
+    let upTo2 : epoch || not lines ≡ false = or-left (epoch || not lines) workers upTo3 in
+    (eqb-false _ _ (or-left epoch (not lines) upTo2), eqb-true _ _ (not-off lines (or-right epoch (not lines) upTo2)), or-right (epoch || not lines) workers upTo3)
+
+-- What the rows' lengths are where a recovery start is taken on memory of `l` lines.
+started-lengths : (m k n l : ℕ) → not (eqb (m % 8) 0 && leb 16 m && leb m 4096) || not (eqb k m) || ltb n (m / 4 - 2) ≡ false → l ≡ m / 8 - 1 →
+    (1 ≤ l) × (l ≤ 511) × (m ≡ rowWords l) × (k ≡ rowWords l) × (listWords l ≤ n)
+started-lengths m k n l e q =
+    let whole = eqb (m % 8) 0 in
+    let low = leb 16 m in
+    let high = leb m 4096 in
+    let same = eqb k m in
+    let short = ltb n (m / 4 - 2) in
+    let both : not (whole && low && high) || not same ≡ false = or-left (not (whole && low && high) || not same) short e in
+    let three : whole && low && high ≡ true = not-off (whole && low && high) (or-left (not (whole && low && high)) (not same) both) in
+    let two : whole && low ≡ true = and-left (whole && low) high three in
+    omega (
+      arith,
+      ltb-false n (m / 4 - 2) (or-right (not (whole && low && high) || not same) short e),
+      eqb-true k m (not-off same (or-right (not (whole && low && high)) (not same) both)),
+      leb-true m 4096 (and-right (whole && low) high three),
+      leb-true 16 m (and-right whole low two),
+      eqb-true (m % 8) 0 (and-left whole low two),
+    )
+
+-- A taken recovery start leaves rows of the lengths that the header's L asks.
+pub started-sizes : (b : Board) → Taken RecoveryStart b → Sizes (linesOf (b .memory)) (effect RecoveryStart b)
+unfolding standsAt causes effect
+started-sizes b t =
+    let z = started-lengths (length (b .memory)) (length (b .cache)) (length (b .entries)) (linesOf (b .memory)) (passed RecoveryStart b t 4) (started-header b t .1) in
+    record {
+      limits = not-on (leb 1 (linesOf (b .memory)) && leb (linesOf (b .memory)) 511) (and-both (leb 1 (linesOf (b .memory))) (leb (linesOf (b .memory)) 511) (le-leb _ _ (z .0)) (le-leb _ _ (z .1)));
+      memory = record { size = z .2 };
+      cache = record { size = z .2 };
+      entries = z .4;
+    }

@@ -1,0 +1,183 @@
+-- A finished recovery: whatever other calls stand among its steps, the board then reads the values it was started for.
+use Prim.Native.Nat.{ℕ, zero, suc, _+_, _≤_, _<_}
+use mathlib.Core.Path.{_≡_, refl, sym, ap, subst, _∙_}
+use mathlib.Core.Logic.{_⊎_, inl, inr, ⊎-elim}
+use mathlib.Core.List.{List}
+use mathlib.Core.Bool.{Bool, true, false, cond, not, _&&_, true≢false}
+use native.Mathlib.Omega.{arith}
+use native.Mathlib.Numerals.{add-one}
+use lib.Dec.{leb, eqb}
+use Rattle.board.specs.declared.Phase.{Phase}
+use Rattle.board.specs.declared.Phase.the-variants.{Recovering, Running}
+use Rattle.board.specs.declared.Call.{Call}
+use Rattle.board.specs.declared.Call.the-variants.{FormatStart, RecoveryStart, Step, Update, RestartPoint, Advance, Request, WriteBack, Read}
+use Rattle.board.specs.Board.{Board, cells}
+use Rattle.board.specs.State.{isRunning}
+use Rattle.board.specs.Causes.{causes}
+use Rattle.board.specs.Effects.{effect}
+use Rattle.board.specs.Next.{next, valueRead, Kind, start, stepping, other, kind, isStart, isStep}
+use Rattle.board.specs.Machine.{Machine, feed, stepped, finishesFormat, beginning, counted, completed, checkpointStep, writeBackSeen, markedCount}
+use Rattle.board.specs.Sequence.{Taken, Event, call, Run, after, Allowed, Takes, finished, steps, between, recoverySteps}
+use Rattle.board.specs.Statements.{ReadsCheckpointed, Recovered}
+use Rattle.board.proofs.Laws.Bools.{on, clash, and-off, and-off-right, passedOver}
+use Rattle.board.proofs.Invariant.{Inv, RecoveryInv, RecoveryMachine}
+use Rattle.board.proofs.Laws.Taken.{standsAt, passed, taken-next, refused-next, afterTaken}
+use Rattle.board.proofs.Keeps.Every.{by-answer}
+use Rattle.board.proofs.Laws.Reading.{in-phase, read-taken, read-current}
+use Rattle.board.proofs.Recovery.Count.{remaining, remaining-start, remaining-step, remaining-positive}
+use Rattle.board.proofs.Keeps.RecoveryStart.{keeps-recovery-start}
+use Rattle.board.proofs.Keeps.RecoveryStep.{keeps-recovery-step}
+use Rattle.board.proofs.Keeps.WriteBack.{keeps-write-back}
+
+-- A run in the middle of a recovery that has `n` steps left and was started for the values `xs` of `l` lines.
+pub record Underway (n l : ℕ) (xs : ℕ → ℕ) (r : Run) : Type 0 where
+  pub inv : Inv r
+  pub light : r .dark ≡ false
+  pub phase : r .board .state .phase ≡ Recovering
+  pub left : remaining (r .board) ≡ n
+  pub lines : r .machine .lines ≡ l
+  pub values : (c : ℕ) → r .machine .current c ≡ xs c
+
+-- What is to be shown of the board after the last step.
+abbrev Done : ℕ → (ℕ → ℕ) → Board → Type 0
+Done l xs b = (c : ℕ) → c < cells l → Taken (Read c) b × (valueRead c b ≡ xs c)
+
+-- A running run with those values is done.
+done : (l : ℕ) (xs : ℕ → ℕ) (r : Run) → Inv r → r .dark ≡ false → r .board .state .phase ≡ Running → r .machine .lines ≡ l → ((c : ℕ) → r .machine .current c ≡ xs c) → Done l xs (r .board)
+done l xs r i d p e v c h =
+    let k : c < cells (r .machine .lines) = omega (arith, e) in
+    (read-taken r i d p c k, read-current r i d p c k ∙ v c)
+
+-- No steps, no change.
+takes-none : {b b′ : Board} {ks : List Call} → Takes zero b ks b′ → b ≡ b′
+takes-none finished = refl
+
+-- A recovery's step in the machine only counts.
+pub step-counts : (m : Machine) → m .requested ≡ false → m .formatting ≡ false → feed Step m ≡ counted m
+unfolding feed stepped
+step-counts m q f =
+    passedOver (m .requested) (checkpointStep m) (cond (finishesFormat m) (beginning (m .lines)) (counted m)) q
+    ∙ passedOver (finishesFormat m) (beginning (m .lines)) (counted m) (and-off (m .formatting) (eqb (m .steps + 1) (m .lines + 2)) f)
+
+-- A write-back leaves the machine's current values and its lines.
+back-current : (i : ℕ) (m : Machine) (c : ℕ) → feed (WriteBack i) m .current c ≡ m .current c
+unfolding feed writeBackSeen
+back-current i m c =
+    on (λ (n : Machine). n .current c ≡ m .current c) (eqb i 0 && m .requested && leb (markedCount m + 1) (m .steps)) (completed m) m (λ t. refl) (λ t. refl)
+
+back-lines : (i : ℕ) (m : Machine) → feed (WriteBack i) m .lines ≡ m .lines
+unfolding feed writeBackSeen
+back-lines i m =
+    on (λ (n : Machine). n .lines ≡ m .lines) (eqb i 0 && m .requested && leb (markedCount m + 1) (m .steps)) (completed m) m (λ t. refl) (λ t. refl)
+
+-- A write-back leaves what a recovery goes by.
+remaining-back : (i : ℕ) (b : Board) → remaining (effect (WriteBack i) b) ≡ remaining b
+unfolding effect
+remaining-back i b = refl
+
+phase-back : (i : ℕ) (b : Board) → effect (WriteBack i) b .state .phase ≡ b .state .phase
+unfolding effect
+phase-back i b = refl
+
+-- The place of a recovery is a cell's.
+place-within : (r : Run) → Inv r → r .dark ≡ false → r .board .state .phase ≡ Recovering → r .board .state .place < cells (r .board .state .lines)
+place-within r i d p =
+    let v : RecoveryInv (r .machine .lines) (r .machine .checkpointed) (r .board) = in-phase r i d Recovering p .0 in
+    omega (arith, v .within, v .lines)
+
+-- A recovery has a step left, so none is not all of it.
+some-left : {l : ℕ} {xs : ℕ → ℕ} (r : Run) → Underway zero l xs r → ⊥
+some-left r u =
+    omega (arith, remaining-positive (r .board) (place-within r (u .inv) (u .light) (u .phase)), u .left)
+
+-- Every call of a running board is refused in a recovery.
+not-running : (k : Call) (b : Board) → b .state .phase ≡ Recovering → (Taken k b → not (isRunning (b .state .phase)) ≡ false) → Taken k b → ⊥
+not-running k b p f t = clash (ap (λ (q : Phase). not (isRunning q)) p) (f t)
+
+module _ (l : ℕ) (xs : ℕ → ℕ) where
+  -- After a taken step of the recovery one step fewer is left, or it was the last and the board is done.
+  stepped-on : (n : ℕ) (r : Run) → Underway (suc n) l xs r → Taken Step (r .board) → Underway n l xs (afterTaken Step r) ⊎ ((n ≡ 0) × Done l xs (effect Step (r .board)))
+  stepped-on n r u t = go (remaining-step (r .board) (u .phase) (place-within r (u .inv) (u .light) (u .phase)))
+    where
+      known : RecoveryInv (r .machine .lines) (r .machine .checkpointed) (r .board) × RecoveryMachine (r .machine) × (r .erased ≡ false)
+      known = in-phase r (u .inv) (u .light) Recovering (u .phase)
+
+      machine : feed Step (r .machine) ≡ counted (r .machine)
+      machine = step-counts (r .machine) (known .1 .request) (known .1 .formatting)
+
+      inv : Inv (afterTaken Step r)
+      inv = keeps-recovery-step r (u .inv) (u .light) (u .phase) t
+
+      light : afterTaken Step r .dark ≡ false
+      light = and-off (r .dark) true (u .light)
+
+      lines : afterTaken Step r .machine .lines ≡ l
+      lines = ap (λ (m : Machine). m .lines) machine ∙ u .lines
+
+      values : (c : ℕ) → afterTaken Step r .machine .current c ≡ xs c
+      values c = ap (λ (m : Machine). m .current c) machine ∙ u .values c
+
+      go : ((effect Step (r .board) .state .phase ≡ Recovering) × (remaining (effect Step (r .board)) + 1 ≡ remaining (r .board))) ⊎ ((effect Step (r .board) .state .phase ≡ Running) × (remaining (r .board) ≡ 1)) → Underway n l xs (afterTaken Step r) ⊎ ((n ≡ 0) × Done l xs (effect Step (r .board)))
+      go (inl x) =
+          inl (record { inv = inv; light = light; phase = x .0; left = omega (arith, x .1, u .left); lines = lines; values = values })
+      go (inr x) =
+          inr (omega (arith, x .1, u .left), done l xs (afterTaken Step r) inv light (x .0) lines values)
+
+  -- A call other than a start or step that is taken in a recovery is a write-back, which leaves it underway.
+  goes-on : (n : ℕ) (k : Call) (r : Run) → Underway n l xs r → Taken k (r .board) → kind k ≡ other → Underway n l xs (afterTaken k r)
+  unfolding standsAt causes
+  goes-on n (FormatStart k w) r u t e = absurd (true≢false (ap isStart e))
+  goes-on n RecoveryStart r u t e = absurd (true≢false (ap isStart e))
+  goes-on n Step r u t e = absurd (true≢false (ap isStep e))
+  goes-on n (Update w c v) r u t e = absurd (not-running (Update w c v) (r .board) (u .phase) (λ t. passed (Update w c v) (r .board) t 2) t)
+  goes-on n (RestartPoint w v) r u t e = absurd (not-running (RestartPoint w v) (r .board) (u .phase) (λ t. passed (RestartPoint w v) (r .board) t 2) t)
+  goes-on n (Advance w) r u t e = absurd (not-running (Advance w) (r .board) (u .phase) (λ t. passed (Advance w) (r .board) t 2) t)
+  goes-on n Request r u t e = absurd (not-running Request (r .board) (u .phase) (λ t. passed Request (r .board) t 2) t)
+  goes-on n (WriteBack i) r u t e =
+      record {
+        inv = keeps-write-back r i (u .inv) (u .light) t;
+        light = and-off (r .dark) true (u .light);
+        phase = phase-back i (r .board) ∙ u .phase;
+        left = remaining-back i (r .board) ∙ u .left;
+        lines = back-lines i (r .machine) ∙ u .lines;
+        values = λ c. back-current i (r .machine) c ∙ u .values c;
+      }
+  goes-on n (Read c) r u t e = absurd (not-running (Read c) (r .board) (u .phase) (λ t. passed (Read c) (r .board) t 2) t)
+
+  -- To the last step, and the board is done.
+  to-the-end : {n : ℕ} {ks : List Call} {b b′ : Board} → Takes n b ks b′ → (r : Run) → r .board ≡ b → Underway n l xs r → Done l xs b′
+  to-the-end finished r e u = absurd (some-left r u)
+  to-the-end (steps {n = n} {b = b} {ks = ks} {b′ = b′} t rest) r e u =
+      ⊎-elim
+      (λ v. to-the-end rest (afterTaken Step r) now v)
+      (λ v. subst (Done l xs) (now ∙ takes-none (subst (λ (j : ℕ). Takes j (next Step b) ks b′) (v .0) rest)) (v .1))
+      (stepped-on n r u (subst (Taken Step) (sym e) t))
+    where
+      now : effect Step (r .board) ≡ next Step b
+      now = ap (effect Step) e ∙ sym (taken-next Step b t)
+  to-the-end (between {n = n} {k = k} {b = b} f rest) r e u =
+      by-answer k b
+      (λ t. to-the-end rest (afterTaken k r) (ap (effect k) e ∙ sym (taken-next k b t)) (goes-on (suc n) k r u (subst (Taken k) (sym e) t) (f t)))
+      (λ o. to-the-end rest r (e ∙ sym (refused-next k b o)) u)
+
+phase-start : (b : Board) → effect RecoveryStart b .state .phase ≡ Recovering
+unfolding effect
+phase-start b = refl
+
+-- A recovery's start leaves it underway, with all the steps that memory calls for.
+begun : (r : Run) → Inv r → Taken RecoveryStart (r .board) → Underway (recoverySteps (r .board .memory)) (r .machine .lines) (r .machine .checkpointed) (afterTaken RecoveryStart r)
+unfolding feed
+begun r i t =
+    record {
+      inv = keeps-recovery-start r i t;
+      light = and-off-right (r .dark) false refl;
+      phase = phase-start (r .board);
+      left = remaining-start (r .board);
+      lines = refl;
+      values = λ c. refl;
+    }
+
+-- After a finished recovery every cell reads the value checkpointed at its start.
+pub recovers : (r : Run) → Inv r → (b : Board) → Recovered r b → ReadsCheckpointed (r .machine) b
+recovers r i b e =
+    to-the-end (r .machine .lines) (r .machine .checkpointed) (e .ended) (afterTaken RecoveryStart r) (sym (taken-next RecoveryStart (r .board) (e .begun))) (begun r i (e .begun))
