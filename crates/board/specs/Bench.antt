@@ -11,7 +11,7 @@ use Rattle.board.specs.declared.Phase.{Phase}
 use Rattle.board.specs.declared.Phase.the-variants.{Off, Formatting, Recovering, Running}
 use Rattle.board.specs.declared.Call.{Call}
 use Rattle.board.specs.declared.Call.the-variants.{FormatStart, RecoveryStart, Step, Update, RestartPoint, Advance, Request, WriteBack, Read}
-use Rattle.board.specs.Board.{Board, rowWords, listWords, lastEpoch}
+use Rattle.board.specs.Board.{Board, rowWords, listWords}
 use Rattle.board.specs.State.{started, opened, isRunning}
 use Rattle.board.specs.Causes.{cause}
 use Rattle.board.specs.Next.{taken, next, valueRead}
@@ -144,8 +144,8 @@ table =
     ∷ from 9 (blankFor 1) (calls8 5 ++ recovery 2) (reads 1 7 ∷ [])
     ∷ from 10 (blankFor 1) (calls8 3 ++ recovery 6) (reads 0 0 ∷ reads 1 0 ∷ [])
     ∷ from 10 (blankFor 1) (calls8 3 ++ (WriteBack 0 ∷ recovery 2)) (reads 1 7 ∷ [])
-    ∷ from 11 (runningAt lastEpoch) [] (answers Request 11 ∷ [])
-    ∷ from 11 (runningAt (lastEpoch - 1)) [] (answers Request 0 ∷ [])
+    ∷ from 11 (runningAt (2 ^ 64 - 1)) [] (answers Request 11 ∷ [])
+    ∷ from 11 (runningAt (2 ^ 64 - 2)) [] (answers Request 0 ∷ [])
     ∷ []
 
 -- Every case of a table holds.
