@@ -58,16 +58,16 @@ recoveredBoard = afterCalls recoveryCalls (next RecoveryStart (run .board))
 
 -- ---- it is lawful
 
--- A call leaves the light on.
-stays-light : (k : Call) (r : Run) → r .dark ≡ false → after (call k) r .dark ≡ false
+-- A call is no cut.
+stays-up : (k : Call) (r : Run) → r .crashed ≡ false → after (call k) r .crashed ≡ false
 unfolding after
-stays-light k r d = on (λ (x : Run). x .dark ≡ false) (taken k (r .board)) (takenCall k r) (refusedCall k r) (λ t. and-off (r .dark) (not (isStart (kind k))) d) (λ t. d)
+stays-up k r d = on (λ (x : Run). x .crashed ≡ false) (taken k (r .board)) (takenCall k r) (refusedCall k r) (λ t. and-off (r .crashed) (not (isStart (kind k))) d) (λ t. d)
 
 -- Calls alone are lawful, and so is a last cut that keeps the rows' lengths.
-lawful-calls : (ks : List Call) (r : Run) (es : List Event) → r .dark ≡ false → Lawful es (runs (map call ks) r) → Lawful (map call ks ++ es) r
+lawful-calls : (ks : List Call) (r : Run) (es : List Event) → r .crashed ≡ false → Lawful es (runs (map call ks) r) → Lawful (map call ks ++ es) r
 unfolding Lawful Allowed runs
 lawful-calls [] r es d h = h
-lawful-calls (k ∷ ks) r es d h = (λ e t. absurd (false≢true (sym d ∙ e)), lawful-calls ks (after (call k) r) es (stays-light k r d) h)
+lawful-calls (k ∷ ks) r es d h = (λ e t. absurd (false≢true (sym d ∙ e)), lawful-calls ks (after (call k) r) es (stays-up k r d) h)
 
 -- ---- taken steps, by a computed test
 

@@ -235,4 +235,4 @@ pub record Inv (r : Run) : Type 0 where
   -- in every phase memory gives the checkpointed values, or no format has finished since one began to erase it
   pub kept : r .erased ≡ false → Kept (r .machine .lines) (r .machine .checkpointed) (r .board .memory)
   pub lost : r .erased ≡ true → epochOf (r .board .memory) ≡ 0
-  pub phase : r .dark ≡ false → InPhase (r .board .state .phase) r
+  pub phase : r .crashed ≡ false → InPhase (r .board .state .phase) r

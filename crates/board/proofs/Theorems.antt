@@ -19,7 +19,7 @@ use Rattle.board.proofs.Invariant.{Inv}
 use Rattle.board.proofs.Laws.Taken.{standsAt, passed}
 use Rattle.board.proofs.Laws.Reading.{in-phase, read-taken, read-current}
 use Rattle.board.proofs.Checkpoint.Run.{is-running}
-use Rattle.board.proofs.Keeps.Every.{not-dark, reached-inv}
+use Rattle.board.proofs.Keeps.Every.{not-crashed, reached-inv}
 use Rattle.board.proofs.Recovery.Finishes.{recovers}
 use Rattle.board.proofs.Checkpoint.Completes.{completes}
 use Rattle.board.proofs.Recovery.Starts.{start-taken}
@@ -42,7 +42,7 @@ read-cell c b t = leb-false (cells (b .state .lines)) c (passed (Read c) b t 7)
 pub reads : Reads
 reads r h c a t =
     let i = reached-inv r h in
-    let d = not-dark (Read c) r a t refl in
+    let d = not-crashed (Read c) r a t refl in
     let p = is-running (r .board .state .phase) (read-running c (r .board) t) in
     let l : r .board .state .lines ≡ r .machine .lines = in-phase r i d Running p .0 .lines in
     read-current r i d p c (subst (λ (n : ℕ). c < cells n) l (read-cell c (r .board) t))
@@ -80,10 +80,10 @@ pub single-stores : SingleStores
 single-stores = Stores.single-stores
 
 pub spare-words : SpareWords
-spare-words r h = (reached-inv r h .spare, λ d f. light (r .board .state .phase) refl d f)
+spare-words r h = (reached-inv r h .spare, λ d f. spare-cache (r .board .state .phase) refl d f)
   where
-    light : (p : Phase) → r .board .state .phase ≡ p → r .dark ≡ false → isFormatting (r .board .state .phase) ≡ false → Rattle.board.specs.Statements.Spare (r .machine .lines) (r .board .cache)
-    light Off e d f = absurd (in-phase r (reached-inv r h) d Off e)
-    light Formatting e d f = absurd (true≢false (sym (ap isFormatting e) ∙ f))
-    light Recovering e d f = in-phase r (reached-inv r h) d Recovering e .0 .spare
-    light Running e d f = in-phase r (reached-inv r h) d Running e .0 .spare
+    spare-cache : (p : Phase) → r .board .state .phase ≡ p → r .crashed ≡ false → isFormatting (r .board .state .phase) ≡ false → Rattle.board.specs.Statements.Spare (r .machine .lines) (r .board .cache)
+    spare-cache Off e d f = absurd (in-phase r (reached-inv r h) d Off e)
+    spare-cache Formatting e d f = absurd (true≢false (sym (ap isFormatting e) ∙ f))
+    spare-cache Recovering e d f = in-phase r (reached-inv r h) d Recovering e .0 .spare
+    spare-cache Running e d f = in-phase r (reached-inv r h) d Running e .0 .spare

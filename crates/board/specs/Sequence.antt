@@ -26,7 +26,7 @@ pub data Event : Type 0 where
 pub record Run : Type 0 where
   pub board : Board
   pub machine : Machine
-  pub dark : Bool
+  pub crashed : Bool
   pub erased : Bool
 
 -- The board that a cut leaves.
@@ -40,17 +40,17 @@ erasedBy k m erased = cond (isStep (kind k) && m .formatting && not (m .requeste
 -- A call that is taken: the machine is fed it.
 abbrev pub takenCall : Call → Run → Run
 takenCall k r =
-    record { board = next k (r .board); machine = feed k (r .machine); dark = r .dark && not (isStart (kind k)); erased = erasedBy k (r .machine) (r .erased) }
+    record { board = next k (r .board); machine = feed k (r .machine); crashed = r .crashed && not (isStart (kind k)); erased = erasedBy k (r .machine) (r .erased) }
 
 -- A call that is refused: "turned-down calls change nothing" in the machine.
 abbrev pub refusedCall : Call → Run → Run
-refusedCall k r = record { board = next k (r .board); machine = r .machine; dark = r .dark; erased = r .erased }
+refusedCall k r = record { board = next k (r .board); machine = r .machine; crashed = r .crashed; erased = r .erased }
 
 -- One event.
 unfoldable pub after : Event → Run → Run
 after (call k) r = cond (taken k (r .board)) (takenCall k r) (refusedCall k r)
 after (cut s cache entries) r =
-    record { board = cutBoard s cache entries (r .board); machine = r .machine; dark = true; erased = r .erased }
+    record { board = cutBoard s cache entries (r .board); machine = r .machine; crashed = true; erased = r .erased }
 
 -- One event after the other, "each call getting what the last one left and nobody else writing it".
 unfoldable pub runs : List Event → Run → Run
@@ -59,7 +59,7 @@ runs (e ∷ es) r = runs es (after e r)
 
 -- "After a cut its next taken call is a start of format or recovery"; "rows keep their lengths".
 unfoldable pub Allowed : Event → Run → Type 0
-Allowed (call k) r = r .dark ≡ true → Taken k (r .board) → isStart (kind k) ≡ true
+Allowed (call k) r = r .crashed ≡ true → Taken k (r .board) → isStart (kind k) ≡ true
 Allowed (cut s cache entries) r = (length cache ≡ length (r .board .cache)) × (length entries ≡ length (r .board .entries))
 
 -- A lawful sequence from a run on.
@@ -79,7 +79,7 @@ pub data Begins : Board → Machine → Type 0 where
 
 -- The run at the beginning of a sequence.
 abbrev pub opening : Board → Machine → Run
-opening b m = record { board = b; machine = m; dark = false; erased = false }
+opening b m = record { board = b; machine = m; crashed = false; erased = false }
 
 -- Every run that a lawful sequence from a finished format leads to.
 pub data Reached : Run → Type 0 where

@@ -102,7 +102,7 @@ RecoveryEnds = (b : Board) → Taken RecoveryStart b → EndsIn (recoverySteps (
 -- "With n entries that is n+3 steps": a requested checkpoint ends once all workers under W wait.
 abbrev pub CheckpointEnds : Type 0
 CheckpointEnds =
-    (r : Run) → Reached r → r .dark ≡ false → isRunning (r .board .state .phase) ≡ true → r .board .state .requested ≡ true → r .board .state .place ≡ 0 →
+    (r : Run) → Reached r → r .crashed ≡ false → isRunning (r .board .state .phase) ≡ true → r .board .state .requested ≡ true → r .board .state .place ≡ 0 →
     ((w : ℕ) → w < r .board .state .workers → isWaiting (conditionOf (r .board .state) w) ≡ true) → EndsIn (r .board .state .listed + 3) (r .board)
 
 -- After any lawful sequence a recovery can be started, unless a format took its first step and none has finished since.
@@ -140,4 +140,4 @@ Spare lines row = (l k : ℕ) → 1 ≤ l → l ≤ lines → 6 ≤ k → k < 8 
 abbrev pub SpareWords : Type 0
 SpareWords =
     (r : Run) → Reached r → Spare (r .machine .lines) (r .board .memory) ×
-    (r .dark ≡ false → isFormatting (r .board .state .phase) ≡ false → Spare (r .machine .lines) (r .board .cache))
+    (r .crashed ≡ false → isFormatting (r .board .state .phase) ≡ false → Spare (r .machine .lines) (r .board .cache))

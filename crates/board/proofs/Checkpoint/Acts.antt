@@ -79,7 +79,7 @@ effect-acts b e = ap (λ (p : Phase). step p (b .state) b) e
 -- The run after an act, with the machine given.
 abbrev pub acted : Run → Act → Machine → Run
 acted r act m =
-    record { board = perform act (r .board .state) (r .board); machine = m; dark = r .dark && true; erased = r .erased }
+    record { board = perform act (r .board .state) (r .board); machine = m; crashed = r .crashed && true; erased = r .erased }
 
 -- The run after a step of a requested checkpoint.
 pub step-acts : (r : Run) → r .board .state .phase ≡ Running → r .machine .requested ≡ true → afterTaken Step r ≡ acted r (actAt (r .board .state .listed) (r .board .state .place)) (checkpointStep (r .machine))
@@ -89,7 +89,7 @@ step-acts r e on =
     let p = effect-acts (r .board) e in
     let q : feed Step m ≡ checkpointStep m = chosen (m .requested) (checkpointStep m) (cond (finishesFormat m) (beginning (m .lines)) (counted m)) on in
     let u : cond (m .formatting && not (m .requested)) (not (finishesFormat m)) (r .erased) ≡ r .erased = passedOver (m .formatting && not (m .requested)) (not (finishesFormat m)) (r .erased) (and-off-right (m .formatting) (not (m .requested)) (not-on (m .requested) on)) in
-    λ i. record { board = p i; machine = q i; dark = r .dark && true; erased = u i }
+    λ i. record { board = p i; machine = q i; crashed = r .crashed && true; erased = u i }
 
 -- A taken step of a running board finds a request and all workers waiting.
 pub step-ready : (b : Board) → b .state .phase ≡ Running → b .state .workers ≤ 8 → Taken Step b → (b .state .requested ≡ true) × AllWait (b .state)

@@ -17,22 +17,22 @@ use Rattle.board.proofs.Checkpoint.Stages.{moved, remade, running-moved
 
 -- The run with line `i` written back, another place, other checkpointed values and another number of steps.
 abbrev pub backRun : Run → ℕ → ℕ → (ℕ → ℕ) → ℕ → Bool → Run
-backRun r i place xs steps dark =
-    record { board = moved (r .board) (writtenBack i (r .board)) place; machine = remade (r .machine) xs steps; dark = dark; erased = r .erased }
+backRun r i place xs steps crashed =
+    record { board = moved (r .board) (writtenBack i (r .board)) place; machine = remade (r .machine) xs steps; crashed = crashed; erased = r .erased }
 
-module _ (r : Run) (s : RunningRun r) (place steps : ℕ) (agree : r .board .state .requested ≡ true → steps ≡ place) (dark : Bool) where
+module _ (r : Run) (s : RunningRun r) (place steps : ℕ) (agree : r .board .state .requested ≡ true → steps ≡ place) (crashed : Bool) where
   -- The invariant after a write-back, from what it leaves in memory and the stage it leads to.
-  inv-back : (i : ℕ) → i ≤ r .machine .lines → (xs : ℕ → ℕ) → Kept (r .machine .lines) xs (writtenBack i (r .board)) → Undoes (r .machine .lines) (epochOf (writtenBack i (r .board))) xs (r .board .cache) → Stage (r .machine .lines) (moved (r .board) (writtenBack i (r .board)) place) (remade (r .machine) xs steps) → Inv (backRun r i place xs steps dark)
+  inv-back : (i : ℕ) → i ≤ r .machine .lines → (xs : ℕ → ℕ) → Kept (r .machine .lines) xs (writtenBack i (r .board)) → Undoes (r .machine .lines) (epochOf (writtenBack i (r .board))) xs (r .board .cache) → Stage (r .machine .lines) (moved (r .board) (writtenBack i (r .board)) place) (remade (r .machine) xs steps) → Inv (backRun r i place xs steps crashed)
   inv-back i h xs k u stage =
       let z = s .inv .sizes in
-      inv-running (backRun r i place xs steps dark) (s .on) (s .phase)
+      inv-running (backRun r i place xs steps crashed) (s .on) (s .phase)
       (record { limits = z .limits; memory = sized-back (r .board .memory) (r .board .cache) (z .memory) (z .cache) i h; cache = z .cache; entries = z .entries })
       (spare-back (r .board .memory) (r .board .cache) (z .memory) (z .cache) i h (s .inv .spare) (s .running .spare))
       k
       (running-moved (s .running) (writtenBack i (r .board)) place xs steps agree u stage)
 
   -- A write-back that leaves memory's epoch: recovery gives what it gave.
-  pub quiet-back : (i : ℕ) → i ≤ r .machine .lines → (i ≡ 0 → epochOf (r .board .cache) ≡ epochOf (r .board .memory)) → (xs : ℕ → ℕ) → ((c : ℕ) → c < cells (r .machine .lines) → r .machine .checkpointed c ≡ xs c) → Stage (r .machine .lines) (moved (r .board) (writtenBack i (r .board)) place) (remade (r .machine) xs steps) → Carried r (backRun r i place xs steps dark)
+  pub quiet-back : (i : ℕ) → i ≤ r .machine .lines → (i ≡ 0 → epochOf (r .board .cache) ≡ epochOf (r .board .memory)) → (xs : ℕ → ℕ) → ((c : ℕ) → c < cells (r .machine .lines) → r .machine .checkpointed c ≡ xs c) → Stage (r .machine .lines) (moved (r .board) (writtenBack i (r .board)) place) (remade (r .machine) xs steps) → Carried r (backRun r i place xs steps crashed)
   quiet-back i h e xs same stage =
       let z = s .inv .sizes in
       let epoch : epochOf (writtenBack i (r .board)) ≡ epochOf (r .board .memory) = epoch-back (r .board .memory) (r .board .cache) (z .memory) (z .cache) i h e in
@@ -48,7 +48,7 @@ module _ (r : Run) (s : RunningRun r) (place steps : ℕ) (agree : r .board .sta
       }
 
   -- Line 0's write-back after the epoch's store completes the checkpoint, and done again changes nothing.
-  pub header-back : r .board .state .requested ≡ true → r .board .state .listed + 1 ≤ r .board .state .place → r .board .state .listed + 1 ≤ place → place ≤ r .board .state .listed + 2 → Stage (r .machine .lines) (r .board) (r .machine) → Carried r (backRun r 0 place (r .machine .current) steps dark)
+  pub header-back : r .board .state .requested ≡ true → r .board .state .listed + 1 ≤ r .board .state .place → r .board .state .listed + 1 ≤ place → place ≤ r .board .state .listed + 2 → Stage (r .machine .lines) (r .board) (r .machine) → Carried r (backRun r 0 place (r .machine .current) steps crashed)
   header-back on past low high (early e) =
       absurd (omega (arith, e .within, chosen (r .board .state .requested) (r .board .state .place) 0 on))
   header-back on past low high (gap g) =

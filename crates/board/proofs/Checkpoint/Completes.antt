@@ -29,7 +29,7 @@ use Rattle.board.proofs.Laws.Rows.{epoch-back-other}
 use Rattle.board.proofs.Invariant.{Inv, RecoveryInv, RecoveryMachine}
 use Rattle.board.proofs.Laws.Taken.{afterTaken}
 use Rattle.board.proofs.Laws.Reading.{in-phase}
-use Rattle.board.proofs.Keeps.Every.{not-dark, after-taken, after-refused, by-answer, step-not-off}
+use Rattle.board.proofs.Keeps.Every.{not-crashed, after-taken, after-refused, by-answer, step-not-off}
 use Rattle.board.proofs.Recovery.Finishes.{step-counts}
 use Rattle.board.proofs.Keeps.WriteBack.{carried-write-back}
 use Rattle.board.proofs.Keeps.CheckpointStep.{carried-checkpoint-step}
@@ -76,7 +76,7 @@ recovery-epoch {l} WriteLine b zm zc h =
     epoch-back-other (b .memory) (b .cache) zm zc (cellLine (b .state .place)) (omega arith) (cell-line l (b .state .place) h)
 
 -- A recovery's step leaves memory's epoch and the checkpointed values.
-recovery-step-same : (r : Run) → Inv r → r .dark ≡ false → r .board .state .phase ≡ Recovering → Unchanged r (afterTaken Step r)
+recovery-step-same : (r : Run) → Inv r → r .crashed ≡ false → r .board .state .phase ≡ Recovering → Unchanged r (afterTaken Step r)
 unfolding effect step
 recovery-step-same r i d p =
     let v : RecoveryInv (r .machine .lines) (r .machine .checkpointed) (r .board) = in-phase r i d Recovering p .0 in
@@ -87,7 +87,7 @@ recovery-step-same r i d p =
     (λ c. ap (λ (m : Machine). m .checkpointed c) (step-counts (r .machine) (n .request) (n .formatting)))
 
 -- A taken step that is no format's, by the phase.
-step-completes : (r : Run) → Inv r → r .dark ≡ false → Taken Step (r .board) → isFormatting (r .board .state .phase) ≡ false → Unchanged r (afterTaken Step r) ⊎ Completed r (afterTaken Step r)
+step-completes : (r : Run) → Inv r → r .crashed ≡ false → Taken Step (r .board) → isFormatting (r .board .state .phase) ≡ false → Unchanged r (afterTaken Step r) ⊎ Completed r (afterTaken Step r)
 step-completes r i d t f = go (r .board .state .phase) refl
   where
     go : (p : Phase) → r .board .state .phase ≡ p → Unchanged r (afterTaken Step r) ⊎ Completed r (afterTaken Step r)
@@ -101,7 +101,7 @@ call-completes : (k : Call) (r : Run) → Inv r → Allowed (call k) r → forma
 unfolding effect feed formatStepAt
 call-completes (FormatStart l w) r i a f t = inl (same-run r (afterTaken (FormatStart l w) r) refl (λ c. refl))
 call-completes RecoveryStart r i a f t = inl (same-run r (afterTaken RecoveryStart r) refl (λ c. refl))
-call-completes Step r i a f t = step-completes r i (not-dark Step r a t refl) t f
+call-completes Step r i a f t = step-completes r i (not-crashed Step r a t refl) t f
 call-completes (Update w c v) r i a f t = inl (same-run r (afterTaken (Update w c v) r) refl (λ c. refl))
 call-completes (RestartPoint w v) r i a f t = inl (same-run r (afterTaken (RestartPoint w v) r) refl (λ c. refl))
 call-completes (Advance w) r i a f t =
@@ -109,7 +109,7 @@ call-completes (Advance w) r i a f t =
     (ap epochOf (advance-memory (conditionOf (r .board .state) w) w (r .board .state) (r .board)))
     (advance-values (r .machine .unfinished w) w (r .machine)))
 call-completes Request r i a f t = inl (same-run r (afterTaken Request r) refl (λ c. refl))
-call-completes (WriteBack l) r i a f t = carried-write-back r l i (not-dark (WriteBack l) r a t refl) t .completion
+call-completes (WriteBack l) r i a f t = carried-write-back r l i (not-crashed (WriteBack l) r a t refl) t .completion
 call-completes (Read c) r i a f t = inl (same-run r (afterTaken (Read c) r) refl (λ c. refl))
 
 -- Every allowed event that is no step of a format.

@@ -171,7 +171,7 @@ first-room b m on e (gap g) = absurd (omega (arith, g .place))
 first-room b m on e (late a) = absurd (omega (arith, a .low))
 
 -- A requested checkpoint ends, where the invariant holds.
-pub checkpoint-ends : (r : Run) → Inv r → r .dark ≡ false → isRunning (r .board .state .phase) ≡ true → r .board .state .requested ≡ true → r .board .state .place ≡ 0 → ((w : ℕ) → w < r .board .state .workers → isWaiting (conditionOf (r .board .state) w) ≡ true) → EndsIn (r .board .state .listed + 3) (r .board)
+pub checkpoint-ends : (r : Run) → Inv r → r .crashed ≡ false → isRunning (r .board .state .phase) ≡ true → r .board .state .requested ≡ true → r .board .state .place ≡ 0 → ((w : ℕ) → w < r .board .state .workers → isWaiting (conditionOf (r .board .state) w) ≡ true) → EndsIn (r .board .state .listed + 3) (r .board)
 checkpoint-ends r inv d e on first wait =
     let b = r .board in
     let m = r .machine in

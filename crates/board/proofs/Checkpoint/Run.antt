@@ -30,7 +30,7 @@ pub record RunningRun (r : Run) : Type 0 where
   pub phase : r .board .state .phase ≡ Running
 
 -- What the invariant says of a running board.
-pub running-run : (r : Run) → Inv r → r .dark ≡ false → r .board .state .phase ≡ Running → RunningRun r
+pub running-run : (r : Run) → Inv r → r .crashed ≡ false → r .board .state .phase ≡ Running → RunningRun r
 running-run r inv d e =
     let v : InPhase Running r = subst (λ (p : Phase). InPhase p r) e (inv .phase d) in
     record { inv = inv; running = v .0; on = v .1; phase = e }

@@ -79,7 +79,7 @@ module _ (r : Run) (w c v : ℕ) (next : Store) (inv : Inv r) (turn : Turn r w c
 
   -- The store keeps the invariant where what it leaves of cell, list and worker fits.
   store :
-      (condition : Condition) (listed : ℕ) (entries : List ℕ) (current : ℕ → ℕ) (marked : ℕ → Bool) (unfinished : Unfinished) (dark : Bool) →
+      (condition : Condition) (listed : ℕ) (entries : List ℕ) (current : ℕ → ℕ) (marked : ℕ → Bool) (unfinished : Unfinished) (crashed : Bool) →
       ((d : ℕ) → (c ≡ d → ⊥) → current d ≡ r .machine .current d) →
       ((d : ℕ) → (c ≡ d → ⊥) → marked d ≡ r .machine .marked d) →
       CellInv (epochOf (r .board .memory)) (r .machine .checkpointed c) (current c) (marked c) (view (r .board .memory) c) (put f x (view (r .board .cache) c)) →
@@ -87,9 +87,9 @@ module _ (r : Run) (w c v : ℕ) (next : Store) (inv : Inv r) (turn : Turn r w c
       length entries ≡ length (r .board .entries) →
       WorkerInv (r .machine .lines) (withField (r .board .cache) c f x) condition unfinished →
       ((d : ℕ) → Touches condition d → c ≡ d) →
-      Inv (changedRun (storing w c (withField (r .board .cache) c f x) condition listed entries current marked unfinished) dark r)
-  store condition listed entries current marked unfinished dark currents marks cell list size worker own =
-      one-cell r (storing w c (withField (r .board .cache) c f x) condition listed entries current marked unfinished) dark inv (turn .now)
+      Inv (changedRun (storing w c (withField (r .board .cache) c f x) condition listed entries current marked unfinished) crashed r)
+  store condition listed entries current marked unfinished crashed currents marks cell list size worker own =
+      one-cell r (storing w c (withField (r .board .cache) c f x) condition listed entries current marked unfinished) crashed inv (turn .now)
       (record {
         only = only-store (r .board .cache) c f x;
         currents = currents;
@@ -104,36 +104,36 @@ module _ (r : Run) (w c v : ℕ) (next : Store) (inv : Inv r) (turn : Turn r w c
 
 -- The run after the store.
 abbrev stored : Run → ℕ → ℕ → ℕ → Store → Bool → Run
-stored r w c v next dark =
-    record { board = advance next w c v (r .board .state) (r .board); machine = fewer (storesLeft next - 1) w c v (r .machine); dark = dark; erased = r .erased }
+stored r w c v next crashed =
+    record { board = advance next w c v (r .board .state) (r .board); machine = fewer (storesLeft next - 1) w c v (r .machine); crashed = crashed; erased = r .erased }
 
 -- Each of the three stores keeps the invariant.
-keeps-store : (r : Run) (w c v : ℕ) (next : Store) (dark : Bool) → Inv r → Turn r w c v next → Inv (stored r w c v next dark)
+keeps-store : (r : Run) (w c v : ℕ) (next : Store) (crashed : Bool) → Inv r → Turn r w c v next → Inv (stored r w c v next crashed)
 unfolding advance fewer
-keeps-store r w c v Backup dark inv turn =
+keeps-store r w c v Backup crashed inv turn =
     let b = r .board in
     let m = r .machine in
     let old = fieldOf (b .cache) c Field.Record in
-    store r w c v Backup inv turn Field.Backup old (Updating c v Mark) (b .state .listed) (b .entries) (m .current) (m .marked) (update c v 2) dark (λ d o. refl) (λ d o. refl)
+    store r w c v Backup inv turn Field.Backup old (Updating c v Mark) (b .state .listed) (b .entries) (m .current) (m .marked) (update c v 2) crashed (λ d o. refl) (λ d o. refl)
     (cell-backed (cell-inv (turn .now .run) (turn .now .stage) c (turn .cell)) old (turn .before))
     (list-inv (turn .now .run) (turn .now .stage)) refl
     (worker-after r w c v Backup inv turn Field.Backup old Mark (turn .before, view-value (b .cache) c)) (λ d t. t)
-keeps-store r w c v Mark dark inv turn =
+keeps-store r w c v Mark crashed inv turn =
     let b = r .board in
     let m = r .machine in
     let ear = turn .now .stage in
     let e = epochOf (b .cache) in
     let unmarked : m .marked c ≡ false = ear .marks c (turn .cell) ∙ ne-eqb _ _ (turn .before .0) in
-    store r w c v Mark inv turn Field.Mark e (Updating c v Record) (b .state .listed + 1) (set (b .entries) (b .state .listed) c) (m .current) (changed (m .marked) c true) (update c v 1) dark (λ d o. refl)
+    store r w c v Mark inv turn Field.Mark e (Updating c v Record) (b .state .listed + 1) (set (b .entries) (b .state .listed) c) (m .current) (changed (m .marked) c true) (update c v 1) crashed (λ d o. refl)
     (changed-other (m .marked) c true)
     (cell-marked (cell-inv (turn .now .run) ear c (turn .cell)) e (ear .epochs) (turn .before .0) (turn .before .1) (changed-at (m .marked) c true))
     (list-more c (turn .cell) (inv .sizes .entries) unmarked (list-inv (turn .now .run) ear)) (length-set (b .entries) (b .state .listed) c)
     (worker-after r w c v Mark inv turn Field.Mark e Record (ear .epochs)) (λ d t. t)
-keeps-store r w c v Record dark inv turn =
+keeps-store r w c v Record crashed inv turn =
     let b = r .board in
     let m = r .machine in
     let waits = ltb c (b .state .workers) && b .state .requested in
-    store r w c v Record inv turn Field.Record v (afterLast (b .state) c) (b .state .listed) (b .entries) (changed (m .current) c v) (m .marked) none dark (changed-other (m .current) c v) (λ d o. refl)
+    store r w c v Record inv turn Field.Record v (afterLast (b .state) c) (b .state .listed) (b .entries) (changed (m .current) c v) (m .marked) none crashed (changed-other (m .current) c v) (λ d o. refl)
     (cell-recorded (cell-inv (turn .now .run) (turn .now .stage) c (turn .cell)) v (turn .before) (changed-at (m .current) c v))
     (list-inv (turn .now .run) (turn .now .stage)) refl
     (on (λ (k : Condition). WorkerInv (m .lines) (recorded (b .cache) c v) k none) waits Waiting Free (λ t. refl) (λ t. refl))
@@ -142,9 +142,9 @@ keeps-store r w c v Record dark inv turn =
 -- ---- the call
 
 -- A taken advance.
-pub keeps-advance : (r : Run) (w : ℕ) → Inv r → r .dark ≡ false → Taken (Advance w) (r .board) → Inv (afterTaken (Advance w) r)
+pub keeps-advance : (r : Run) (w : ℕ) → Inv r → r .crashed ≡ false → Taken (Advance w) (r .board) → Inv (afterTaken (Advance w) r)
 unfolding standsAt causes effect feed advanceOf advanced
-keeps-advance r w inv dark t = go (conditionOf s w) refl (pass 8) (now .run .worker w (now .under))
+keeps-advance r w inv crashed t = go (conditionOf s w) refl (pass 8) (now .run .worker w (now .under))
   where
     s : State
     s = r .board .state
@@ -153,13 +153,13 @@ keeps-advance r w inv dark t = go (conditionOf s w) refl (pass 8) (now .run .wor
     pass = passed (Advance w) (r .board) t
 
     now : Ready r w
-    now = ready r w isUpdating refl inv dark (pass 2) (pass 6) (pass 8)
+    now = ready r w isUpdating refl inv crashed (pass 2) (pass 6) (pass 8)
 
     go : (k : Condition) → conditionOf s w ≡ k → not (isUpdating k) ≡ false → WorkerInv (r .machine .lines) (r .board .cache) k (r .machine .unfinished w) → Inv (afterTaken (Advance w) r)
     go Free e busy worker = absurd (true≢false busy)
     go Waiting e busy worker = absurd (true≢false busy)
     go (Updating c v next) e busy worker =
-        subst₂ (λ (k : Condition) (u : Unfinished). Inv (record { board = advanceOf k w s (r .board); machine = advanced u w (r .machine); dark = r .dark && true; erased = r .erased }))
+        subst₂ (λ (k : Condition) (u : Unfinished). Inv (record { board = advanceOf k w s (r .board); machine = advanced u w (r .machine); crashed = r .crashed && true; erased = r .erased }))
         (sym e) (sym (worker .0))
-        (keeps-store r w c v next (r .dark && true) inv
+        (keeps-store r w c v next (r .crashed && true) inv
         (record { now = now; here = e; cell = worker .1; before = subst (λ (n : ℕ). BeforeStore next n (view (r .board .cache) c)) (now .stage .epochs) (worker .2) }))

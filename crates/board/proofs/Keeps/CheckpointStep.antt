@@ -141,7 +141,7 @@ module _ (r : Run) (s : RunningRun r) (on : r .board .state .requested ≡ true)
       let p : c < cells (m .lines) = v .listed (b .state .place) h in
       let i = cellLine c in
       let q : i ≤ m .lines = cell-line (m .lines) c p in
-      quiet-back r s (b .state .place + 1) (m .steps + 1) placed-steps (r .dark && true) i q (λ k. e .epochs) (m .checkpointed) (λ d k. refl)
+      quiet-back r s (b .state .place + 1) (m .steps + 1) placed-steps (r .crashed && true) i q (λ k. e .epochs) (m .checkpointed) (λ d k. refl)
       (early (early-placed (moved b (writtenBack i b) (b .state .place)) (m .steps + 1) (early-back b z i q (v .listed) e) on h wait
       (ap (λ (k : View). k .value) (view-backed (b .memory) (b .cache) (z .memory) (z .cache) i c p refl))))
 
@@ -163,7 +163,7 @@ module _ (r : Run) (s : RunningRun r) (on : r .board .state .requested ≡ true)
   header-carried : r .board .state .place ≡ r .board .state .listed + 1 → Carried r (acted r writeHeader (completed (counted (r .machine))))
   unfolding perform
   header-carried e =
-      header-back r s (r .board .state .place + 1) (r .machine .steps + 1) placed-steps (r .dark && true) on (omega arith) (omega arith) (omega arith) (s .running .stage)
+      header-back r s (r .board .state .place + 1) (r .machine .steps + 1) placed-steps (r .crashed && true) on (omega arith) (omega arith) (omega arith) (s .running .stage)
 
   -- The workers released.
   release-carried : Late (r .machine .lines) (r .board) (r .machine) → Carried r (acted r release (dropped (counted (r .machine))))
@@ -207,12 +207,12 @@ module _ (r : Run) (s : RunningRun r) (on : r .board .state .requested ≡ true)
       ]
 
 -- What a taken step of a running board leaves.
-pub carried-checkpoint-step : (r : Run) → Inv r → r .dark ≡ false → r .board .state .phase ≡ Running → Taken Step (r .board) → Carried r (afterTaken Step r)
+pub carried-checkpoint-step : (r : Run) → Inv r → r .crashed ≡ false → r .board .state .phase ≡ Running → Taken Step (r .board) → Carried r (afterTaken Step r)
 carried-checkpoint-step r inv d e t =
     let s = running-run r inv d e in
     let ready = step-ready (r .board) e (workers-in (r .machine .lines) (r .board .state .workers) (s .running .workers) .1) t in
     stage-step r s (ready .0) (ready .1) (s .running .stage)
 
 -- A taken step of a running board keeps the invariant.
-pub keeps-checkpoint-step : (r : Run) → Inv r → r .dark ≡ false → r .board .state .phase ≡ Running → Taken Step (r .board) → Inv (afterTaken Step r)
+pub keeps-checkpoint-step : (r : Run) → Inv r → r .crashed ≡ false → r .board .state .phase ≡ Running → Taken Step (r .board) → Inv (afterTaken Step r)
 keeps-checkpoint-step r inv d e t = carried-checkpoint-step r inv d e t .keeps

@@ -41,7 +41,7 @@ step-not-off b t e =
     clash (ap isOff e) off
 
 -- A taken step keeps the invariant, by the phase.
-keeps-step : (r : Run) → Inv r → r .dark ≡ false → Taken Step (r .board) → Inv (afterTaken Step r)
+keeps-step : (r : Run) → Inv r → r .crashed ≡ false → Taken Step (r .board) → Inv (afterTaken Step r)
 keeps-step r i d t = go (r .board .state .phase) refl
   where
     go : (p : Phase) → r .board .state .phase ≡ p → Inv (afterTaken Step r)
@@ -59,23 +59,23 @@ and-on false = refl
 keeps-read : (r : Run) (c : ℕ) → Inv r → Inv (afterTaken (Read c) r)
 unfolding effect feed
 keeps-read r c i =
-    subst (λ (d : Bool). Inv (record { board = r .board; machine = r .machine; dark = d; erased = r .erased })) (sym (and-on (r .dark))) i
+    subst (λ (d : Bool). Inv (record { board = r .board; machine = r .machine; crashed = d; erased = r .erased })) (sym (and-on (r .crashed))) i
 
--- A call other than a start that is taken was made in the light.
-pub not-dark : (k : Call) (r : Run) → Allowed (call k) r → Taken k (r .board) → isStart (kind k) ≡ false → r .dark ≡ false
+-- A call other than a start that is taken was made with no cut since the last taken start.
+pub not-crashed : (k : Call) (r : Run) → Allowed (call k) r → Taken k (r .board) → isStart (kind k) ≡ false → r .crashed ≡ false
 unfolding Allowed
-not-dark k r a t e = split (r .dark) (λ d. absurd (clash (a d t) e)) (λ d. d)
+not-crashed k r a t e = split (r .crashed) (λ d. absurd (clash (a d t) e)) (λ d. d)
 
 -- A taken call keeps the invariant.
 keeps-call : (k : Call) (r : Run) → Inv r → Allowed (call k) r → Taken k (r .board) → Inv (afterTaken k r)
 keeps-call (FormatStart l w) r i a t = keeps-format-start r l w i t
 keeps-call RecoveryStart r i a t = keeps-recovery-start r i t
-keeps-call Step r i a t = keeps-step r i (not-dark Step r a t refl) t
-keeps-call (Update w c v) r i a t = keeps-update r w c v i (not-dark (Update w c v) r a t refl) t
-keeps-call (RestartPoint w v) r i a t = keeps-restart r w v i (not-dark (RestartPoint w v) r a t refl) t
-keeps-call (Advance w) r i a t = keeps-advance r w i (not-dark (Advance w) r a t refl) t
-keeps-call Request r i a t = keeps-request r i (not-dark Request r a t refl) t
-keeps-call (WriteBack l) r i a t = keeps-write-back r l i (not-dark (WriteBack l) r a t refl) t
+keeps-call Step r i a t = keeps-step r i (not-crashed Step r a t refl) t
+keeps-call (Update w c v) r i a t = keeps-update r w c v i (not-crashed (Update w c v) r a t refl) t
+keeps-call (RestartPoint w v) r i a t = keeps-restart r w v i (not-crashed (RestartPoint w v) r a t refl) t
+keeps-call (Advance w) r i a t = keeps-advance r w i (not-crashed (Advance w) r a t refl) t
+keeps-call Request r i a t = keeps-request r i (not-crashed Request r a t refl) t
+keeps-call (WriteBack l) r i a t = keeps-write-back r l i (not-crashed (WriteBack l) r a t refl) t
 keeps-call (Read c) r i a t = keeps-read r c i
 
 -- The run after a taken call.
@@ -83,14 +83,14 @@ pub after-taken : (k : Call) (r : Run) → Taken k (r .board) → after (call k)
 unfolding after
 after-taken k r t =
     chosen (taken k (r .board)) (takenCall k r) (refusedCall k r) (eq-eqb (cause k (r .board)) 0 t)
-    ∙ ap (λ (b : Board). record { board = b; machine = feed k (r .machine); dark = afterTaken k r .dark; erased = afterTaken k r .erased }) (taken-next k (r .board) t)
+    ∙ ap (λ (b : Board). record { board = b; machine = feed k (r .machine); crashed = afterTaken k r .crashed; erased = afterTaken k r .erased }) (taken-next k (r .board) t)
 
 -- The run after a refused call is the run before it.
 pub after-refused : (k : Call) (r : Run) → (Taken k (r .board) → ⊥) → after (call k) r ≡ r
 unfolding after
 after-refused k r o =
     passedOver (taken k (r .board)) (takenCall k r) (refusedCall k r) (ne-eqb (cause k (r .board)) 0 o)
-    ∙ ap (λ (b : Board). record { board = b; machine = r .machine; dark = r .dark; erased = r .erased }) (refused-next k (r .board) o)
+    ∙ ap (λ (b : Board). record { board = b; machine = r .machine; crashed = r .crashed; erased = r .erased }) (refused-next k (r .board) o)
 
 -- A call is taken or refused.
 pub by-answer {ℓ} : {A : Type ℓ} (k : Call) (b : Board) → (Taken k b → A) → ((Taken k b → ⊥) → A) → A

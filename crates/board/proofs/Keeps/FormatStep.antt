@@ -35,35 +35,35 @@ erases m e q f =
 -- ---- the run
 
 -- The invariant of a run whose board, machine and erasure are given by equations.
-pub inv-of : (d : Bool) {b b′ : Board} {m m′ : Machine} {e e′ : Bool} → b ≡ b′ → m ≡ m′ → e ≡ e′ → Inv (record { board = b′; machine = m′; dark = d; erased = e′ }) → Inv (record { board = b; machine = m; dark = d; erased = e })
+pub inv-of : (d : Bool) {b b′ : Board} {m m′ : Machine} {e e′ : Bool} → b ≡ b′ → m ≡ m′ → e ≡ e′ → Inv (record { board = b′; machine = m′; crashed = d; erased = e′ }) → Inv (record { board = b; machine = m; crashed = d; erased = e })
 inv-of d p q s inv =
-    subst₃ (λ (b : Board) (m : Machine) (e : Bool). Inv (record { board = b; machine = m; dark = d; erased = e })) (sym p) (sym q) (sym s) inv
+    subst₃ (λ (b : Board) (m : Machine) (e : Bool). Inv (record { board = b; machine = m; crashed = d; erased = e })) (sym p) (sym q) (sym s) inv
 
 -- A finished format beside the machine at its beginning.
-pub fresh-inv : (l : ℕ) (b : Board) (d : Bool) → Fresh l b → Inv (record { board = b; machine = beginning l; dark = d; erased = false })
+pub fresh-inv : (l : ℕ) (b : Board) (d : Bool) → Fresh l b → Inv (record { board = b; machine = beginning l; crashed = d; erased = false })
 fresh-inv l b d f =
     record {
       sizes = f .sizes;
       spare = f .spare;
       kept = λ e. f .kept;
       lost = λ e. absurd (false≢true e);
-      phase = λ e. subst (λ (k : Phase). InPhase k (record { board = b; machine = beginning l; dark = d; erased = false })) (sym (f .phase)) (f .running, refl);
+      phase = λ e. subst (λ (k : Phase). InPhase k (record { board = b; machine = beginning l; crashed = d; erased = false })) (sym (f .phase)) (f .running, refl);
     }
 
 -- A format with one more line erased beside a machine that counts the step.
-erased-inv : (b b′ : Board) (m : Machine) (d : Bool) → Erased (m .lines) b b′ → Spare (m .lines) (b .memory) → m .formatting ≡ true → m .requested ≡ false → m .steps ≡ b .state .place → Inv (record { board = b′; machine = counted m; dark = d; erased = true })
+erased-inv : (b b′ : Board) (m : Machine) (d : Bool) → Erased (m .lines) b b′ → Spare (m .lines) (b .memory) → m .formatting ≡ true → m .requested ≡ false → m .steps ≡ b .state .place → Inv (record { board = b′; machine = counted m; crashed = d; erased = true })
 erased-inv b b′ m d s spare f q n =
     record {
       sizes = s .formats .sizes;
       spare = s .spare spare;
       kept = λ e. absurd (true≢false e);
       lost = λ e. s .epoch;
-      phase = λ e. subst (λ (k : Phase). InPhase k (record { board = b′; machine = counted m; dark = d; erased = true })) (sym (s .formats .phase))
+      phase = λ e. subst (λ (k : Phase). InPhase k (record { board = b′; machine = counted m; crashed = d; erased = true })) (sym (s .formats .phase))
           (s .formats .format, record { formatting = f; request = q; steps = omega (arith, s .place); erased = λ h. refl });
     }
 
 -- A format's step keeps the invariant.
-pub keeps-format-step : (r : Run) → Inv r → r .dark ≡ false → r .board .state .phase ≡ Formatting → Taken Step (r .board) → Inv (afterTaken Step r)
+pub keeps-format-step : (r : Run) → Inv r → r .crashed ≡ false → r .board .state .phase ≡ Formatting → Taken Step (r .board) → Inv (afterTaken Step r)
 keeps-format-step r inv d p t =
     elim (decLe (r .board .state .place) (r .machine .lines)) [
       | yes h ↦ erased h
@@ -80,9 +80,9 @@ keeps-format-step r inv d p t =
     beside = at .1
 
     -- the machine and the erasure, by whether the step finishes the format
-    kept : {last : Bool} (b : Board) → finishesFormat (r .machine) ≡ last → effect Step (r .board) ≡ b → Inv (record { board = b; machine = cond last (beginning (r .machine .lines)) (counted (r .machine)); dark = r .dark && true; erased = not last }) → Inv (afterTaken Step r)
+    kept : {last : Bool} (b : Board) → finishesFormat (r .machine) ≡ last → effect Step (r .board) ≡ b → Inv (record { board = b; machine = cond last (beginning (r .machine .lines)) (counted (r .machine)); crashed = r .crashed && true; erased = not last }) → Inv (afterTaken Step r)
     kept b e s next =
-        inv-of (r .dark && true) s
+        inv-of (r .crashed && true) s
         (unrequested (r .machine) (beside .request) ∙ ap (λ (k : Bool). cond k (beginning (r .machine .lines)) (counted (r .machine))) e)
         (erases (r .machine) (r .erased) (beside .request) (beside .formatting) ∙ ap not e)
         next
@@ -93,7 +93,7 @@ keeps-format-step r inv d p t =
         (and-off-right (r .machine .formatting) (eqb (r .machine .steps + 1) (formatSteps (r .machine .lines)))
         (ne-eqb (r .machine .steps + 1) (formatSteps (r .machine .lines)) (λ e. omega (arith, beside .steps))))
         (erasing-step (r .machine .lines) (r .board) formats h)
-        (erased-inv (r .board) (erasing (r .board)) (r .machine) (r .dark && true) (format-erases (r .machine .lines) (r .board) formats h) (inv .spare) (beside .formatting) (beside .request) (beside .steps))
+        (erased-inv (r .board) (erasing (r .board)) (r .machine) (r .crashed && true) (format-erases (r .machine .lines) (r .board) formats h) (inv .spare) (beside .formatting) (beside .request) (beside .steps))
 
     finished : r .board .state .place ≡ r .machine .lines + 1 → Inv (afterTaken Step r)
     finished e =
@@ -101,4 +101,4 @@ keeps-format-step r inv d p t =
         (and-both (r .machine .formatting) (eqb (r .machine .steps + 1) (formatSteps (r .machine .lines))) (beside .formatting)
         (eq-eqb (r .machine .steps + 1) (formatSteps (r .machine .lines)) (omega (arith, beside .steps))))
         (finishing-step (r .machine .lines) (r .board) formats e)
-        (fresh-inv (r .machine .lines) (finishing (r .board)) (r .dark && true) (format-finishes (r .machine .lines) (r .board) formats e))
+        (fresh-inv (r .machine .lines) (finishing (r .board)) (r .crashed && true) (format-finishes (r .machine .lines) (r .board) formats e))

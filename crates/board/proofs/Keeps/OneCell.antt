@@ -168,8 +168,8 @@ not-waiting test off Waiting e = absurd (clash (not-off (test Waiting) e) off)
 not-waiting test off (Updating c v next) e = refl
 
 -- A taken call that asks for a running board and for a worker in a condition other than waiting: no step of a checkpoint was taken.
-pub ready : (r : Run) (w : ℕ) (test : Condition → Bool) → test Waiting ≡ false → Inv r → r .dark ≡ false → notRunning (r .board) ≡ false → noWorker (r .board .state) w ≡ false → not (test (conditionOf (r .board .state) w)) ≡ false → Ready r w
-ready r w test unlike inv dark on worker holds = go (r .board .state .phase) refl (not-off (isRunning (r .board .state .phase)) on) (inv .phase dark)
+pub ready : (r : Run) (w : ℕ) (test : Condition → Bool) → test Waiting ≡ false → Inv r → r .crashed ≡ false → notRunning (r .board) ≡ false → noWorker (r .board .state) w ≡ false → not (test (conditionOf (r .board .state) w)) ≡ false → Ready r w
+ready r w test unlike inv crashed on worker holds = go (r .board .state .phase) refl (not-off (isRunning (r .board .state .phase)) on) (inv .phase crashed)
   where
     under : w < r .board .state .workers
     under = leb-false (r .board .state .workers) w worker
@@ -219,8 +219,8 @@ worker-other l only (Updating d v next) u o inv =
 
 -- The run after a change; nothing is asked of whether a cut fell.
 abbrev pub changedRun : Change → Bool → Run → Run
-changedRun ch dark r =
-    record { board = changedBoard ch (r .board); machine = changedMachine ch (r .machine); dark = dark; erased = r .erased }
+changedRun ch crashed r =
+    record { board = changedBoard ch (r .board); machine = changedMachine ch (r .machine); crashed = crashed; erased = r .erased }
 
 module _ (b : Board) (m : Machine) (ch : Change) (run : RunningInv (m .lines) b m) (ear : Early (m .lines) b m) (unbegun : progress (b .state) ≡ 0) (under : ch .worker < b .state .workers) (fits : Fits b m ch) where
   -- Every cell after a change.
@@ -316,13 +316,13 @@ module _ (b : Board) (m : Machine) (ch : Change) (run : RunningInv (m .lines) b 
       }
 
 -- A change of one worker's cell that fits keeps the invariant.
-pub one-cell : (r : Run) (ch : Change) (dark : Bool) → Inv r → Ready r (ch .worker) → Fits (r .board) (r .machine) ch → Inv (changedRun ch dark r)
-one-cell r ch dark inv now fits =
+pub one-cell : (r : Run) (ch : Change) (crashed : Bool) → Inv r → Ready r (ch .worker) → Fits (r .board) (r .machine) ch → Inv (changedRun ch crashed r)
+one-cell r ch crashed inv now fits =
     record {
       sizes = record { limits = inv .sizes .limits; memory = inv .sizes .memory; cache = record { size = fits .only .size ∙ inv .sizes .cache .size }; entries = subst (λ (n : ℕ). listWords (r .machine .lines) ≤ n) (sym (fits .size)) (inv .sizes .entries) };
       spare = inv .spare;
       kept = inv .kept;
       lost = inv .lost;
-      phase = λ d. subst (λ (p : Phase). InPhase p (changedRun ch dark r)) (sym (now .phase))
+      phase = λ d. subst (λ (p : Phase). InPhase p (changedRun ch crashed r)) (sym (now .phase))
           (running-after (r .board) (r .machine) ch (now .run) (now .stage) (now .unbegun) (now .under) fits, now .erased);
     }

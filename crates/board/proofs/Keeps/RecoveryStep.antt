@@ -33,21 +33,21 @@ use Rattle.board.proofs.Recovery.Rows.{whole-epoch, whole-kept, Restori
 
 -- The run with another board and one more step counted.
 abbrev stepRun : Run → Board → Run
-stepRun r b = record { board = b; machine = counted (r .machine); dark = r .dark; erased = r .erased }
+stepRun r b = record { board = b; machine = counted (r .machine); crashed = r .crashed; erased = r .erased }
 
 -- In a recovery the machine counts a step, and nothing else.
 after-step : (r : Run) → RecoveryMachine (r .machine) → stepRun r (effect Step (r .board)) ≡ afterTaken Step r
 unfolding feed stepped
 after-step r m =
-    λ i. record { board = effect Step (r .board); machine = machine i; dark = dark (r .dark) i; erased = erased i }
+    λ i. record { board = effect Step (r .board); machine = machine i; crashed = crashed (r .crashed) i; erased = erased i }
   where
     machine : counted (r .machine) ≡ stepped (r .machine)
     machine =
         sym (passedOver (r .machine .requested) _ _ (m .request) ∙ passedOver _ _ (counted (r .machine)) (and-off (r .machine .formatting) _ (m .formatting)))
 
-    dark : (d : Bool) → d ≡ d && true
-    dark true = refl
-    dark false = refl
+    crashed : (d : Bool) → d ≡ d && true
+    crashed true = refl
+    crashed false = refl
 
     erased : r .erased ≡ erasedBy Step (r .machine) (r .erased)
     erased = sym (passedOver _ _ (r .erased) (and-off (r .machine .formatting) _ (m .formatting)))
@@ -213,7 +213,7 @@ here-at {l} {xs} {b} undo i q =
     subst (λ (y : UndoStep). AtPlace y (epochOf (b .memory)) (xs (b .state .place)) (view (b .memory) (b .state .place)) (view (b .cache) (b .state .place))) q (i .here)
 
 -- A taken step of a recovery keeps the invariant.
-pub keeps-recovery-step : (r : Run) → Inv r → r .dark ≡ false → r .board .state .phase ≡ Recovering → Taken Step (r .board) → Inv (afterTaken Step r)
+pub keeps-recovery-step : (r : Run) → Inv r → r .crashed ≡ false → r .board .state .phase ≡ Recovering → Taken Step (r .board) → Inv (afterTaken Step r)
 keeps-recovery-step r inv lit phase t =
     let s = r .board .state in
     let p = subst (λ (p : Phase). InPhase p r) phase (inv .phase lit) in

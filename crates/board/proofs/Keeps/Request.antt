@@ -55,7 +55,7 @@ running-request b m off room v =
     }
 
 -- A taken request keeps the invariant.
-pub keeps-request : (r : Run) → Inv r → r .dark ≡ false → Taken Request (r .board) → Inv (afterTaken Request r)
+pub keeps-request : (r : Run) → Inv r → r .crashed ≡ false → Taken Request (r .board) → Inv (afterTaken Request r)
 unfolding effect feed standsAt causes
 keeps-request r inv d t =
     let b = r .board in

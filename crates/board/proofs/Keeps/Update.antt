@@ -58,12 +58,12 @@ starting w c v b m =
     record { worker = w; cell = c; condition = Updating c v (firstStore (b .cache) c); listed = b .state .listed; cache = b .cache; entries = b .entries; current = m .current; marked = m .marked; unfinished = update c v (cond (m .marked c) 1 3) }
 
 -- The start of an update of a cell that no other worker updates.
-start : (r : Run) (w c v : ℕ) (dark : Bool) → Inv r → Ready r w → c < cells (r .machine .lines) → othersUpdate (r .board .state) w c ≡ false → Inv (changedRun (starting w c v (r .board) (r .machine)) dark r)
-start r w c v dark inv now h e =
+start : (r : Run) (w c v : ℕ) (crashed : Bool) → Inv r → Ready r w → c < cells (r .machine .lines) → othersUpdate (r .board .state) w c ≡ false → Inv (changedRun (starting w c v (r .board) (r .machine)) crashed r)
+start r w c v crashed inv now h e =
     let b = r .board in
     let m = r .machine in
     let same : m .marked c ≡ logged (b .cache) c = now .stage .marks c h ∙ ap₂ eqb (sym (view-mark (b .cache) c)) (sym (now .stage .epochs)) in
-    one-cell r (starting w c v b m) dark inv now
+    one-cell r (starting w c v b m) crashed inv now
     (record {
       only = only-none c (b .cache);
       currents = λ d o. refl;
@@ -77,20 +77,20 @@ start r w c v dark inv now h e =
     })
 
 -- A taken start of an update.
-pub keeps-update : (r : Run) (w c v : ℕ) → Inv r → r .dark ≡ false → Taken (Update w c v) (r .board) → Inv (afterTaken (Update w c v) r)
+pub keeps-update : (r : Run) (w c v : ℕ) → Inv r → r .crashed ≡ false → Taken (Update w c v) (r .board) → Inv (afterTaken (Update w c v) r)
 unfolding standsAt causes effect feed
-keeps-update r w c v inv dark t =
+keeps-update r w c v inv crashed t =
     let s = r .board .state in
     let pass = passed (Update w c v) (r .board) t in
-    let now = ready r w isFree refl inv dark (pass 2) (pass 6) (pass 8) in
+    let now = ready r w isFree refl inv crashed (pass 2) (pass 6) (pass 8) in
     let inside : c < cells (s .lines) = leb-false (cells (s .lines)) c (or-right (ltb c (s .workers)) (leb (cells (s .lines)) c) (pass 7)) in
     start r w c v _ inv now (subst (λ (l : ℕ). c < cells l) (now .run .lines) inside) (pass 9)
 
 -- A taken start of a restart point.
-pub keeps-restart : (r : Run) (w v : ℕ) → Inv r → r .dark ≡ false → Taken (RestartPoint w v) (r .board) → Inv (afterTaken (RestartPoint w v) r)
+pub keeps-restart : (r : Run) (w v : ℕ) → Inv r → r .crashed ≡ false → Taken (RestartPoint w v) (r .board) → Inv (afterTaken (RestartPoint w v) r)
 unfolding standsAt causes effect feed
-keeps-restart r w v inv dark t =
+keeps-restart r w v inv crashed t =
     let s = r .board .state in
     let pass = passed (RestartPoint w v) (r .board) t in
-    let now = ready r w isFree refl inv dark (pass 2) (pass 6) (pass 8) in
+    let now = ready r w isFree refl inv crashed (pass 2) (pass 6) (pass 8) in
     start r w w v _ inv now (omega (arith, now .under, workers-in (r .machine .lines) (s .workers) (now .run .workers) .2)) (pass 9)

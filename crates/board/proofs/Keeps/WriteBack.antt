@@ -95,7 +95,7 @@ unfolding effect feed
 carried-recovering r inv v e i h =
     let z = inv .sizes in
     let b = r .board in
-    let after : Machine → Run = λ m. record { board = backed i (b .state) b; machine = m; dark = r .dark && true; erased = r .erased } in
+    let after : Machine → Run = λ m. record { board = backed i (b .state) b; machine = m; crashed = r .crashed && true; erased = r .erased } in
     subst (λ (m : Machine). Carried r (after m)) (sym (seen-none i (r .machine) (v .1 .request)))
     (record {
       keeps =
@@ -116,7 +116,7 @@ carried-recovering r inv v e i h =
 carried-running : (r : Run) → RunningRun r → (i : ℕ) → i ≤ r .machine .lines → Carried r (afterTaken (WriteBack i) r)
 unfolding effect feed writeBackSeen
 carried-running r s i h =
-    on (λ (n : Machine). Carried r (record { board = backed i (b .state) b; machine = n; dark = r .dark && true; erased = r .erased }))
+    on (λ (n : Machine). Carried r (record { board = backed i (b .state) b; machine = n; crashed = r .crashed && true; erased = r .erased }))
     (completes i m) (completed m) m
     (λ t. header (completes-parts i m t))
     (λ f. other f (v .stage))
@@ -131,17 +131,17 @@ carried-running r s i h =
     v = s .running
 
     after : ℕ → (ℕ → ℕ) → Run
-    after j xs = backRun r j (b .state .place) xs (m .steps) (r .dark && true)
+    after j xs = backRun r j (b .state .place) xs (m .steps) (r .crashed && true)
 
     header : (i ≡ 0) × (m .requested ≡ true) × (markedCount m + 1 ≤ m .steps) → Carried r (after i (m .current))
     header p =
         let on : b .state .requested ≡ true = sym (v .request) ∙ p .1 in
         let past : b .state .listed + 1 ≤ b .state .place = omega (arith, v .count, v .steps on, p .2) in
         subst (λ (j : ℕ). Carried r (after j (m .current))) (sym (p .0))
-        (header-back r s (b .state .place) (m .steps) (v .steps) (r .dark && true) on past past (place-high on (v .stage)) (v .stage))
+        (header-back r s (b .state .place) (m .steps) (v .steps) (r .crashed && true) on past past (place-high on (v .stage)) (v .stage))
 
     quiet : (i ≡ 0 → epochOf (b .cache) ≡ epochOf (b .memory)) → Stage (m .lines) (backed i (b .state) b) m → Carried r (after i (m .checkpointed))
-    quiet e stage = quiet-back r s (b .state .place) (m .steps) (v .steps) (r .dark && true) i h e (m .checkpointed) (λ c p. refl) stage
+    quiet e stage = quiet-back r s (b .state .place) (m .steps) (v .steps) (r .crashed && true) i h e (m .checkpointed) (λ c p. refl) stage
 
     other : completes i m ≡ false → Stage (m .lines) b m → Carried r (after i (m .checkpointed))
     other f (early e) = quiet (λ q. e .epochs) (early (early-back b (s .inv .sizes) i h (v .listed) e))
@@ -157,7 +157,7 @@ carried-running r s i h =
 -- ---- every phase that takes it
 
 -- What a taken write-back leaves.
-pub carried-write-back : (r : Run) (i : ℕ) → Inv r → r .dark ≡ false → Taken (WriteBack i) (r .board) → Carried r (afterTaken (WriteBack i) r)
+pub carried-write-back : (r : Run) (i : ℕ) → Inv r → r .crashed ≡ false → Taken (WriteBack i) (r .board) → Carried r (afterTaken (WriteBack i) r)
 unfolding standsAt causes
 carried-write-back r i inv d t = go (r .board .state .phase) refl
   where
@@ -178,5 +178,5 @@ carried-write-back r i inv d t = go (r .board .state .phase) refl
         carried-running r s i (omega (arith, line, s .running .lines))
 
 -- A taken write-back keeps the invariant.
-pub keeps-write-back : (r : Run) (i : ℕ) → Inv r → r .dark ≡ false → Taken (WriteBack i) (r .board) → Inv (afterTaken (WriteBack i) r)
+pub keeps-write-back : (r : Run) (i : ℕ) → Inv r → r .crashed ≡ false → Taken (WriteBack i) (r .board) → Inv (afterTaken (WriteBack i) r)
 keeps-write-back r i inv d t = carried-write-back r i inv d t .keeps

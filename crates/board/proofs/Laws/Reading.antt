@@ -53,7 +53,7 @@ running-record l b m lo p i n =
     (λ w h. cell-fine l b (conditionOf (b .state) w) (m .unfinished w) (i .worker w h))
 
 -- What holds in the phase that is known.
-pub in-phase : (r : Run) → Inv r → r .dark ≡ false → (p : Phase) → r .board .state .phase ≡ p → InPhase p r
+pub in-phase : (r : Run) → Inv r → r .crashed ≡ false → (p : Phase) → r .board .state .phase ≡ p → InPhase p r
 in-phase r i d p e = subst (λ (q : Phase). InPhase q r) e (i .phase d)
 
 -- The value of a read that is taken.
@@ -63,7 +63,7 @@ value-taken c b t =
     chosen (taken (Read c) b) (fieldOf (b .cache) c Field.Record) 0 (eq-eqb (cause (Read c) b) 0 t) ∙ view-value (b .cache) c
 
 -- A running board takes the read of every cell.
-pub read-taken : (r : Run) → Inv r → r .dark ≡ false → r .board .state .phase ≡ Running → (c : ℕ) → c < cells (r .machine .lines) → Taken (Read c) (r .board)
+pub read-taken : (r : Run) → Inv r → r .crashed ≡ false → r .board .state .phase ≡ Running → (c : ℕ) → c < cells (r .machine .lines) → Taken (Read c) (r .board)
 unfolding Clear causes
 read-taken r i d p c h =
     let v : RunningInv (r .machine .lines) (r .board) (r .machine) = in-phase r i d Running p .0 in
@@ -80,5 +80,5 @@ read-taken r i d p c h =
     )
 
 -- A running board reads the machine's current values.
-pub read-current : (r : Run) → Inv r → r .dark ≡ false → r .board .state .phase ≡ Running → (c : ℕ) → c < cells (r .machine .lines) → valueRead c (r .board) ≡ r .machine .current c
+pub read-current : (r : Run) → Inv r → r .crashed ≡ false → r .board .state .phase ≡ Running → (c : ℕ) → c < cells (r .machine .lines) → valueRead c (r .board) ≡ r .machine .current c
 read-current r i d p c h = value-taken c (r .board) (read-taken r i d p c h) ∙ in-phase r i d Running p .0 .current c h

@@ -105,7 +105,7 @@ refused-next k b o = passedOver (taken k b) (effect k b) b (ne-eqb (cause k b) 0
 -- The run after a call that is taken.
 abbrev pub afterTaken : Call → Run → Run
 afterTaken k r =
-    record { board = effect k (r .board); machine = feed k (r .machine); dark = r .dark && not (isStart (kind k)); erased = erasedBy k (r .machine) (r .erased) }
+    record { board = effect k (r .board); machine = feed k (r .machine); crashed = r .crashed && not (isStart (kind k)); erased = erasedBy k (r .machine) (r .erased) }
 
 -- ---- the tests of limits, record and rows
 

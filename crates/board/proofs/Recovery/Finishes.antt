@@ -32,7 +32,7 @@ use Rattle.board.proofs.Keeps.WriteBack.{keeps-write-back}
 -- A run in the middle of a recovery that has `n` steps left and was started for the values `xs` of `l` lines.
 pub record Underway (n l : ℕ) (xs : ℕ → ℕ) (r : Run) : Type 0 where
   pub inv : Inv r
-  pub light : r .dark ≡ false
+  pub uncut : r .crashed ≡ false
   pub phase : r .board .state .phase ≡ Recovering
   pub left : remaining (r .board) ≡ n
   pub lines : r .machine .lines ≡ l
@@ -43,7 +43,7 @@ abbrev Done : ℕ → (ℕ → ℕ) → Board → Type 0
 Done l xs b = (c : ℕ) → c < cells l → Taken (Read c) b × (valueRead c b ≡ xs c)
 
 -- A running run with those values is done.
-done : (l : ℕ) (xs : ℕ → ℕ) (r : Run) → Inv r → r .dark ≡ false → r .board .state .phase ≡ Running → r .machine .lines ≡ l → ((c : ℕ) → r .machine .current c ≡ xs c) → Done l xs (r .board)
+done : (l : ℕ) (xs : ℕ → ℕ) (r : Run) → Inv r → r .crashed ≡ false → r .board .state .phase ≡ Running → r .machine .lines ≡ l → ((c : ℕ) → r .machine .current c ≡ xs c) → Done l xs (r .board)
 done l xs r i d p e v c h =
     let k : c < cells (r .machine .lines) = omega (arith, e) in
     (read-taken r i d p c k, read-current r i d p c k ∙ v c)
@@ -80,7 +80,7 @@ unfolding effect
 phase-back i b = refl
 
 -- The place of a recovery is a cell's.
-place-within : (r : Run) → Inv r → r .dark ≡ false → r .board .state .phase ≡ Recovering → r .board .state .place < cells (r .board .state .lines)
+place-within : (r : Run) → Inv r → r .crashed ≡ false → r .board .state .phase ≡ Recovering → r .board .state .place < cells (r .board .state .lines)
 place-within r i d p =
     let v : RecoveryInv (r .machine .lines) (r .machine .checkpointed) (r .board) = in-phase r i d Recovering p .0 in
     omega (arith, v .within, v .lines)
@@ -88,7 +88,7 @@ place-within r i d p =
 -- A recovery has a step left, so none is not all of it.
 some-left : {l : ℕ} {xs : ℕ → ℕ} (r : Run) → Underway zero l xs r → ⊥
 some-left r u =
-    omega (arith, remaining-positive (r .board) (place-within r (u .inv) (u .light) (u .phase)), u .left)
+    omega (arith, remaining-positive (r .board) (place-within r (u .inv) (u .uncut) (u .phase)), u .left)
 
 -- Every call of a running board is refused in a recovery.
 not-running : (k : Call) (b : Board) → b .state .phase ≡ Recovering → (Taken k b → not (isRunning (b .state .phase)) ≡ false) → Taken k b → ⊥
@@ -97,19 +97,19 @@ not-running k b p f t = clash (ap (λ (q : Phase). not (isRunning q)) p) (f t)
 module _ (l : ℕ) (xs : ℕ → ℕ) where
   -- After a taken step of the recovery one step fewer is left, or it was the last and the board is done.
   stepped-on : (n : ℕ) (r : Run) → Underway (suc n) l xs r → Taken Step (r .board) → Underway n l xs (afterTaken Step r) ⊎ ((n ≡ 0) × Done l xs (effect Step (r .board)))
-  stepped-on n r u t = go (remaining-step (r .board) (u .phase) (place-within r (u .inv) (u .light) (u .phase)))
+  stepped-on n r u t = go (remaining-step (r .board) (u .phase) (place-within r (u .inv) (u .uncut) (u .phase)))
     where
       known : RecoveryInv (r .machine .lines) (r .machine .checkpointed) (r .board) × RecoveryMachine (r .machine) × (r .erased ≡ false)
-      known = in-phase r (u .inv) (u .light) Recovering (u .phase)
+      known = in-phase r (u .inv) (u .uncut) Recovering (u .phase)
 
       machine : feed Step (r .machine) ≡ counted (r .machine)
       machine = step-counts (r .machine) (known .1 .request) (known .1 .formatting)
 
       inv : Inv (afterTaken Step r)
-      inv = keeps-recovery-step r (u .inv) (u .light) (u .phase) t
+      inv = keeps-recovery-step r (u .inv) (u .uncut) (u .phase) t
 
-      light : afterTaken Step r .dark ≡ false
-      light = and-off (r .dark) true (u .light)
+      uncut : afterTaken Step r .crashed ≡ false
+      uncut = and-off (r .crashed) true (u .uncut)
 
       lines : afterTaken Step r .machine .lines ≡ l
       lines = ap (λ (m : Machine). m .lines) machine ∙ u .lines
@@ -119,9 +119,9 @@ module _ (l : ℕ) (xs : ℕ → ℕ) where
 
       go : ((effect Step (r .board) .state .phase ≡ Recovering) × (remaining (effect Step (r .board)) + 1 ≡ remaining (r .board))) ⊎ ((effect Step (r .board) .state .phase ≡ Running) × (remaining (r .board) ≡ 1)) → Underway n l xs (afterTaken Step r) ⊎ ((n ≡ 0) × Done l xs (effect Step (r .board)))
       go (inl x) =
-          inl (record { inv = inv; light = light; phase = x .0; left = omega (arith, x .1, u .left); lines = lines; values = values })
+          inl (record { inv = inv; uncut = uncut; phase = x .0; left = omega (arith, x .1, u .left); lines = lines; values = values })
       go (inr x) =
-          inr (omega (arith, x .1, u .left), done l xs (afterTaken Step r) inv light (x .0) lines values)
+          inr (omega (arith, x .1, u .left), done l xs (afterTaken Step r) inv uncut (x .0) lines values)
 
   -- A call other than a start or step that is taken in a recovery is a write-back, which leaves it underway.
   goes-on : (n : ℕ) (k : Call) (r : Run) → Underway n l xs r → Taken k (r .board) → kind k ≡ other → Underway n l xs (afterTaken k r)
@@ -135,8 +135,8 @@ module _ (l : ℕ) (xs : ℕ → ℕ) where
   goes-on n Request r u t e = absurd (not-running Request (r .board) (u .phase) (λ t. passed Request (r .board) t 2) t)
   goes-on n (WriteBack i) r u t e =
       record {
-        inv = keeps-write-back r i (u .inv) (u .light) t;
-        light = and-off (r .dark) true (u .light);
+        inv = keeps-write-back r i (u .inv) (u .uncut) t;
+        uncut = and-off (r .crashed) true (u .uncut);
         phase = phase-back i (r .board) ∙ u .phase;
         left = remaining-back i (r .board) ∙ u .left;
         lines = back-lines i (r .machine) ∙ u .lines;
@@ -170,7 +170,7 @@ unfolding feed
 begun r i t =
     record {
       inv = keeps-recovery-start r i t;
-      light = and-off-right (r .dark) false refl;
+      uncut = and-off-right (r .crashed) false refl;
       phase = phase-start (r .board);
       left = remaining-start (r .board);
       lines = refl;
