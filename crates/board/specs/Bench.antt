@@ -58,6 +58,7 @@ unfoldable pub runsIn : ℕ → Board → Bool
 runsIn zero b = isRunning (b .state .phase)
 runsIn (suc n) b = not (isRunning (b .state .phase)) && taken Step b && runsIn n (next Step b)
 
+-- The thing is seen on the board.
 unfoldable pub sees : Seen → Board → Bool
 sees (answers k n) b = eqb (cause k b) n
 sees (memoryLine l words) b = same (lineOf (b .memory) l) words
@@ -66,6 +67,7 @@ sees (listed cs) b = same (take (b .state .listed) (b .entries)) cs
 sees (reads c v) b = taken (Read c) b && eqb (valueRead c b) v
 sees (endsIn k n) b = taken k b && runsIn n (next k b)
 
+-- All of the things are seen.
 unfoldable pub allSeen : List Seen → Board → Bool
 allSeen [] b = true
 allSeen (x ∷ xs) b = sees x b && allSeen xs b
@@ -122,6 +124,7 @@ recovery n = RecoveryStart ∷ replicate n Step
 
 -- ---- the table
 
+-- A row of the table.
 abbrev pub from : ℕ → Board → List Call → List Seen → Case
 from name board calls seen = record { name = name; board = board; calls = calls; seen = seen }
 

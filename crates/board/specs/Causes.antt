@@ -44,7 +44,10 @@ placePast Running s = s .requested && ltb (s .listed + 2) (s .place)
 -- "L or W outside the limits, list length over 2L; place ..; cell 2L or more in an update of a worker under W".
 unfoldable pub badRecord : State → Bool
 badRecord s =
-    outside (s .lines) (s .workers) || ltb (cells (s .lines)) (s .listed) || placePast (s .phase) s || anyWorker s (updates (leb (cells (s .lines))))
+    outside (s .lines) (s .workers)
+    || ltb (cells (s .lines)) (s .listed)
+    || placePast (s .phase) s
+    || anyWorker s (updates (leb (cells (s .lines))))
 
 -- "an advance by a worker under W must add a cell and the length is 2L".
 abbrev pub listFull : State → ℕ → Bool
@@ -54,7 +57,10 @@ listFull s w = ltb w (s .workers) && mustList (conditionOf s w) && eqb (s .liste
 
 -- "cache or memory not 8×(L+1) words, list under 2L".
 abbrev pub badRows : ℕ → Board → Bool
-badRows l b = not (eqb (length (b .cache)) (rowWords l)) || not (eqb (length (b .memory)) (rowWords l)) || ltb (length (b .entries)) (listWords l)
+badRows l b =
+    not (eqb (length (b .cache)) (rowWords l))
+    || not (eqb (length (b .memory)) (rowWords l))
+    || ltb (length (b .entries)) (listWords l)
 
 -- The step at hand is one of a requested checkpoint.
 abbrev pub checkpointing : State → Bool
@@ -63,18 +69,26 @@ checkpointing s = isRunning (s .phase) && s .requested
 -- "a list entry that this step uses is 2L or more".
 abbrev pub badEntry : Board → Bool
 badEntry b =
-    checkpointing (b .state) && ltb (b .state .place) (b .state .listed) && leb (cells (b .state .lines)) (getD (b .entries) (b .state .place) 0)
+    checkpointing (b .state)
+    && ltb (b .state .place) (b .state .listed)
+    && leb (cells (b .state .lines)) (getD (b .entries) (b .state .place) 0)
 
 -- "at recovery's start: memory not a multiple of 8 in 16 to 4,096 words, cache of another length, list under (words div 4) − 2".
 abbrev pub badRecoveryRows : Board → Bool
 badRecoveryRows b =
-    not (eqb (length (b .memory) % 8) 0 && leb 16 (length (b .memory)) && leb (length (b .memory)) 4096) || not (eqb (length (b .cache)) (length (b .memory))) || ltb (length (b .entries)) (length (b .memory) / 4 - 2)
+    not (eqb (length (b .memory) % 8) 0 && leb 16 (length (b .memory)) && leb (length (b .memory)) 4096)
+    || not (eqb (length (b .cache)) (length (b .memory)))
+    || ltb (length (b .entries)) (length (b .memory) / 4 - 2)
 
--- ---- cause 5: "recovery's start: epoch 0, L not (words div 8) − 1, W outside the limits, or words 3 to 7 not all zero"
+-- ---- cause 5
 
+-- "recovery's start: epoch 0, L not (words div 8) − 1, W outside the limits, or words 3 to 7 not all zero".
 abbrev pub badHeader : List ℕ → Bool
 badHeader row =
-    eqb (epochOf row) 0 || not (eqb (linesOf row) (length row / 8 - 1)) || workersOutside (linesOf row) (workersOf row) || restNotZero row
+    eqb (epochOf row) 0
+    || not (eqb (linesOf row) (length row / 8 - 1))
+    || workersOutside (linesOf row) (workersOf row)
+    || restNotZero row
 
 -- ---- causes 6 to 11
 
@@ -116,27 +130,70 @@ storesSpentEpoch b = checkpointing (b .state) && eqb (b .state .place) (b .state
 
 -- ---- the table
 
+-- A row of the table.
 abbrev pub row : ℕ → Bool → Cause
 row number stands = record { number = number; stands = stands }
 
 -- "Checked in rising order of number": what can turn each call down.
 unfoldable pub causes : Call → Board → List Cause
-causes (FormatStart l w) b = row 1 (outside l w) ∷ row 4 (badRows l b) ∷ []
-causes RecoveryStart b = row 4 (badRecoveryRows b) ∷ row 5 (badHeader (b .memory)) ∷ []
+causes (FormatStart l w) b =
+    row 1 (outside l w)
+    ∷ row 4 (badRows l b)
+    ∷ []
+causes RecoveryStart b =
+    row 4 (badRecoveryRows b)
+    ∷ row 5 (badHeader (b .memory))
+    ∷ []
 causes Step b =
-    row 2 (notOn b) ∷ row 3 (badRecord (b .state)) ∷ row 4 (badRows (b .state .lines) b || badEntry b) ∷ row 10 (notReady (b .state)) ∷ row 11 (storesSpentEpoch b) ∷ []
+    row 2 (notOn b)
+    ∷ row 3 (badRecord (b .state))
+    ∷ row 4 (badRows (b .state .lines) b || badEntry b)
+    ∷ row 10 (notReady (b .state))
+    ∷ row 11 (storesSpentEpoch b)
+    ∷ []
 causes (Update w c v) b =
-    row 2 (notRunning b) ∷ row 3 (badRecord (b .state)) ∷ row 4 (badRows (b .state .lines) b) ∷ row 6 (noWorker (b .state) w) ∷ row 7 (noDataCell (b .state) c) ∷ row 8 (busy (b .state) w) ∷ row 9 (othersUpdate (b .state) w c) ∷ []
+    row 2 (notRunning b)
+    ∷ row 3 (badRecord (b .state))
+    ∷ row 4 (badRows (b .state .lines) b)
+    ∷ row 6 (noWorker (b .state) w)
+    ∷ row 7 (noDataCell (b .state) c)
+    ∷ row 8 (busy (b .state) w)
+    ∷ row 9 (othersUpdate (b .state) w c)
+    ∷ []
 causes (RestartPoint w v) b =
-    row 2 (notRunning b) ∷ row 3 (badRecord (b .state)) ∷ row 4 (badRows (b .state .lines) b) ∷ row 6 (noWorker (b .state) w) ∷ row 8 (busy (b .state) w) ∷ row 9 (othersUpdate (b .state) w w) ∷ []
+    row 2 (notRunning b)
+    ∷ row 3 (badRecord (b .state))
+    ∷ row 4 (badRows (b .state .lines) b)
+    ∷ row 6 (noWorker (b .state) w)
+    ∷ row 8 (busy (b .state) w)
+    ∷ row 9 (othersUpdate (b .state) w w)
+    ∷ []
 causes (Advance w) b =
-    row 2 (notRunning b) ∷ row 3 (badRecord (b .state) || listFull (b .state) w) ∷ row 4 (badRows (b .state .lines) b) ∷ row 6 (noWorker (b .state) w) ∷ row 8 (idle (b .state) w) ∷ []
+    row 2 (notRunning b)
+    ∷ row 3 (badRecord (b .state) || listFull (b .state) w)
+    ∷ row 4 (badRows (b .state .lines) b)
+    ∷ row 6 (noWorker (b .state) w)
+    ∷ row 8 (idle (b .state) w)
+    ∷ []
 causes Request b =
-    row 2 (notRunning b) ∷ row 3 (badRecord (b .state)) ∷ row 4 (badRows (b .state .lines) b) ∷ row 10 (b .state .requested) ∷ row 11 (epochSpent b) ∷ []
+    row 2 (notRunning b)
+    ∷ row 3 (badRecord (b .state))
+    ∷ row 4 (badRows (b .state .lines) b)
+    ∷ row 10 (b .state .requested)
+    ∷ row 11 (epochSpent b)
+    ∷ []
 causes (WriteBack l) b =
-    row 2 (notRecoveringOrRunning b) ∷ row 3 (badRecord (b .state)) ∷ row 4 (badRows (b .state .lines) b) ∷ row 7 (noLine (b .state) l) ∷ []
+    row 2 (notRecoveringOrRunning b)
+    ∷ row 3 (badRecord (b .state))
+    ∷ row 4 (badRows (b .state .lines) b)
+    ∷ row 7 (noLine (b .state) l)
+    ∷ []
 causes (Read c) b =
-    row 2 (notRunning b) ∷ row 3 (badRecord (b .state)) ∷ row 4 (badRows (b .state .lines) b) ∷ row 7 (noCell (b .state) c) ∷ []
+    row 2 (notRunning b)
+    ∷ row 3 (badRecord (b .state))
+    ∷ row 4 (badRows (b .state .lines) b)
+    ∷ row 7 (noCell (b .state) c)
+    ∷ []
 
 -- The number of the first cause that stands, 0 where none does.
 unfoldable pub firstStanding : List Cause → ℕ

@@ -75,18 +75,25 @@ recorded row c value = withField row c Field.Record value
 -- "L+2 steps: memory and cache line 0 become zeros; each of lines 1 to L, rising, becomes zeros in both; line 0 becomes epoch 1, L, W and zeros in both."
 unfoldable pub formatStep : State → Board → Board
 formatStep s b =
-    cond (leb (s .place) (s .lines)) (inBoth (s .place) zeroWords (placed s (s .place + 1) (s .undo)) b) (inBoth 0 (headerWords 1 (s .lines) (s .workers)) (opened s 0) b)
+    cond (leb (s .place) (s .lines))
+    (inBoth (s .place) zeroWords (placed s (s .place + 1) (s .undo)) b)
+    (inBoth 0 (headerWords 1 (s .lines) (s .workers)) (opened s 0) b)
 
 -- ---- recovery
 
 -- "Then cells from 0 up .. After the last cell: running": the state record past cell `place`.
 abbrev pub pastCell : State → State
-pastCell s = cond (ltb (s .place + 1) (cells (s .lines))) (placed s (s .place + 1) Restore) (opened s (s .listed))
+pastCell s =
+    cond (ltb (s .place + 1) (cells (s .lines)))
+    (placed s (s .place + 1) Restore)
+    (opened s (s .listed))
 
 -- "record := backup; mark := 0; its line written back"; any other cell, "one step that stores nothing". The mark is looked at only before the first.
 unfoldable pub recoveryStep : UndoStep → State → Board → Board
 recoveryStep Restore s b =
-    cond (logged (b .cache) (s .place)) (cached (restored (b .cache) (s .place)) (placed s (s .place) Unmark) b) (stated (pastCell s) b)
+    cond (logged (b .cache) (s .place))
+    (cached (restored (b .cache) (s .place)) (placed s (s .place) Unmark) b)
+    (stated (pastCell s) b)
 recoveryStep Unmark s b = cached (unmarked (b .cache) (s .place)) (placed s (s .place) WriteLine) b
 recoveryStep WriteLine s b = backed (cellLine (s .place)) (pastCell s) b
 
@@ -104,14 +111,16 @@ actAt n place = cond (ltb place n) writeLine (cond (eqb place n) storeEpoch (con
 abbrev pub listedLine : ℕ → List ℕ → ℕ
 listedLine place entries = cellLine (getD entries place 0)
 
+-- What each act does.
 unfoldable pub perform : Act → State → Board → Board
 perform writeLine s b = backed (listedLine (s .place) (b .entries)) (placed s (s .place + 1) (s .undo)) b
 perform storeEpoch s b = cached (set (b .cache) 0 (epochOf (b .cache) + 1)) (placed s (s .place + 1) (s .undo)) b
 perform writeHeader s b = backed 0 (placed s (s .place + 1) (s .undo)) b
 perform release s b = stated (released s) b
 
--- ---- the step call, by phase
+-- ---- the step call
 
+-- A step, by the phase; "the step call needs a phase other than off".
 unfoldable pub step : Phase → State → Board → Board
 step Off s b = b
 step Formatting s b = formatStep s b
@@ -139,6 +148,7 @@ advance Mark w c v s b =
     record { state = conditioned s w (Updating c v Record) (s .listed + 1); memory = b .memory; cache = markedNow (b .cache) c; entries = set (b .entries) (s .listed) c }
 advance Record w c v s b = cached (recorded (b .cache) c v) (conditioned s w (afterLast s c) (s .listed)) b
 
+-- An advance of a worker, by its condition; of one free or waiting there is none.
 unfoldable pub advanceOf : Condition → ℕ → State → Board → Board
 advanceOf Free w s b = b
 advanceOf Waiting w s b = b
@@ -146,6 +156,7 @@ advanceOf (Updating c v next) w s b = advance next w c v s b
 
 -- ---- every call
 
+-- What each call does where no cause stands: "Each of the two starts sets every field"; "Recovery. The start copies memory to cache".
 unfoldable pub effect : Call → Board → Board
 effect (FormatStart l w) b = stated (started Formatting l w) b
 effect RecoveryStart b = cached (b .memory) (started Recovering (linesOf (b .memory)) (workersOf (b .memory))) b

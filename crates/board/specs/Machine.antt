@@ -100,6 +100,7 @@ fewer zero w c v m = valued c v (noting w none m)
 fewer (suc zero) w c v m = marking c (noting w (update c v 1) m)
 fewer (suc (suc left)) w c v m = noting w (update c v (suc (suc left))) m
 
+-- An advance of the worker's unfinished update.
 unfoldable pub advanced : Unfinished → ℕ → Machine → Machine
 advanced none w m = m
 advanced (update c v left) w m = fewer (left - 1) w c v m
@@ -113,6 +114,7 @@ checkpointStep m =
 abbrev pub finishesFormat : Machine → Bool
 finishesFormat m = m .formatting && eqb (m .steps + 1) (formatSteps (m .lines))
 
+-- A taken step: of a requested checkpoint, the last of a format, or one that is only counted.
 unfoldable pub stepped : Machine → Machine
 stepped m = cond (m .requested) (checkpointStep m) (cond (finishesFormat m) (beginning (m .lines)) (counted m))
 

@@ -28,6 +28,7 @@ valueRead c b = cond (taken (Read c) b) (fieldOf (b .cache) c Field.Record) 0
 pub data Kind : Type 0 where
   start stepping other : Kind
 
+-- The kind of a call.
 abbrev pub kind : Call → Kind
 kind (FormatStart l w) = start
 kind RecoveryStart = start
@@ -39,11 +40,13 @@ kind Request = other
 kind (WriteBack l) = other
 kind (Read c) = other
 
+-- A start of format or recovery.
 abbrev pub isStart : Kind → Bool
 isStart start = true
 isStart stepping = false
 isStart other = false
 
+-- The step call.
 abbrev pub isStep : Kind → Bool
 isStep start = false
 isStep stepping = true

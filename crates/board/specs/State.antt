@@ -80,24 +80,28 @@ othersUpdate s w c = anyUnder 8 (λ i. ltb i (s .workers) && not (eqb i w) && up
 
 -- ---- phases
 
+-- The phase is off.
 abbrev pub isOff : Phase → Bool
 isOff Off = true
 isOff Formatting = false
 isOff Recovering = false
 isOff Running = false
 
+-- The phase is formatting.
 abbrev pub isFormatting : Phase → Bool
 isFormatting Off = false
 isFormatting Formatting = true
 isFormatting Recovering = false
 isFormatting Running = false
 
+-- The phase is running.
 abbrev pub isRunning : Phase → Bool
 isRunning Off = false
 isRunning Formatting = false
 isRunning Recovering = false
 isRunning Running = true
 
+-- The phase is recovering.
 abbrev pub isRecovering : Phase → Bool
 isRecovering Off = false
 isRecovering Formatting = false

@@ -129,6 +129,7 @@ several Request phase = false
 several (WriteBack l) phase = false
 several (Read c) phase = false
 
+-- A taken call other than those stores at most one word of the cache or one line of memory.
 abbrev pub SingleStores : Type 0
 SingleStores = (k : Call) (b : Board) → Taken k b → several k (b .state .phase) ≡ false → OneStore b (next k b)
 
