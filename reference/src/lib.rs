@@ -1,6 +1,7 @@
 //! The second program: the board of document 01, its simple machine and its drill, written from the paper alone.
 #![deny(warnings)]
 
+pub mod bench;
 pub mod board;
 pub mod call;
 pub mod causes;

@@ -1,4 +1,4 @@
-//! The second program's commands: drill, script and explore.
+//! The second program's commands: drill, script, explore and bench.
 #![deny(warnings)]
 
 use std::io::{self, BufReader, BufWriter, Write};
@@ -7,12 +7,13 @@ use std::process::ExitCode;
 use reference::explore::check::Check;
 use reference::explore::{exhaustive, explore, Caught, Options};
 use reference::mistake::Mistake;
-use reference::{drill, script};
+use reference::{bench, drill, script};
 
 const USAGE: &str = "usage: reference drill
        reference script SEED LINES [L W]
        reference explore SEED COUNT [--mistake NAME] [--only CHECK]
-       reference explore --exhaustive [--mistake NAME] [--only CHECK]";
+       reference explore --exhaustive [--mistake NAME] [--only CHECK]
+       reference bench WORKLOAD L N ROUNDS SEED";
 
 fn main() -> ExitCode {
     let words: Vec<String> = std::env::args().skip(1).collect();
@@ -21,6 +22,7 @@ fn main() -> ExitCode {
         ["drill"] => done(drill::run(BufReader::with_capacity(1 << 16, io::stdin()), output())),
         ["script", numbers @ ..] => script_command(numbers),
         ["explore", rest @ ..] => explore_command(rest),
+        ["bench", workload, numbers @ ..] => bench_command(workload, numbers),
         _ => None,
     };
     code.unwrap_or_else(|| {
@@ -53,6 +55,14 @@ fn script_command(numbers: &[&str]) -> Option<ExitCode> {
     };
     let mut out = output();
     done(out.write_all(&script::script(seed, lines, size)).and_then(|()| out.flush()))
+}
+
+/// reference bench WORKLOAD L N ROUNDS SEED: the workload's checksum.
+fn bench_command(workload: &str, numbers: &[&str]) -> Option<ExitCode> {
+    let numbers: Vec<u64> = numbers.iter().map(|word| word.parse().ok()).collect::<Option<_>>()?;
+    let [lines, n, rounds, seed] = numbers.as_slice() else { return None };
+    println!("{}", bench::run(bench::Workload::named(workload)?, *lines, *n, *rounds, *seed)?);
+    Some(ExitCode::SUCCESS)
 }
 
 /// reference explore ...
