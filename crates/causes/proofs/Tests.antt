@@ -1,0 +1,23 @@
+-- Laws of tests that code writes in another way than the definitions.
+use Prim.Native.Nat.{ℕ, _+_, _/_}
+use mathlib.Core.Path.{_≡_, sym, _∙_}
+use mathlib.Core.Bool.{Bool, _||_}
+use lib.Dec.{ltb}
+use borrow.Author.Tests.{ltb-true, ltb-false, lt-ltb, le-ltb}
+use native.Mathlib.Omega.{arith}
+use native.Mathlib.Numerals.{add-one}
+use Rattle.board.specs.Board.{cells}
+use Rattle.board.specs.State.{anyUnder}
+use Rattle.board.proofs.Laws.Bools.{split}
+
+-- "W < 2L", halved.
+pub half-below : (w l : ℕ) → ltb (w / 2) l ≡ ltb w (cells l)
+half-below w l =
+    split (ltb w (cells l))
+    (λ t. lt-ltb (w / 2) l (omega (arith, ltb-true w (cells l) t)) ∙ sym t)
+    (λ f. le-ltb (w / 2) l (omega (arith, ltb-false w (cells l) f)) ∙ sym f)
+
+-- One more number under the bound.
+pub under-more : (n : ℕ) (test : ℕ → Bool) → anyUnder (n + 1) test ≡ anyUnder n test || test n
+unfolding anyUnder
+under-more n test = rw add-one

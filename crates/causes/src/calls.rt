@@ -1,0 +1,152 @@
+// For each call the number of its first cause, 0 where it is taken: document 01's table, a field for each row that the call is tested by.
+use crate::limits;
+use crate::order::Causes;
+use crate::order::LIMITS;
+use crate::order::NONE;
+use crate::order::first;
+use crate::phases;
+use crate::record;
+use crate::rows;
+use board::State;
+ghost use mathlib.Core.Path.{_≡_};
+ghost use Prim.Native.Nat.{ℕ};
+ghost use Rattle.board.specs.declared.Call.the-variants.{FormatStart, RecoveryStart, Step, Update, RestartPoint, Advance, Request, WriteBack, Read};
+ghost use Rattle.board.specs.Causes.{cause};
+ghost use Rattle.board.specs.Next.{lent};
+
+// Format's start looks at its own L and W, and at the rows for that L.
+pub fn of_format_start(
+    state: State,
+    memory: &[u64],
+    cache: &[u64],
+    entries: &[u16],
+    lines: u64,
+    workers: u64,
+) -> u8
+    ensures { λ r. ⌜ r ≡ cause (FormatStart lines workers) (lent state (now (memory .entry)) (now (cache .entry)) (now (entries .entry))) ⌝ }
+{
+    if limits::outside(lines, workers) {
+        return LIMITS;
+    }
+    first(Causes {
+        rows: rows::bad_rows(lines as u16, memory, cache, entries),
+        ..NONE
+    })
+}
+
+// Recovery's start looks at the rows and at memory's header.
+pub fn of_recovery_start(state: State, memory: &[u64], cache: &[u64], entries: &[u16]) -> u8
+    ensures { λ r. ⌜ r ≡ cause RecoveryStart (lent state (now (memory .entry)) (now (cache .entry)) (now (entries .entry))) ⌝ }
+{
+    first(Causes {
+        rows: rows::bad_recovery_rows(memory, cache, entries),
+        header: rows::bad_header(memory),
+        ..NONE
+    })
+}
+
+pub fn of_step(state: State, memory: &[u64], cache: &[u64], entries: &[u16]) -> u8
+    ensures { λ r. ⌜ r ≡ cause Step (lent state (now (memory .entry)) (now (cache .entry)) (now (entries .entry))) ⌝ }
+{
+    first(Causes {
+        phase: phases::not_on(state),
+        state: record::bad_record(state),
+        rows: rows::bad_rows(state.lines, memory, cache, entries) | rows::bad_entry(state, entries),
+        checkpoint: record::not_ready(state),
+        epoch: rows::stores_spent_epoch(state, cache),
+        ..NONE
+    })
+}
+
+pub fn of_update(
+    state: State,
+    memory: &[u64],
+    cache: &[u64],
+    entries: &[u16],
+    worker: u64,
+    cell: u64,
+) -> u8
+    ensures { λ r. ⌜ ((v : ℕ) → r ≡ cause (Update worker cell v) (lent state (now (memory .entry)) (now (cache .entry)) (now (entries .entry)))) ⌝ }
+{
+    first(Causes {
+        phase: phases::not_running(state),
+        state: record::bad_record(state),
+        rows: rows::bad_rows(state.lines, memory, cache, entries),
+        worker: record::no_worker(state, worker),
+        address: record::no_data_cell(state, cell),
+        condition: record::busy(state, worker),
+        conflict: record::others_update(state, worker, cell),
+        ..NONE
+    })
+}
+
+// A restart point is an update of the worker's own cell, which is no data cell.
+pub fn of_restart_point(
+    state: State,
+    memory: &[u64],
+    cache: &[u64],
+    entries: &[u16],
+    worker: u64,
+) -> u8
+    ensures { λ r. ⌜ ((v : ℕ) → r ≡ cause (RestartPoint worker v) (lent state (now (memory .entry)) (now (cache .entry)) (now (entries .entry)))) ⌝ }
+{
+    first(Causes {
+        phase: phases::not_running(state),
+        state: record::bad_record(state),
+        rows: rows::bad_rows(state.lines, memory, cache, entries),
+        worker: record::no_worker(state, worker),
+        condition: record::busy(state, worker),
+        conflict: record::others_update(state, worker, worker),
+        ..NONE
+    })
+}
+
+pub fn of_advance(state: State, memory: &[u64], cache: &[u64], entries: &[u16], worker: u64) -> u8
+    ensures { λ r. ⌜ r ≡ cause (Advance worker) (lent state (now (memory .entry)) (now (cache .entry)) (now (entries .entry))) ⌝ }
+{
+    first(Causes {
+        phase: phases::not_running(state),
+        state: record::bad_record(state) | record::list_full(state, worker),
+        rows: rows::bad_rows(state.lines, memory, cache, entries),
+        worker: record::no_worker(state, worker),
+        condition: record::idle(state, worker),
+        ..NONE
+    })
+}
+
+pub fn of_request(state: State, memory: &[u64], cache: &[u64], entries: &[u16]) -> u8
+    ensures { λ r. ⌜ r ≡ cause Request (lent state (now (memory .entry)) (now (cache .entry)) (now (entries .entry))) ⌝ }
+{
+    first(Causes {
+        phase: phases::not_running(state),
+        state: record::bad_record(state),
+        rows: rows::bad_rows(state.lines, memory, cache, entries),
+        checkpoint: state.requested,
+        epoch: rows::epoch_spent(cache),
+        ..NONE
+    })
+}
+
+pub fn of_write_back(state: State, memory: &[u64], cache: &[u64], entries: &[u16], line: u64) -> u8
+    ensures { λ r. ⌜ r ≡ cause (WriteBack line) (lent state (now (memory .entry)) (now (cache .entry)) (now (entries .entry))) ⌝ }
+{
+    first(Causes {
+        phase: phases::not_recovering_or_running(state),
+        state: record::bad_record(state),
+        rows: rows::bad_rows(state.lines, memory, cache, entries),
+        address: record::no_line(state, line),
+        ..NONE
+    })
+}
+
+pub fn of_read(state: State, memory: &[u64], cache: &[u64], entries: &[u16], cell: u64) -> u8
+    ensures { λ r. ⌜ r ≡ cause (Read cell) (lent state (now (memory .entry)) (now (cache .entry)) (now (entries .entry))) ⌝ }
+{
+    first(Causes {
+        phase: phases::not_running(state),
+        state: record::bad_record(state),
+        rows: rows::bad_rows(state.lines, memory, cache, entries),
+        address: record::no_cell(state, cell),
+        ..NONE
+    })
+}

@@ -1,0 +1,39 @@
+// The limits of L and W (document 01, "Lines and cells").
+ghost use mathlib.Core.Path.{_≡_};
+ghost use Prim.Native.Nat.{_-_};
+ghost use Rattle.board.specs.Board.{cells, linesOutside, workersOutside, outside};
+
+// "Lines 1 to L hold two cells each": the number of cells.
+pub fn cells(lines: u16) -> u64
+    ensures { λ r. ⌜ r ≡ cells lines ⌝ }
+{
+    2 * (lines as u64)
+}
+
+// "L, the cell lines, is 1 to 511"
+pub fn lines_outside(lines: u64) -> bool
+    ensures { λ r. ⌜ r ≡ linesOutside lines ⌝ }
+{
+    !((1 <= lines) & (lines <= 511))
+}
+
+// "W, the workers, is 1 to 8, and W < 2L": halved, since twice a lent number could wrap
+pub fn workers_outside(lines: u64, workers: u64) -> bool
+    ensures { λ r. ⌜ r ≡ workersOutside lines workers ⌝ }
+{
+    !((1 <= workers) & (workers <= 8) & (workers / 2 < lines))
+}
+
+// "L or W outside the limits above"
+pub fn outside(lines: u64, workers: u64) -> bool
+    ensures { λ r. ⌜ r ≡ outside lines workers ⌝ }
+{
+    lines_outside(lines) | workers_outside(lines, workers)
+}
+
+// A difference of natural numbers: 0 where it would be less.
+pub fn less(a: usize, b: usize) -> usize
+    ensures { λ r. ⌜ r ≡ a - b ⌝ }
+{
+    if b <= a { a - b } else { 0 }
+}

@@ -1,0 +1,95 @@
+// Cause 4, "rows", the header's cause 5, and the epoch's cause 11.
+use crate::limits;
+use crate::record;
+use board::State;
+ghost use mathlib.Core.Path.{_≡_};
+ghost use mathlib.Core.List.{List};
+ghost use Prim.Native.Nat.{ℕ};
+ghost use lib.ListN.{getD};
+ghost use Rattle.board.specs.declared.State.{State};
+ghost use Rattle.board.specs.Causes.{badRows, badEntry, badRecoveryRows, badHeader, epochSpent, storesSpentEpoch};
+ghost use Rattle.board.specs.Board.{restNotZero};
+ghost use Rattle.board.specs.Next.{lent};
+
+// "2^64 − 1"
+const LAST_EPOCH: u64 = 0xffff_ffff_ffff_ffff;
+
+// A word of a row, 0 past its end.
+pub fn word(row: &[u64], k: usize) -> u64
+    ensures { λ r. ⌜ r ≡ getD (now (row .entry)) k 0 ⌝ }
+{
+    if k < row.len() { row[k] } else { 0 }
+}
+
+// An entry of the list, 0 past its end.
+pub fn entry(entries: &[u16], k: usize) -> u16
+    ensures { λ r. ⌜ r ≡ getD (now (entries .entry)) k 0 ⌝ }
+{
+    if k < entries.len() { entries[k] } else { 0 }
+}
+
+// "cache or memory not 8×(L+1) words, list under 2L"
+pub fn bad_rows(lines: u16, memory: &[u64], cache: &[u64], entries: &[u16]) -> bool
+    ensures { λ r. ⌜ ((s : State) → r ≡ badRows lines (lent s (now (memory .entry)) (now (cache .entry)) (now (entries .entry)))) ⌝ }
+{
+    let words = 8 * (lines as usize + 1);
+    !(cache.len() == words)
+        | !(memory.len() == words)
+        | ((entries.len() as u64) < limits::cells(lines))
+}
+
+// "a list entry that this step uses is 2L or more"
+pub fn bad_entry(state: State, entries: &[u16]) -> bool
+    ensures { λ r. ⌜ ((m c : List ℕ) → r ≡ badEntry (lent state m c (now (entries .entry)))) ⌝ }
+{
+    let place = state.place as usize;
+    record::checkpointing(state)
+        & (state.place < state.listed)
+        & (limits::cells(state.lines) <= entry(entries, place) as u64)
+}
+
+// "at recovery's start: memory not a multiple of 8 in 16 to 4,096 words, cache of another length, list under (words div 4) − 2"
+pub fn bad_recovery_rows(memory: &[u64], cache: &[u64], entries: &[u16]) -> bool
+    ensures { λ r. ⌜ ((s : State) → r ≡ badRecoveryRows (lent s (now (memory .entry)) (now (cache .entry)) (now (entries .entry)))) ⌝ }
+{
+    let words = memory.len();
+    !((words % 8 == 0) & (16 <= words) & (words <= 4096))
+        | !(cache.len() == words)
+        | (entries.len() < limits::less(words / 4, 2))
+}
+
+// "words 3 to 7 not all zero"
+fn rest_not_zero(row: &[u64]) -> bool
+    ensures { λ r. ⌜ r ≡ restNotZero (now (row .entry)) ⌝ }
+{
+    !((word(row, 3) == 0)
+        & (word(row, 4) == 0)
+        & (word(row, 5) == 0)
+        & (word(row, 6) == 0)
+        & (word(row, 7) == 0))
+}
+
+// "epoch 0, L not (words div 8) − 1, W outside the limits, or words 3 to 7 not all zero"
+pub fn bad_header(row: &[u64]) -> bool
+    ensures { λ r. ⌜ r ≡ badHeader (now (row .entry)) ⌝ }
+{
+    let lines = word(row, 1);
+    (word(row, 0) == 0)
+        | !(lines == limits::less(row.len() / 8, 1) as u64)
+        | limits::workers_outside(lines, word(row, 2))
+        | rest_not_zero(row)
+}
+
+// "the cache's epoch 2^64 − 1, at a request"
+pub fn epoch_spent(cache: &[u64]) -> bool
+    ensures { λ r. ⌜ ((s : State) (m e : List ℕ) → r ≡ epochSpent (lent s m (now (cache .entry)) e)) ⌝ }
+{
+    word(cache, 0) == LAST_EPOCH
+}
+
+// "or at the epoch's store"
+pub fn stores_spent_epoch(state: State, cache: &[u64]) -> bool
+    ensures { λ r. ⌜ ((m e : List ℕ) → r ≡ storesSpentEpoch (lent state m (now (cache .entry)) e)) ⌝ }
+{
+    record::checkpointing(state) & (state.place == state.listed) & epoch_spent(cache)
+}

@@ -1,0 +1,153 @@
+// What the workers are doing, and the scans over those under W.
+use board::Condition;
+use board::State;
+use board::Store;
+ghost use mathlib.Core.Path.{_≡_};
+ghost use lib.Dec.{leb, eqb};
+ghost use Rattle.board.specs.State.{conditionOf, isFree, isWaiting, isUpdating, isMarkStore, mustList, updates, anyUnder};
+ghost use Rattle.causes.specs.Sought.{soughtAt};
+
+// What a scan looks for in a worker under W.
+pub enum Sought {
+    // an unfinished update of this cell or a later one
+    CellFrom(u64),
+    NotWaiting,
+    // an unfinished update of this cell, by another worker than the one excepted
+    UpdateOf { cell: u64, except: u64 },
+}
+
+// The condition of a worker; a number past the eight has none, and counts as free.
+pub fn condition_of(state: State, worker: u64) -> Condition
+    ensures { λ r. ⌜ r ≡ conditionOf state worker ⌝ }
+{
+    if worker < 8 {
+        let at = worker as usize;
+        let w = state.worker[at];
+        w.condition
+    } else {
+        Condition::Free
+    }
+}
+
+pub fn is_free(condition: Condition) -> bool
+    ensures { λ r. ⌜ r ≡ isFree condition ⌝ }
+{
+    match condition {
+        Condition::Free => true,
+        Condition::Waiting => false,
+        Condition::Updating {
+            cell: _,
+            value: _,
+            next: _,
+        } => false,
+    }
+}
+
+pub fn is_waiting(condition: Condition) -> bool
+    ensures { λ r. ⌜ r ≡ isWaiting condition ⌝ }
+{
+    match condition {
+        Condition::Free => false,
+        Condition::Waiting => true,
+        Condition::Updating {
+            cell: _,
+            value: _,
+            next: _,
+        } => false,
+    }
+}
+
+pub fn is_updating(condition: Condition) -> bool
+    ensures { λ r. ⌜ r ≡ isUpdating condition ⌝ }
+{
+    match condition {
+        Condition::Free => false,
+        Condition::Waiting => false,
+        Condition::Updating {
+            cell: _,
+            value: _,
+            next: _,
+        } => true,
+    }
+}
+
+fn is_mark_store(next: Store) -> bool
+    ensures { λ r. ⌜ r ≡ isMarkStore next ⌝ }
+{
+    match next {
+        Store::Backup => false,
+        Store::Mark => true,
+        Store::Record => false,
+    }
+}
+
+// The worker's next advance "must add a cell" to the list.
+pub fn must_list(condition: Condition) -> bool
+    ensures { λ r. ⌜ r ≡ mustList condition ⌝ }
+{
+    match condition {
+        Condition::Free => false,
+        Condition::Waiting => false,
+        Condition::Updating {
+            cell: _,
+            value: _,
+            next,
+        } => is_mark_store(next),
+    }
+}
+
+// An unfinished update of a cell from `cells` on.
+fn updates_from(condition: Condition, cells: u64) -> bool
+    ensures { λ r. ⌜ r ≡ updates (leb cells) condition ⌝ }
+{
+    match condition {
+        Condition::Free => false,
+        Condition::Waiting => false,
+        Condition::Updating {
+            cell,
+            value: _,
+            next: _,
+        } => cells <= cell as u64,
+    }
+}
+
+// An unfinished update of this very cell.
+fn updates_cell(condition: Condition, sought: u64) -> bool
+    ensures { λ r. ⌜ r ≡ updates (eqb sought) condition ⌝ }
+{
+    match condition {
+        Condition::Free => false,
+        Condition::Waiting => false,
+        Condition::Updating {
+            cell,
+            value: _,
+            next: _,
+        } => sought == cell as u64,
+    }
+}
+
+// Worker `i` is under W and is what is sought.
+fn is_sought(state: State, sought: Sought, i: u64) -> bool
+    ensures { λ r. ⌜ r ≡ soughtAt state sought i ⌝ }
+{
+    let condition = condition_of(state, i);
+    let under = i < state.workers as u64;
+    match sought {
+        Sought::CellFrom(cells) => under & updates_from(condition, cells),
+        Sought::NotWaiting => under & !is_waiting(condition),
+        Sought::UpdateOf { cell, except } => under & !(i == except) & updates_cell(condition, cell),
+    }
+}
+
+// One of the workers under W is what is sought.
+pub fn any_worker(state: State, sought: Sought) -> bool
+    ensures { λ r. ⌜ r ≡ anyUnder 8 (soughtAt state sought) ⌝ }
+{
+    let mut found = false;
+    let mut i: u64 = 0;
+    while i < 8 {
+        found = found | is_sought(state, sought, i);
+        i += 1;
+    }
+    found
+}
