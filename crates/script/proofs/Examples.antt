@@ -1,0 +1,64 @@
+-- Worked examples of document 01's drill lines, computed.
+use mathlib.Core.Path.{_≡_, refl}
+use mathlib.Core.List.{List, [], _∷_, _++_, map}
+use Prim.Native.Nat.{ℕ}
+use lib.ListN.{replicate}
+use Rattle.board.specs.declared.Call.the-variants.{Step, Update, RestartPoint, Read}
+use Rattle.script.specs.declared.Line.{Line}
+use Rattle.script.specs.declared.Line.the-variants.{Format, Make, Cut, Unknown}
+use Rattle.script.specs.declared.Shown.the-variants as shown
+use Rattle.script.specs.Ascii.{tab, feed, '-', '0', '9', '?', 'A', 'F', 'G', 'P', 'S', 'U', 'X'}
+use Rattle.script.specs.Grammar.{fields, allDigits, valueAfter, isNumber, allNumbers, command, formed, meaning}
+use Rattle.script.specs.Answers.{spelled, answerText}
+
+-- A line of the script, and what it means.
+pub record Example : Type 0 where
+  pub text : List ℕ
+  pub means : Line
+
+abbrev row : List ℕ → Line → Example
+row text means = record { text = text; means = means }
+
+-- "18446744073709551615", 2^64 − 1.
+abbrev most : List ℕ
+most = 49 ∷ 56 ∷ 52 ∷ 52 ∷ 54 ∷ 55 ∷ 52 ∷ 52 ∷ 48 ∷ 55 ∷ 51 ∷ 55 ∷ 48 ∷ 57 ∷ 53 ∷ 53 ∷ 49 ∷ 54 ∷ 49 ∷ 53 ∷ []
+
+abbrev pub examples : List Example
+examples =
+    -- "F 1 1", "U 0 1 7", "P 0 3", "S" and "X", with tabs for blanks.
+    row ('F' ∷ tab ∷ 49 ∷ tab ∷ 49 ∷ []) (Format 1 1) ∷
+    row ('U' ∷ tab ∷ '0' ∷ tab ∷ 49 ∷ tab ∷ 55 ∷ []) (Make (Update 0 1 7)) ∷
+    row ('P' ∷ tab ∷ '0' ∷ tab ∷ 51 ∷ []) (Make (RestartPoint 0 3)) ∷
+    row ('S' ∷ []) (Make Step) ∷
+    row ('X' ∷ []) Cut ∷
+    -- "G 01": leading zeros are allowed.
+    row ('G' ∷ tab ∷ '0' ∷ 49 ∷ []) (Make (Read 1)) ∷
+    -- An empty line.
+    row [] Unknown ∷
+    -- "A 0" and "S" with a tab behind them: an empty field.
+    row ('A' ∷ tab ∷ '0' ∷ tab ∷ []) Unknown ∷
+    row ('S' ∷ tab ∷ []) Unknown ∷
+    -- "U 0 1 7 9" and "A": a number too many, and one too few.
+    row ('U' ∷ tab ∷ '0' ∷ tab ∷ 49 ∷ tab ∷ 55 ∷ tab ∷ '9' ∷ []) Unknown ∷
+    row ('A' ∷ []) Unknown ∷
+    -- A carriage return, a blank, a sign, a small letter.
+    row ('S' ∷ 13 ∷ []) Unknown ∷
+    row ('A' ∷ 32 ∷ '0' ∷ []) Unknown ∷
+    row ('G' ∷ tab ∷ '-' ∷ 49 ∷ []) Unknown ∷
+    row (115 ∷ []) Unknown ∷
+    -- 2^64 − 1, and one more.
+    row ('G' ∷ tab ∷ most) (Make (Read 18446744073709551615)) ∷
+    row ('G' ∷ tab ∷ 49 ∷ 56 ∷ 52 ∷ 52 ∷ 54 ∷ 55 ∷ 52 ∷ 52 ∷ 48 ∷ 55 ∷ 51 ∷ 55 ∷ 48 ∷ 57 ∷ 53 ∷ 53 ∷ 49 ∷ 54 ∷ 49 ∷ 54 ∷ []) Unknown ∷
+    -- 79 bytes, most of them leading zeros, and 80.
+    row ('G' ∷ tab ∷ (replicate 57 '0' ++ most)) (Make (Read 18446744073709551615)) ∷
+    row ('G' ∷ tab ∷ (replicate 58 '0' ++ most)) Unknown ∷
+    []
+
+pub lines-mean : map (λ (e : Example). meaning (e .text)) examples ≡ map (λ (e : Example). e .means) examples
+unfolding fields allDigits valueAfter isNumber allNumbers command formed meaning
+lines-mean = refl
+
+-- "13 G 0 0", "9 S 0 -" and an unknown line, with tabs for blanks.
+pub answers-read : answerText 13 'G' (shown.Number 0) (shown.Number 0) ∷ answerText 9 'S' (shown.Number 0) shown.Nothing ∷ answerText 2 '?' shown.Unknown shown.Nothing ∷ [] ≡ (49 ∷ 51 ∷ tab ∷ 'G' ∷ tab ∷ '0' ∷ tab ∷ '0' ∷ feed ∷ []) ∷ ('9' ∷ tab ∷ 'S' ∷ tab ∷ '0' ∷ tab ∷ '-' ∷ feed ∷ []) ∷ (50 ∷ tab ∷ '?' ∷ tab ∷ '?' ∷ tab ∷ '-' ∷ feed ∷ []) ∷ []
+unfolding spelled answerText
+answers-read = refl

@@ -1,0 +1,174 @@
+-- What is true of decimal numbers, and of the numbers read one after the other.
+use Prim.Native.Nat.{ℕ, suc, _+_, _*_, _-_, _^_, _≤_, _<_}
+use mathlib.Core.Path.{_≡_, refl, sym, ap, _∙_}
+use mathlib.Core.List.{List, [], _∷_, map}
+use mathlib.Core.Bool.{Bool, true, false, cond, _&&_}
+use native.Mathlib.Omega.{arith}
+use native.Mathlib.Numerals.{add-one}
+use lib.Dec.{leb, ltb}
+use lib.ListN.{length, take, drop, getD, drop-of-length-le}
+use lib.Seq.{drop-cons}
+use borrow.Author.Tests.{lt-ltb, le-ltb, le-leb, lt-leb}
+use Rattle.board.proofs.Laws.Bools.{chosen, passedOver, and-off-right, and-both}
+use Rattle.script.specs.declared.Line.{Line}
+use Rattle.script.specs.declared.Line.the-variants.{Unknown}
+use Rattle.script.specs.declared.Number.{Number}
+use Rattle.script.specs.declared.Number.the-variants as number
+use Rattle.script.specs.declared.Numbers.{Numbers}
+use Rattle.script.specs.declared.Numbers.the-variants as numbers
+use Rattle.script.specs.Ascii.{'0', '9'}
+use Rattle.script.specs.Grammar.{allDigits, valueAfter, value, isNumber, allNumbers, command, fields, formed, meaning}
+use Rattle.script.specs.Fields.{numberOf, withField, numbersOf, commandOf, first, later}
+use Rattle.script.proofs.FieldLaws.{fields-parts, first-take, first-single, later-parts}
+
+-- ---- one number
+
+-- What is left of a field, read after the digits that write `n`.
+unfoldable pub numberFrom : ℕ → List ℕ → Number
+numberFrom n f = cond (allDigits f && leb (valueAfter n f) (2 ^ 64 - 1)) (number.Value (valueAfter n f)) number.Bad
+
+-- Further digits make a number no smaller.
+value-grows : (n : ℕ) (f : List ℕ) → n ≤ valueAfter n f
+unfolding valueAfter
+value-grows n [] = omega arith
+value-grows n (b ∷ bs) = omega (arith, value-grows (10 * n + (b - '0')) bs)
+
+-- A field of one byte or more is read from 0.
+pub number-starts : (f : List ℕ) → 0 < length f → numberOf f ≡ numberFrom 0 f
+unfolding numberOf numberFrom isNumber
+number-starts f h =
+    ap (λ (t : Bool). cond (t && (allDigits f && leb (value f) (2 ^ 64 - 1))) (number.Value (value f)) number.Bad) (lt-ltb 0 (length f) h)
+
+pub number-empty : (f : List ℕ) → length f ≡ 0 → numberOf f ≡ number.Bad
+unfolding numberOf isNumber
+number-empty [] e = refl
+number-empty (b ∷ bs) e = absurd (omega arith)
+
+pub number-ends : (n : ℕ) (f : List ℕ) (i : ℕ) → length f ≤ i → n ≤ 2 ^ 64 - 1 → numberFrom n (drop i f) ≡ number.Value n
+unfolding numberFrom allDigits valueAfter
+number-ends n f i h b =
+    ap (numberFrom n) (drop-of-length-le f h)
+    ∙ chosen (leb n (2 ^ 64 - 1)) (number.Value n) number.Bad (le-leb n (2 ^ 64 - 1) b)
+
+-- A digit.
+pub number-goes-on : (n : ℕ) (f : List ℕ) (i : ℕ) → i < length f → '0' ≤ getD f i 0 → getD f i 0 ≤ '9' → numberFrom n (drop i f) ≡ numberFrom (10 * n + (getD f i 0 - '0')) (drop (i + 1) f)
+unfolding numberFrom allDigits valueAfter
+number-goes-on n f i h low high =
+    let b = getD f i 0 in
+    let rest = drop (suc i) f in
+    let v = valueAfter (10 * n + (b - '0')) rest in
+    ap (numberFrom n) (drop-cons f i 0 h)
+    ∙ ap (λ (t : Bool). cond ((t && allDigits rest) && leb v (2 ^ 64 - 1)) (number.Value v) number.Bad)
+    (and-both (leb '0' b) (leb b '9') (le-leb '0' b low) (le-leb b '9' high))
+    ∙ ap (λ (k : ℕ). numberFrom (10 * n + (b - '0')) (drop k f)) (sym (add-one i))
+
+-- A byte that is no digit.
+pub number-breaks : (n : ℕ) (f : List ℕ) (i : ℕ) → i < length f → leb '0' (getD f i 0) && leb (getD f i 0) '9' ≡ false → numberFrom n (drop i f) ≡ number.Bad
+unfolding numberFrom allDigits valueAfter
+number-breaks n f i h e =
+    let b = getD f i 0 in
+    let rest = drop (suc i) f in
+    let v = valueAfter (10 * n + (b - '0')) rest in
+    ap (numberFrom n) (drop-cons f i 0 h)
+    ∙ ap (λ (t : Bool). cond ((t && allDigits rest) && leb v (2 ^ 64 - 1)) (number.Value v) number.Bad) e
+
+-- A number past 2^64 − 1 stays past it.
+pub number-past : (n : ℕ) (f : List ℕ) → 2 ^ 64 - 1 < n → numberFrom n f ≡ number.Bad
+unfolding numberFrom
+number-past n f h =
+    passedOver (allDigits f && leb (valueAfter n f) (2 ^ 64 - 1)) (number.Value (valueAfter n f)) number.Bad
+    (and-off-right (allDigits f) (leb (valueAfter n f) (2 ^ 64 - 1)) (lt-leb (valueAfter n f) (2 ^ 64 - 1) (omega (arith, value-grows n f))))
+
+-- ---- the numbers after the letter
+
+-- What a letter asks for with the numbers got and further ones, if all of these are numbers.
+given : ℕ → Numbers → Bool → List ℕ → Line
+given letter numbers.Zero t ns = cond t (command letter ns) Unknown
+given letter (numbers.One a) t ns = cond t (command letter (a ∷ ns)) Unknown
+given letter (numbers.Two a b) t ns = cond t (command letter (a ∷ b ∷ ns)) Unknown
+given letter (numbers.Three a b c) t ns = cond t (command letter (a ∷ b ∷ c ∷ ns)) Unknown
+given letter numbers.Bad t ns = Unknown
+
+either-unknown : (t : Bool) → Unknown ≡ cond t Unknown Unknown
+either-unknown true = refl
+either-unknown false = refl
+
+-- One field more, a number or not.
+given-field : (letter : ℕ) (t : Bool) (got : Numbers) (n : ℕ) (u : Bool) (ns : List ℕ) → given letter (withField got (cond t (number.Value n) number.Bad)) u ns ≡ given letter got (t && u) (n ∷ ns)
+unfolding given command
+given-field letter true numbers.Zero n u ns = refl
+given-field letter true (numbers.One a) n u ns = refl
+given-field letter true (numbers.Two a b) n u ns = refl
+given-field letter true (numbers.Three a b c) n u ns = either-unknown u
+given-field letter true numbers.Bad n u ns = refl
+given-field letter false numbers.Zero n u ns = refl
+given-field letter false (numbers.One a) n u ns = refl
+given-field letter false (numbers.Two a b) n u ns = refl
+given-field letter false (numbers.Three a b c) n u ns = refl
+given-field letter false numbers.Bad n u ns = refl
+
+given-none : (letter : ℕ) (got : Numbers) → commandOf letter got ≡ given letter got true []
+unfolding given
+given-none letter numbers.Zero = refl
+given-none letter (numbers.One a) = refl
+given-none letter (numbers.Two a b) = refl
+given-none letter (numbers.Three a b c) = refl
+given-none letter numbers.Bad = refl
+
+given-all : (letter : ℕ) (got : Numbers) (fs : List (List ℕ)) → commandOf letter (numbersOf got fs) ≡ given letter got (allNumbers fs) (map value fs)
+unfolding numbersOf allNumbers numberOf
+given-all letter got [] = given-none letter got
+given-all letter got (f ∷ fs) =
+    given-all letter (withField got (numberOf f)) fs
+    ∙ given-field letter (isNumber f) got (value f) (allNumbers fs) (map value fs)
+
+-- The numbers read one after the other give what the whole list of them asks for.
+pub asked-all : (letter : ℕ) (fs : List (List ℕ)) → commandOf letter (numbersOf numbers.Zero fs) ≡ cond (allNumbers fs) (command letter (map value fs)) Unknown
+unfolding given
+asked-all letter fs = given-all letter numbers.Zero fs
+
+-- Where nothing is left, the numbers got are all.
+pub numbers-end : (got : Numbers) (s : List ℕ) (i : ℕ) → length s ≤ i → numbersOf got (later (drop i s)) ≡ got
+unfolding numbersOf later
+numbers-end got s i h = ap (λ (l : List ℕ). numbersOf got (later l)) (drop-of-length-le s h)
+
+-- From the tab at `i`, one field more is read, and the rest from its end on.
+pub numbers-more : (got : Numbers) (s : List ℕ) (i end : ℕ) → i < length s → end ≡ i + 1 + length (first (drop (i + 1) s)) → numbersOf got (later (drop i s)) ≡ numbersOf (withField got (numberOf (take (end - (i + 1)) (drop (i + 1) s)))) (later (drop end s))
+unfolding numbersOf
+numbers-more got s i end h e =
+    let width : end - (i + 1) ≡ length (first (drop (i + 1) s)) = omega arith in
+    ap (numbersOf got) (later-parts s i end h e)
+    ∙ ap (λ (f : List ℕ). numbersOf (withField got (numberOf f)) (later (drop end s)))
+    (sym (ap (λ (k : ℕ). take k (drop (i + 1) s)) width ∙ first-take (drop (i + 1) s)))
+
+-- ---- the line
+
+-- A line over 79 bytes.
+pub meaning-long : (s : List ℕ) → 79 < length s → meaning s ≡ Unknown
+unfolding meaning
+meaning-long s h = chosen (ltb 79 (length s)) Unknown (formed (fields s)) (lt-ltb 79 (length s) h)
+
+formed-other : (f : List ℕ) (fs : List (List ℕ)) → (length f ≡ 1 → ⊥) → formed (f ∷ fs) ≡ Unknown
+unfolding formed
+formed-other [] fs o = refl
+formed-other (a ∷ []) fs o = absurd (o refl)
+formed-other (a ∷ b ∷ more) fs o = refl
+
+short : (s : List ℕ) → length s ≤ 79 → meaning s ≡ formed (first s ∷ later (drop (length (first s)) s))
+unfolding meaning
+short s h =
+    passedOver (ltb 79 (length s)) Unknown (formed (fields s)) (le-ltb 79 (length s) h)
+    ∙ ap formed (fields-parts s)
+
+-- A first field that is not one byte.
+pub meaning-other : (s : List ℕ) → length s ≤ 79 → (length (first s) ≡ 1 → ⊥) → meaning s ≡ Unknown
+meaning-other s h o = short s h ∙ formed-other (first s) (later (drop (length (first s)) s)) o
+
+-- A letter with the fields after it.
+pub meaning-letter : (s : List ℕ) → length s ≤ 79 → length (first s) ≡ 1 → meaning s ≡ commandOf (getD s 0 0) (numbersOf numbers.Zero (later (drop 1 s)))
+unfolding formed
+meaning-letter s h e =
+    short s h
+    ∙ ap (λ (k : ℕ). formed (first s ∷ later (drop k s))) e
+    ∙ ap (λ (f : List ℕ). formed (f ∷ later (drop 1 s))) (first-single s e)
+    ∙ sym (asked-all (getD s 0 0) (later (drop 1 s)))

@@ -1,0 +1,28 @@
+-- `script::commands::parse` meets its contract: a long line, a first field that is not one byte, and a letter with its fields.
+use mathlib.Core.Path.{sym, ap, _∙_}
+use native.Mathlib.Omega.{arith}
+use lib.ListN.{getD}
+use borrow.Author.Needs.{needs}
+use Rattle.script.specs.Fields.{commandOf}
+use Rattle.script.proofs.NumberLaws.{meaning-long, meaning-other, meaning-letter}
+use Rattle.script.proofs.commands.parse.Statement.{statement}
+use Rattle.script.proofs.commands.parse.Tie as tie
+
+returns : tie.Need-returns
+returns c = sym (meaning-long (c .before .before .args .line .now) (c .if1 .taken))
+
+returns-2 : tie.Need-returns-2
+returns-2 c =
+    let s = c .before .before .before .before .args .line .now in
+    sym (meaning-other s (omega arith) (λ e. c .if2 .taken (omega arith)))
+
+returns-3 : tie.Need-returns-3
+returns-3 c =
+    let s = c .before .before .before .before .before .before .before .args .line .now in
+    c .with-numbers .ensures ∙ ap (commandOf (getD s 0 0)) (c .before .numbers .ensures)
+    ∙ sym (meaning-letter s (omega arith) (omega arith))
+
+pub parse-spec : {M : Type 1} → statement M
+parse-spec =
+    tie.close
+    (tie.spec returns (search needs) returns-2 (search needs) (search needs) (search needs) returns-3)

@@ -1,0 +1,28 @@
+-- `script::commands::with_none` meets its contract: each letter's arm is its case of `command`.
+use borrow.Author.Tests.{ne-eqb}
+use Rattle.script.specs.Grammar.{command}
+use Rattle.script.proofs.commands.with_none.Statement.{statement}
+use Rattle.script.proofs.commands.with_none.Tie as tie
+
+returns : tie.Need-returns
+unfolding command
+returns c = rw (c .match .keys1)
+
+returns-2 : tie.Need-returns-2
+unfolding command
+returns-2 c = rw (c .match .keys2)
+
+returns-3 : tie.Need-returns-3
+unfolding command
+returns-3 c = rw (c .match .keys3)
+
+returns-4 : tie.Need-returns-4
+unfolding command
+returns-4 c = rw (c .match .keys4)
+
+returns-5 : tie.Need-returns-5
+unfolding command
+returns-5 c = simp (ne-eqb _ _ (c .match .rest .0 .0 .0 .1), ne-eqb _ _ (c .match .rest .0 .0 .1), ne-eqb _ _ (c .match .rest .0 .1), ne-eqb _ _ (c .match .rest .1))
+
+pub with-none-spec : {M : Type 1} → statement M
+with-none-spec = tie.close (tie.spec returns returns-2 returns-3 returns-4 returns-5)

@@ -1,0 +1,56 @@
+-- Document 01, "The drill program": what is written. "Output: a header, then for each line its number from 1, call, answer, and the value read or -."
+use Prim.Native.Nat.{ℕ, zero, suc, _+_, _/_, _%_}
+use mathlib.Core.List.{List, [], _∷_, _++_}
+use mathlib.Core.Bool.{cond}
+use lib.Dec.{ltb}
+use Rattle.board.specs.declared.Call.{Call}
+use Rattle.board.specs.declared.Call.the-variants.{FormatStart, RecoveryStart, Step, Update, RestartPoint, Advance, Request, WriteBack, Read}
+use Rattle.script.specs.declared.Line.{Line}
+use Rattle.script.specs.declared.Line.the-variants as line
+use Rattle.script.specs.declared.Shown.{Shown}
+use Rattle.script.specs.declared.Shown.the-variants as shown
+use Rattle.script.specs.Ascii.{tab, feed, '-', '0', '?', 'A', 'C', 'E', 'F', 'G', 'P', 'R', 'S', 'U', 'X'}
+
+-- A number's digits without leading zeros; `most` bounds how many there are.
+unfoldable pub spelled : ℕ → ℕ → List ℕ
+spelled zero n = []
+spelled (suc most) n = cond (ltb n 10) (('0' + n) ∷ []) (spelled most (n / 10) ++ (('0' + n % 10) ∷ []))
+
+-- A number's text: its fewest decimal digits; `n` has at most `n` + 1 of them.
+abbrev pub numberText : ℕ → List ℕ
+numberText n = spelled (suc n) n
+
+-- "the value read or -"; `?` for what is unknown.
+abbrev pub shownText : Shown → List ℕ
+shownText shown.Unknown = '?' ∷ []
+shownText shown.Nothing = '-' ∷ []
+shownText (shown.Number n) = numberText n
+
+-- One line of the answer: line number, call, answer and value, parted by tabs.
+unfoldable pub answerText : ℕ → ℕ → Shown → Shown → List ℕ
+answerText number call answer value =
+    numberText number ++ (tab ∷ []) ++ (call ∷ []) ++ (tab ∷ []) ++ shownText answer ++ (tab ∷ []) ++ shownText value ++ (feed ∷ [])
+
+-- "line call answer value".
+abbrev pub headerText : List ℕ
+headerText =
+    (108 ∷ 105 ∷ 110 ∷ 101 ∷ []) ++ (tab ∷ []) ++ (99 ∷ 97 ∷ 108 ∷ 108 ∷ []) ++ (tab ∷ []) ++ (97 ∷ 110 ∷ 115 ∷ 119 ∷ 101 ∷ 114 ∷ []) ++ (tab ∷ []) ++ (118 ∷ 97 ∷ 108 ∷ 117 ∷ 101 ∷ []) ++ (feed ∷ [])
+
+-- The call column of one call of the board.
+abbrev pub callLetter : Call → ℕ
+callLetter (FormatStart l w) = 'F'
+callLetter RecoveryStart = 'R'
+callLetter Step = 'S'
+callLetter (Update w c v) = 'U'
+callLetter (RestartPoint w v) = 'P'
+callLetter (Advance w) = 'A'
+callLetter Request = 'C'
+callLetter (WriteBack l) = 'E'
+callLetter (Read c) = 'G'
+
+-- The call column of a line.
+abbrev pub letterOf : Line → ℕ
+letterOf (line.Format l w) = 'F'
+letterOf (line.Make call) = callLetter call
+letterOf line.Cut = 'X'
+letterOf line.Unknown = '?'

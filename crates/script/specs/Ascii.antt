@@ -1,0 +1,50 @@
+-- The characters of script and answer by their ASCII codes.
+use Prim.Native.Nat.{ℕ}
+
+abbrev pub tab : ℕ
+tab = 9
+
+abbrev pub feed : ℕ
+feed = 10
+
+abbrev pub '-' : ℕ
+'-' = 45
+
+abbrev pub '0' : ℕ
+'0' = 48
+
+abbrev pub '9' : ℕ
+'9' = 57
+
+abbrev pub '?' : ℕ
+'?' = 63
+
+abbrev pub 'A' : ℕ
+'A' = 65
+
+abbrev pub 'C' : ℕ
+'C' = 67
+
+abbrev pub 'E' : ℕ
+'E' = 69
+
+abbrev pub 'F' : ℕ
+'F' = 70
+
+abbrev pub 'G' : ℕ
+'G' = 71
+
+abbrev pub 'P' : ℕ
+'P' = 80
+
+abbrev pub 'R' : ℕ
+'R' = 82
+
+abbrev pub 'S' : ℕ
+'S' = 83
+
+abbrev pub 'U' : ℕ
+'U' = 85
+
+abbrev pub 'X' : ℕ
+'X' = 88
