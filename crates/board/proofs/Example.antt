@@ -16,7 +16,7 @@ use Rattle.board.specs.declared.Call.the-variants.{FormatStart, Recovery
 use Rattle.board.specs.Board.{Board, cells}
 use Rattle.board.specs.State.{anyUnder, started}
 use Rattle.board.specs.Causes.{badRecord, causes, firstStanding, cause}
-use Rattle.board.specs.Effects.{formatStep, recoveryStep, actAt, perform, step, advance, advanceOf, effect}
+use Rattle.board.specs.Effects.{formatStep, recoveryStep, actAt, performAct, step, advance, advanceOf, effect}
 use Rattle.board.specs.Next.{taken, next, valueRead, Kind, start, stepping, other, kind, isStart, isStep}
 use Rattle.board.specs.Machine.{Machine, beginning, changed, countUnder, fewer, advanced, checkpointStep, stepped, writeBackSeen, feed}
 use Rattle.board.specs.Sequence.{Taken, Event, call, cut, Run, takenCall, refusedCall, after, runs, Allowed, Lawful, Takes, finished, steps, between, Begins, formatted, opening, Reached, reached, undoSteps, recoverySteps}
@@ -128,13 +128,13 @@ begun-fresh = formatted 1 1 (blankFor 1) (Step ∷ Step ∷ Step ∷ []) fresh r
 
 -- The run is one that the theorems speak of.
 pub run-reached : Reached run
-unfolding run calls garbage fresh afterCalls runs after Lawful Allowed next cause causes firstStanding badRecord anyUnder effect step formatStep recoveryStep actAt perform advance advanceOf lineOf withLine fieldIndex fieldOf withField feed changed countUnder fewer advanced checkpointStep stepped writeBackSeen
+unfolding run calls garbage fresh afterCalls runs after Lawful Allowed next cause causes firstStanding badRecord anyUnder effect step formatStep recoveryStep actAt performAct advance advanceOf lineOf withLine fieldIndex fieldOf withField feed changed countUnder fewer advanced checkpointStep stepped writeBackSeen
 run-reached =
     reached begun-fresh (map call calls ++ (garbage ∷ [])) (lawful-calls calls (opening fresh (beginning 1)) (garbage ∷ []) refl ((refl, refl), tt))
 
 -- The recovery takes six steps, with two taken write-backs and a refused read among them.
 run-takes : (taken RecoveryStart (run .board) && takesTest 6 recoveryCalls (next RecoveryStart (run .board)) ≡ true) × (recoverySteps (run .board .memory) ≡ 6)
-unfolding takesTest byKind undoSteps recoveryCalls run calls garbage fresh afterCalls runs after next cause causes firstStanding badRecord anyUnder effect step formatStep recoveryStep actAt perform advance advanceOf lineOf withLine fieldIndex fieldOf withField feed changed countUnder fewer advanced checkpointStep stepped writeBackSeen
+unfolding takesTest byKind undoSteps recoveryCalls run calls garbage fresh afterCalls runs after next cause causes firstStanding badRecord anyUnder effect step formatStep recoveryStep actAt performAct advance advanceOf lineOf withLine fieldIndex fieldOf withField feed changed countUnder fewer advanced checkpointStep stepped writeBackSeen
 run-takes = (refl, refl)
 
 -- The recovery is finished.
@@ -153,7 +153,7 @@ run-recovered =
 
 -- What the machine held at the last completed checkpoint: 3 in cell 0 and 7 in cell 1.
 run-values : (run .machine .lines ≡ 1) × (run .machine .checkpointed 0 ≡ 3) × (run .machine .checkpointed 1 ≡ 7)
-unfolding run calls garbage fresh afterCalls runs after next cause causes firstStanding badRecord anyUnder effect step formatStep recoveryStep actAt perform advance advanceOf lineOf withLine fieldIndex fieldOf withField feed changed countUnder fewer advanced checkpointStep stepped writeBackSeen
+unfolding run calls garbage fresh afterCalls runs after next cause causes firstStanding badRecord anyUnder effect step formatStep recoveryStep actAt performAct advance advanceOf lineOf withLine fieldIndex fieldOf withField feed changed countUnder fewer advanced checkpointStep stepped writeBackSeen
 run-values = (refl, refl, refl)
 
 -- By the theorem, and not by running it, the recovered board reads 7 in cell 1.

@@ -17,7 +17,7 @@ use Rattle.board.specs.declared.Call.{Call}
 use Rattle.board.specs.declared.Call.the-variants.{FormatStart, RecoveryStart, Step, Update, RestartPoint, Advance, Request, WriteBack, Read}
 use Rattle.board.specs.Board.{Board, epochOf}
 use Rattle.board.specs.State.{placed, conditionOf}
-use Rattle.board.specs.Effects.{Act, writeLine, storeEpoch, writeHeader, release, cached, stated, logged, restored, pastCell, recoveryStep, actAt, listedLine, perform, step, advance, advanceOf, effect}
+use Rattle.board.specs.Effects.{Act, writeLine, storeEpoch, writeHeader, release, cached, stated, logged, restored, pastCell, recoveryStep, actAt, listedLine, performAct, step, advance, advanceOf, effect}
 use Rattle.board.specs.Statements.{OneStore, noStore, oneWord, oneLine, several, SingleStores}
 use Rattle.board.proofs.Laws.Bools.{on}
 use Rattle.board.proofs.Laws.Taken.{taken-next}
@@ -38,8 +38,8 @@ recovery-stores Unmark s b = field-stored (s .place) Field.Mark 0 b _ refl refl
 recovery-stores WriteLine s b = oneLine (cellLine (s .place)) refl refl
 
 -- A step of a checkpoint.
-checkpoint-stores : (a : Act) (s : State) (b : Board) → OneStore b (perform a s b)
-unfolding perform
+checkpoint-stores : (a : Act) (s : State) (b : Board) → OneStore b (performAct a s b)
+unfolding performAct
 checkpoint-stores writeLine s b = oneLine (listedLine (s .place) (b .entries)) refl refl
 checkpoint-stores storeEpoch s b = oneWord 0 (epochOf (b .cache) + 1) refl refl
 checkpoint-stores writeHeader s b = oneLine 0 refl refl

@@ -112,11 +112,11 @@ abbrev pub listedLine : ℕ → List ℕ → ℕ
 listedLine place entries = cellLine (getD entries place 0)
 
 -- What each act does.
-unfoldable pub perform : Act → State → Board → Board
-perform writeLine s b = backed (listedLine (s .place) (b .entries)) (placed s (s .place + 1) (s .undo)) b
-perform storeEpoch s b = cached (set (b .cache) 0 (epochOf (b .cache) + 1)) (placed s (s .place + 1) (s .undo)) b
-perform writeHeader s b = backed 0 (placed s (s .place + 1) (s .undo)) b
-perform release s b = stated (released s) b
+unfoldable pub performAct : Act → State → Board → Board
+performAct writeLine s b = backed (listedLine (s .place) (b .entries)) (placed s (s .place + 1) (s .undo)) b
+performAct storeEpoch s b = cached (set (b .cache) 0 (epochOf (b .cache) + 1)) (placed s (s .place + 1) (s .undo)) b
+performAct writeHeader s b = backed 0 (placed s (s .place + 1) (s .undo)) b
+performAct release s b = stated (released s) b
 
 -- ---- the step call
 
@@ -125,7 +125,7 @@ unfoldable pub step : Phase → State → Board → Board
 step Off s b = b
 step Formatting s b = formatStep s b
 step Recovering s b = recoveryStep (s .undo) s b
-step Running s b = perform (actAt (s .listed) (s .place)) s b
+step Running s b = performAct (actAt (s .listed) (s .place)) s b
 
 -- ---- updates and restart points
 

@@ -1,4 +1,6 @@
 // The declared types of the board: its state record and the calls that a host can make (document 01).
+ghost use mathlib.Core.Path.{_≡_};
+ghost use Rattle.board.specs.Board.{cells};
 
 // What the board is doing.
 pub enum Phase {
@@ -57,4 +59,11 @@ pub enum Call {
     Request,
     WriteBack { line: u64 },
     Read { cell: u64 },
+}
+
+// "Lines 1 to L hold two cells each": the number of cells.
+pub fn cells(lines: u16) -> u64
+    ensures { λ r. ⌜ r ≡ cells lines ⌝ }
+{
+    2 * (lines as u64)
 }

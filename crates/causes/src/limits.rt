@@ -1,14 +1,7 @@
 // The limits of L and W (document 01, "Lines and cells").
 ghost use mathlib.Core.Path.{_≡_};
 ghost use Prim.Native.Nat.{_-_};
-ghost use Rattle.board.specs.Board.{cells, linesOutside, workersOutside, outside};
-
-// "Lines 1 to L hold two cells each": the number of cells.
-pub fn cells(lines: u16) -> u64
-    ensures { λ r. ⌜ r ≡ cells lines ⌝ }
-{
-    2 * (lines as u64)
-}
+ghost use Rattle.board.specs.Board.{linesOutside, workersOutside, outside};
 
 // "L, the cell lines, is 1 to 511"
 pub fn lines_outside(lines: u64) -> bool

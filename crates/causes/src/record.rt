@@ -17,7 +17,7 @@ pub fn place_past(state: State) -> bool
     match phase {
         Phase::Off => false,
         Phase::Formatting => (state.lines as u64) + 1 < state.place as u64,
-        Phase::Recovering => limits::cells(state.lines) <= state.place as u64,
+        Phase::Recovering => board::cells(state.lines) <= state.place as u64,
         Phase::Running => state.requested & ((state.listed as u64) + 2 < state.place as u64),
     }
 }
@@ -26,7 +26,7 @@ pub fn place_past(state: State) -> bool
 pub fn bad_record(state: State) -> bool
     ensures { λ r. ⌜ r ≡ badRecord state ⌝ }
 {
-    let cells = limits::cells(state.lines);
+    let cells = board::cells(state.lines);
     limits::outside(state.lines as u64, state.workers as u64)
         | (cells < state.listed as u64)
         | place_past(state)
@@ -40,7 +40,7 @@ pub fn list_full(state: State, worker: u64) -> bool
     let condition = workers::condition_of(state, worker);
     (worker < state.workers as u64)
         & workers::must_list(condition)
-        & (state.listed as u64 == limits::cells(state.lines))
+        & (state.listed as u64 == board::cells(state.lines))
 }
 
 // "worker W or more"
@@ -54,14 +54,14 @@ pub fn no_worker(state: State, worker: u64) -> bool
 pub fn no_data_cell(state: State, cell: u64) -> bool
     ensures { λ r. ⌜ r ≡ noDataCell state cell ⌝ }
 {
-    (cell < state.workers as u64) | (limits::cells(state.lines) <= cell)
+    (cell < state.workers as u64) | (board::cells(state.lines) <= cell)
 }
 
 // "read of 2L or more"
 pub fn no_cell(state: State, cell: u64) -> bool
     ensures { λ r. ⌜ r ≡ noCell state cell ⌝ }
 {
-    limits::cells(state.lines) <= cell
+    board::cells(state.lines) <= cell
 }
 
 // "line over L"

@@ -35,7 +35,7 @@ pub fn bad_rows(lines: u16, memory: &[u64], cache: &[u64], entries: &[u16]) -> b
     let words = 8 * (lines as usize + 1);
     !(cache.len() == words)
         | !(memory.len() == words)
-        | ((entries.len() as u64) < limits::cells(lines))
+        | ((entries.len() as u64) < board::cells(lines))
 }
 
 // "a list entry that this step uses is 2L or more"
@@ -45,7 +45,7 @@ pub fn bad_entry(state: State, entries: &[u16]) -> bool
     let place = state.place as usize;
     record::checkpointing(state)
         & (state.place < state.listed)
-        & (limits::cells(state.lines) <= entry(entries, place) as u64)
+        & (board::cells(state.lines) <= entry(entries, place) as u64)
 }
 
 // "at recovery's start: memory not a multiple of 8 in 16 to 4,096 words, cache of another length, list under (words div 4) − 2"

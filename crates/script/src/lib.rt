@@ -26,7 +26,7 @@ pub enum Shown {
 }
 
 // What one field is.
-enum Number {
+pub enum Number {
     Value(u64),
     Bad,
 }

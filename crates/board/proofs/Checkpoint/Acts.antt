@@ -11,7 +11,7 @@ use Rattle.board.specs.declared.Call.the-variants.{Step}
 use Rattle.board.specs.Board.{Board}
 use Rattle.board.specs.State.{conditionOf, isWaiting, anyWorker, isRunning}
 use Rattle.board.specs.Causes.{causes}
-use Rattle.board.specs.Effects.{Act, writeLine, storeEpoch, writeHeader, release, actAt, perform, step, effect}
+use Rattle.board.specs.Effects.{Act, writeLine, storeEpoch, writeHeader, release, actAt, performAct, step, effect}
 use Rattle.board.specs.Machine.{Machine, markedCount, counted, completed, dropped, checkpointStep, stepped, beginning, finishesFormat, feed}
 use Rattle.board.specs.Sequence.{Taken, Run}
 use Rattle.board.proofs.Laws.Bools.{chosen, passedOver, or-left, or-right, and-not, and-off-right, not-off, not-on, none-under}
@@ -72,14 +72,14 @@ machine-drops m e =
 -- ---- the step of a running board
 
 -- The board after a running board's step.
-pub effect-acts : (b : Board) → b .state .phase ≡ Running → effect Step b ≡ perform (actAt (b .state .listed) (b .state .place)) (b .state) b
+pub effect-acts : (b : Board) → b .state .phase ≡ Running → effect Step b ≡ performAct (actAt (b .state .listed) (b .state .place)) (b .state) b
 unfolding effect step
 effect-acts b e = ap (λ (p : Phase). step p (b .state) b) e
 
 -- The run after an act, with the machine given.
 abbrev pub acted : Run → Act → Machine → Run
 acted r act m =
-    record { board = perform act (r .board .state) (r .board); machine = m; crashed = r .crashed && true; erased = r .erased }
+    record { board = performAct act (r .board .state) (r .board); machine = m; crashed = r .crashed && true; erased = r .erased }
 
 -- The run after a step of a requested checkpoint.
 pub step-acts : (r : Run) → r .board .state .phase ≡ Running → r .machine .requested ≡ true → afterTaken Step r ≡ acted r (actAt (r .board .state .listed) (r .board .state .place)) (checkpointStep (r .machine))

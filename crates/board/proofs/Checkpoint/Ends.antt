@@ -18,7 +18,7 @@ use Rattle.board.specs.declared.Call.the-variants.{Step}
 use Rattle.board.specs.Board.{Board, cells, workersOutside, epochOf, lastEpoch}
 use Rattle.board.specs.State.{conditionOf, isOff, isRunning, isWaiting, updates, anyWorker, placed, released}
 use Rattle.board.specs.Causes.{causes, placePast, badRows, checkpointing, badEntry, epochSpent}
-use Rattle.board.specs.Effects.{writtenBack, stated, Act, writeLine, storeEpoch, writeHeader, release, actAt, perform}
+use Rattle.board.specs.Effects.{writtenBack, stated, Act, writeLine, storeEpoch, writeHeader, release, actAt, performAct}
 use Rattle.board.specs.Next.{next}
 use Rattle.board.specs.Machine.{Machine, countUnder}
 use Rattle.board.specs.Sequence.{Taken, Run, Reached}
@@ -115,8 +115,8 @@ goes-on b y h memory cache zm zc room =
     }
 
 -- Every step before the release goes on.
-ready-acts : {l : ℕ} (b : Board) → Ready l b → b .state .place < b .state .listed + 2 → Follows l b (perform (actAt (b .state .listed) (b .state .place)) (b .state) b)
-unfolding perform
+ready-acts : {l : ℕ} (b : Board) → Ready l b → b .state .place < b .state .listed + 2 → Follows l b (performAct (actAt (b .state .listed) (b .state .place)) (b .state) b)
+unfolding performAct
 ready-acts {l} b y h =
     elim (decLt place n) [
       | yes p ↦
@@ -138,26 +138,26 @@ ready-acts {l} b y h =
     z : Sizes l b
     z = y .sizes
 
-    does : (act : Act) → actAt n place ≡ act → Follows l b (perform act (b .state) b) → Follows l b (perform (actAt n place) (b .state) b)
-    does act e f = subst (λ (a : Act). Follows l b (perform a (b .state) b)) (sym e) f
+    does : (act : Act) → actAt n place ≡ act → Follows l b (performAct act (b .state) b) → Follows l b (performAct (actAt n place) (b .state) b)
+    does act e f = subst (λ (a : Act). Follows l b (performAct a (b .state) b)) (sym e) f
 
 -- The steps from a ready board to the release.
 ends : {l : ℕ} (n : ℕ) (b : Board) → Ready l b → n + b .state .place ≡ b .state .listed + 3 → EndsIn n b
-unfolding stepsFrom AllTaken perform
+unfolding stepsFrom AllTaken performAct
 ends zero b y e = absurd (omega (arith, y .place))
 ends (suc n) b y e =
     let t = ready-taken b y in
     let s = b .state in
-    let acts : next Step b ≡ perform (actAt (s .listed) (s .place)) s b = taken-next Step b t ∙ effect-acts b (y .phase) in
+    let acts : next Step b ≡ performAct (actAt (s .listed) (s .place)) s b = taken-next Step b t ∙ effect-acts b (y .phase) in
     let rest : EndsIn n (next Step b) =
     elim (decLt (s .place) (s .listed + 2)) [
       | yes h ↦
           let f = ready-acts b y h in
-          subst (EndsIn n) (sym acts) (ends n (perform (actAt (s .listed) (s .place)) s b) (f .ready) (omega (arith, f .place, f .listed)))
+          subst (EndsIn n) (sym acts) (ends n (performAct (actAt (s .listed) (s .place)) s b) (f .ready) (omega (arith, f .place, f .listed)))
       | no o ↦
           let end : s .place ≡ s .listed + 2 = omega (arith, y .place) in
           let last : n ≡ 0 = omega arith in
-          subst (EndsIn n) (sym (acts ∙ ap (λ (a : Act). perform a s b) (act-release (s .listed) (s .place) end)))
+          subst (EndsIn n) (sym (acts ∙ ap (λ (a : Act). performAct a s b) (act-release (s .listed) (s .place) end)))
           (subst (λ (k : ℕ). EndsIn k (stated (released s) b)) (sym last) (tt, ap isRunning (y .phase), refl))
     ] in
     ((t, rest .0), rest .1, rest .2)

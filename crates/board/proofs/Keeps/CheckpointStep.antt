@@ -16,7 +16,7 @@ use Rattle.board.specs.declared.Phase.the-variants.{Running}
 use Rattle.board.specs.declared.Call.the-variants.{Step}
 use Rattle.board.specs.Board.{Board, cells, epochOf}
 use Rattle.board.specs.State.{freeWorker, allFree, conditionOf, isWaiting, placed, released}
-use Rattle.board.specs.Effects.{writtenBack, cached, stated, Act, writeLine, storeEpoch, writeHeader, release, actAt, perform}
+use Rattle.board.specs.Effects.{writtenBack, cached, stated, Act, writeLine, storeEpoch, writeHeader, release, actAt, performAct}
 use Rattle.board.specs.Machine.{Unfinished, none, update, Machine, countUnder, counted, completed, dropped, checkpointStep}
 use Rattle.board.specs.Sequence.{Taken, Run}
 use Rattle.board.proofs.Laws.Bools.{chosen, passedOver}
@@ -131,7 +131,7 @@ module _ (r : Run) (s : RunningRun r) (on : r .board .state .requested ≡ true)
 
   -- An entry's line written back.
   line-carried : r .board .state .place < r .board .state .listed → Early (r .machine .lines) (r .board) (r .machine) → Carried r (acted r writeLine (counted (r .machine)))
-  unfolding perform
+  unfolding performAct
   line-carried h e =
       let b = r .board in
       let m = r .machine in
@@ -147,7 +147,7 @@ module _ (r : Run) (s : RunningRun r) (on : r .board .state .requested ≡ true)
 
   -- The epoch stored.
   epoch-carried : r .board .state .place ≡ r .board .state .listed → Early (r .machine .lines) (r .board) (r .machine) → Carried r (acted r storeEpoch (counted (r .machine)))
-  unfolding perform
+  unfolding performAct
   epoch-carried end e =
       let b = r .board in
       let z = s .inv .sizes in
@@ -161,13 +161,13 @@ module _ (r : Run) (s : RunningRun r) (on : r .board .state .requested ≡ true)
 
   -- Line 0 written back.
   header-carried : r .board .state .place ≡ r .board .state .listed + 1 → Carried r (acted r writeHeader (completed (counted (r .machine))))
-  unfolding perform
+  unfolding performAct
   header-carried e =
       header-back r s (r .board .state .place + 1) (r .machine .steps + 1) placed-steps (r .crashed && true) on (omega arith) (omega arith) (omega arith) (s .running .stage)
 
   -- The workers released.
   release-carried : Late (r .machine .lines) (r .board) (r .machine) → Carried r (acted r release (dropped (counted (r .machine))))
-  unfolding perform
+  unfolding performAct
   release-carried e =
       let z = s .inv .sizes in
       record {

@@ -1,0 +1,164 @@
+-- What a taken call does, by the cases in which the code goes: each law puts together the parts that the code makes.
+use Prim.Native.Nat.{ℕ, _+_, _≤_, _<_}
+use mathlib.Core.Path.{_≡_, refl, sym, ap, _∙_}
+use mathlib.Core.List.{List}
+use mathlib.Core.Bool.{Bool, true, false, cond}
+use native.Mathlib.Omega.{arith}
+use lib.Dec.{eqb}
+use lib.ListN.{set}
+use borrow.Author.Tests.{le-leb, lt-leb, lt-ltb, le-ltb, eq-eqb, ne-eqb}
+use Rattle.line.specs.declared.Field.{Field}
+use Rattle.line.specs.Line.{lineOf, withLine}
+use Rattle.line.specs.Cell.{cellLine, fieldOf, withField}
+use Rattle.board.specs.declared.State.{State}
+use Rattle.board.specs.declared.UndoStep.{UndoStep}
+use Rattle.board.specs.declared.UndoStep.the-variants.{Restore, Unmark, WriteLine}
+use Rattle.board.specs.declared.Store.{Store}
+use Rattle.board.specs.declared.Store.the-variants.{Backup, Mark, Record}
+use Rattle.board.specs.declared.Condition.{Condition}
+use Rattle.board.specs.declared.Condition.the-variants.{Updating}
+use Rattle.board.specs.declared.Phase.the-variants.{Recovering}
+use Rattle.board.specs.Board.{Board, cells, headerWords, zeroWords, epochOf, linesOf, workersOf}
+use Rattle.board.specs.State.{started, placed, opened, released, conditioned}
+use Rattle.board.specs.Effects.{listedLine, Act, writeLine, storeEpoch, writeHeader, release, actAt, performAct, formatStep, logged, pastCell, recoveryStep, firstStore, noted, afterLast, advance}
+use Rattle.board.specs.Next.{lent}
+use Rattle.board.proofs.Laws.Bools.{chosen, passedOver}
+
+-- A board with equal parts.
+pub same-board : {s s′ : State} {m m′ c c′ e e′ : List ℕ} → s ≡ s′ → m ≡ m′ → c ≡ c′ → e ≡ e′ → lent s m c e ≡ lent s′ m′ c′ e′
+same-board p q r t = λ i. lent (p i) (q i) (r i) (t i)
+
+-- A choice by a test that the code found to hold.
+pub picked : {A : Type 0} {t u : Bool} {x z : A} (y : A) → t ≡ u → t ≡ true → z ≡ x → z ≡ cond u x y
+picked y p q e = e ∙ sym (chosen _ _ y (sym p ∙ q))
+
+-- A choice by a test that the code found to fail.
+pub dropped : {A : Type 0} {t u : Bool} {y z : A} (x : A) → t ≡ u → t ≡ false → z ≡ y → z ≡ cond u x y
+dropped x p q e = e ∙ sym (passedOver _ x _ (sym p ∙ q))
+
+-- ---- format
+
+module _ (s : State) {s′ : State} (m c : List ℕ) {m′ c′ : List ℕ} (es : List ℕ) where
+  -- A line up to L becomes zeros.
+  pub erased : s .place ≤ s .lines → s′ ≡ placed s (s .place + 1) (s .undo) → m′ ≡ withLine m (s .place) zeroWords → c′ ≡ withLine c (s .place) zeroWords → lent s′ m′ c′ es ≡ formatStep s (lent s m c es)
+  unfolding formatStep
+  erased h p q r = picked _ (sym (le-leb (s .place) (s .lines) h)) refl (same-board p q r refl)
+
+  -- Past line L the header is made.
+  pub headed : s .lines < s .place → s′ ≡ opened s 0 → m′ ≡ withLine m 0 (headerWords 1 (s .lines) (s .workers)) → c′ ≡ withLine c 0 (headerWords 1 (s .lines) (s .workers)) → lent s′ m′ c′ es ≡ formatStep s (lent s m c es)
+  unfolding formatStep
+  headed h p q r = dropped _ (sym (lt-leb (s .place) (s .lines) h)) refl (same-board p q r refl)
+
+-- ---- recovery
+
+-- A recovery's start, from the header's two words.
+pub restarts : {s′ : State} {l w : ℕ} (row : List ℕ) → l ≡ linesOf row → w ≡ workersOf row → s′ ≡ started Recovering l w → s′ ≡ started Recovering (linesOf row) (workersOf row)
+restarts row p q e = e ∙ (λ i. started Recovering (p i) (q i))
+
+-- A cell's log, from the two words that are compared.
+pub same-log : {x e : ℕ} (row : List ℕ) (cell : ℕ) → x ≡ fieldOf row cell Field.Mark → e ≡ epochOf row → eqb x e ≡ logged row cell
+same-log row cell p q = λ i. eqb (p i) (q i)
+
+-- Past a cell there is another.
+pub next-cell : (s : State) {s′ : State} {n : ℕ} → n ≡ cells (s .lines) → s .place + 1 < n → s′ ≡ placed s (s .place + 1) Restore → s′ ≡ pastCell s
+next-cell s e h p = picked _ (sym (lt-ltb (s .place + 1) (cells (s .lines)) (omega arith))) refl p
+
+-- Past the last cell the board runs.
+pub last-cell : (s : State) {s′ : State} {n : ℕ} → n ≡ cells (s .lines) → n ≤ s .place + 1 → s′ ≡ opened s (s .listed) → s′ ≡ pastCell s
+last-cell s e h p = dropped _ (sym (le-ltb (s .place + 1) (cells (s .lines)) (omega arith))) refl p
+
+module _ (s : State) {s′ : State} (m c es : List ℕ) where
+  -- "record := backup".
+  pub restores : {c′ : List ℕ} {t : Bool} {v : ℕ} → t ≡ logged c (s .place) → t ≡ true → s′ ≡ placed s (s .place) Unmark → v ≡ fieldOf c (s .place) Field.Backup → c′ ≡ withField c (s .place) Field.Record v → lent s′ m c′ es ≡ recoveryStep Restore s (lent s m c es)
+  unfolding recoveryStep
+  restores p q r f g = picked _ p q (same-board r refl (g ∙ ap (withField c (s .place) Field.Record) f) refl)
+
+  -- "any other, one step that stores nothing".
+  pub passes : {t : Bool} → t ≡ logged c (s .place) → t ≡ false → s′ ≡ pastCell s → lent s′ m c es ≡ recoveryStep Restore s (lent s m c es)
+  unfolding recoveryStep
+  passes p q r = dropped _ p q (same-board r refl refl refl)
+
+  -- "mark := 0".
+  pub unmarks : {c′ : List ℕ} → s′ ≡ placed s (s .place) WriteLine → c′ ≡ withField c (s .place) Field.Mark 0 → lent s′ m c′ es ≡ recoveryStep Unmark s (lent s m c es)
+  unfolding recoveryStep
+  unmarks p q = same-board p refl q refl
+
+  -- "its line written back".
+  pub writes : {m′ : List ℕ} {l : ℕ} → l ≡ cellLine (s .place) → s′ ≡ pastCell s → m′ ≡ withLine m l (lineOf c l) → lent s′ m′ c es ≡ recoveryStep WriteLine s (lent s m c es)
+  unfolding recoveryStep
+  writes e p q = same-board p (q ∙ ap (λ (l : ℕ). withLine m l (lineOf c l)) e) refl refl
+
+-- The step that is next.
+pub undo-told : {u u′ : UndoStep} (s : State) (b : Board) {b′ : Board} → u ≡ u′ → b′ ≡ recoveryStep u′ s b → b′ ≡ recoveryStep u s b
+undo-told s b p e = e ∙ ap (λ (x : UndoStep). recoveryStep x s b) (sym p)
+
+-- ---- updates and restart points
+
+module _ (s : State) {s′ : State} (m c es : List ℕ) (w cell v : ℕ) where
+  -- "The start notes it."
+  pub notes : {next : Store} → next ≡ firstStore c cell → s′ ≡ conditioned s w (Updating cell v next) (s .listed) → lent s′ m c es ≡ noted w cell v (lent s m c es)
+  notes p q = same-board (q ∙ ap (λ (x : Store). conditioned s w (Updating cell v x) (s .listed)) p) refl refl refl
+
+  -- "backup := record".
+  pub backs-up : {c′ : List ℕ} {old : ℕ} → old ≡ fieldOf c cell Field.Record → c′ ≡ withField c cell Field.Backup old → s′ ≡ conditioned s w (Updating cell v Mark) (s .listed) → lent s′ m c′ es ≡ advance Backup w cell v s (lent s m c es)
+  unfolding advance
+  backs-up f p q = same-board q refl (p ∙ ap (withField c cell Field.Backup) f) refl
+
+  -- "mark := epoch, and the cell is added to the list".
+  pub marks : {c′ : List ℕ} {epoch : ℕ} {es′ : List ℕ} → epoch ≡ epochOf c → c′ ≡ withField c cell Field.Mark epoch → es′ ≡ set es (s .listed) cell → s′ ≡ conditioned s w (Updating cell v Record) (s .listed + 1) → lent s′ m c′ es′ ≡ advance Mark w cell v s (lent s m c es)
+  unfolding advance
+  marks f p q r = same-board r refl (p ∙ ap (withField c cell Field.Mark) f) q
+
+  -- "record := value".
+  pub records : {c′ : List ℕ} {k : Condition} → k ≡ afterLast s cell → c′ ≡ withField c cell Field.Record v → s′ ≡ conditioned s w k (s .listed) → lent s′ m c′ es ≡ advance Record w cell v s (lent s m c es)
+  unfolding advance
+  records f p q = same-board (q ∙ ap (λ (k : Condition). conditioned s w k (s .listed)) f) refl p refl
+
+-- The store that is next.
+pub store-told : {u u′ : Store} (w cell v : ℕ) (s : State) (b : Board) {b′ : Board} → u ≡ u′ → b′ ≡ advance u′ w cell v s b → b′ ≡ advance u w cell v s b
+store-told w cell v s b p e = e ∙ ap (λ (x : Store). advance x w cell v s b) (sym p)
+
+-- ---- checkpoint
+
+act-line : {n place : ℕ} → place < n → actAt n place ≡ writeLine
+unfolding actAt
+act-line {n} {place} h = chosen _ _ _ (lt-ltb place n h)
+
+act-epoch : {n place : ℕ} → place ≡ n → actAt n place ≡ storeEpoch
+unfolding actAt
+act-epoch {n} {place} h = passedOver _ _ _ (le-ltb place n (omega arith)) ∙ chosen _ _ _ (eq-eqb place n h)
+
+act-header : (n : ℕ) {place : ℕ} → place ≡ n + 1 → actAt n place ≡ writeHeader
+unfolding actAt
+act-header n {place} h =
+    passedOver _ _ _ (le-ltb place n (omega arith)) ∙ passedOver _ _ _ (ne-eqb place n (λ e. omega arith)) ∙ chosen _ _ _ (eq-eqb place (n + 1) h)
+
+act-release : {n place : ℕ} → n ≤ place → (place ≡ n → ⊥) → (place ≡ n + 1 → ⊥) → actAt n place ≡ release
+unfolding actAt
+act-release {n} {place} h o p =
+    passedOver _ _ _ (le-ltb place n h) ∙ passedOver _ _ _ (ne-eqb place n o) ∙ passedOver _ _ _ (ne-eqb place (n + 1) p)
+
+-- The act that comes at the place.
+acted : {a : Act} (s : State) (b : Board) {b′ : Board} → actAt (s .listed) (s .place) ≡ a → b′ ≡ performAct a s b → b′ ≡ performAct (actAt (s .listed) (s .place)) s b
+acted s b p e = e ∙ ap (λ (x : Act). performAct x s b) (sym p)
+
+module _ (s : State) {s′ : State} (m c es : List ℕ) where
+  -- "one step for each list entry, writing that cell's line back".
+  pub writes-listed : {m′ : List ℕ} {l : ℕ} → l ≡ listedLine (s .place) es → s .place < s .listed → s′ ≡ placed s (s .place + 1) (s .undo) → m′ ≡ withLine m l (lineOf c l) → lent s′ m′ c es ≡ performAct (actAt (s .listed) (s .place)) s (lent s m c es)
+  unfolding performAct
+  writes-listed e h p q = acted s (lent s m c es) (act-line h) (same-board p (q ∙ ap (λ (l : ℕ). withLine m l (lineOf c l)) e) refl refl)
+
+  -- "epoch := epoch + 1 in the cache".
+  pub stores-epoch : {c′ : List ℕ} {epoch : ℕ} → s .place ≡ s .listed → s′ ≡ placed s (s .place + 1) (s .undo) → epoch ≡ epochOf c → c′ ≡ set c 0 (epoch + 1) → lent s′ m c′ es ≡ performAct (actAt (s .listed) (s .place)) s (lent s m c es)
+  unfolding performAct
+  stores-epoch h p f q = acted s (lent s m c es) (act-epoch h) (same-board p refl (q ∙ ap (λ (x : ℕ). set c 0 (x + 1)) f) refl)
+
+  -- "line 0 written back".
+  pub writes-header : {m′ : List ℕ} → s .place ≡ s .listed + 1 → s′ ≡ placed s (s .place + 1) (s .undo) → m′ ≡ withLine m 0 (lineOf c 0) → lent s′ m′ c es ≡ performAct (actAt (s .listed) (s .place)) s (lent s m c es)
+  unfolding performAct
+  writes-header h p q = acted s (lent s m c es) (act-header (s .listed) h) (same-board p q refl refl)
+
+  -- "release".
+  pub releases : s .listed ≤ s .place → (s .place ≡ s .listed → ⊥) → (s .place ≡ s .listed + 1 → ⊥) → s′ ≡ released s → lent s′ m c es ≡ performAct (actAt (s .listed) (s .place)) s (lent s m c es)
+  unfolding performAct
+  releases h o n p = acted s (lent s m c es) (act-release h o n) (same-board p refl refl refl)

@@ -1,0 +1,34 @@
+-- `effects::checkpoint::checkpoint_step` meets its contract: each branch does the act that comes at its place, within the bounds of `Checkpoints`.
+use borrow.Author.Needs.{needs}
+use Rattle.effects.proofs.Ready.{entry-in, epoch-in}
+use Rattle.effects.proofs.Effects.{writes-listed, stores-epoch, writes-header, releases}
+use Rattle.effects.proofs.checkpoint.checkpoint_step.Statement.{statement}
+use Rattle.effects.proofs.checkpoint.checkpoint_step.Tie as tie
+
+write-back-requires : tie.Need-write-back-requires
+write-back-requires c κs =
+    let listed = c .before .before .before .before in
+    entry-in _ _ _ _ (listed .before .before .before .before .pre) (listed .if1 .taken) (c .cell-line .ensures)
+
+returns : tie.Need-returns
+returns c = search (needs, writes-listed)
+
+add-store-header-word : tie.Need-add-store-header-word
+add-store-header-word c = record { fits = search (needs, epoch-in) }
+
+returns-2 : tie.Need-returns-2
+returns-2 c = search (needs, stores-epoch)
+
+returns-3 : tie.Need-returns-3
+returns-3 c = search (needs, writes-header)
+
+returns-4 : tie.Need-returns-4
+returns-4 c = search (needs, releases)
+
+pub checkpoint-step-spec : {M : Type 1} → statement M
+checkpoint-step-spec =
+    tie.close
+    (tie.spec (search needs) (search needs) (search needs) (search needs) write-back-requires (search needs)
+    (search needs) (search needs) returns (search needs) add-store-header-word (search needs)
+    (search needs) (search needs) returns-2 (search needs) (search needs) (search needs)
+    (search needs) (search needs) returns-3 (search needs) returns-4)

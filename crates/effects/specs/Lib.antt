@@ -1,0 +1,2 @@
+-- What the functions behind the calls ask of what they are lent.
+pub mod Ready

@@ -1,0 +1,16 @@
+// What a taken call does, store by store (document 01, "Steps"). For the engine's own use: each function asks for what a passed cause table gives.
+mod cells;
+mod checkpoint;
+mod format;
+mod record;
+mod recovery;
+mod stores;
+
+pub use checkpoint::checkpoint_step;
+pub use format::format_step;
+pub use record::requesting;
+pub use record::started;
+pub use recovery::recovery_step;
+pub use recovery::restart;
+pub use stores::noted;
+pub use stores::store_next;

@@ -1,0 +1,225 @@
+-- What a taken call has passed: from no cause to the bounds that its effect asks for.
+use Prim.Native.Nat.{ℕ, _+_, _-_, _/_, _%_, _≤_, _<_}
+use mathlib.Core.Path.{_≡_, ap, subst, _∙_}
+use mathlib.Core.Bool.{true, false, not, _&&_, _||_}
+use native.Mathlib.Omega.{arith}
+use lib.Dec.{leb, ltb, eqb}
+use lib.ListN.{length, getD}
+use borrow.Author.Tests.{ltb-false, leb-false, leb-true, eqb-true, eqb-false, lt-ltb, eq-eqb}
+use Rattle.line.specs.Line.{lineStart}
+use Rattle.line.specs.Cell.{cellLine}
+use Rattle.board.specs.declared.State.{State}
+use Rattle.board.specs.declared.Phase.{Phase}
+use Rattle.board.specs.declared.Phase.the-variants.{Formatting, Recovering, Running}
+use Rattle.board.specs.declared.Store.{Store}
+use Rattle.board.specs.declared.Store.the-variants.{Mark}
+use Rattle.board.specs.declared.Condition.{Condition}
+use Rattle.board.specs.declared.Condition.the-variants.{Updating}
+use Rattle.board.specs.declared.Call.the-variants.{FormatStart, RecoveryStart, Step, Update, RestartPoint, Advance, WriteBack, Read}
+use Rattle.board.specs.Board.{Board, cells, rowWords, listWords, linesOutside, workersOutside, outside, epochOf, linesOf, workersOf, restNotZero, lastEpoch}
+use Rattle.board.specs.State.{conditionOf, isRunning, isWaiting, updates, mustList, anyWorker}
+use Rattle.board.specs.Causes.{causes, badRecord, badRows, badEntry, placePast, listFull, checkpointing, epochSpent}
+use Rattle.board.specs.Sequence.{Taken}
+use Rattle.board.proofs.Laws.Bools.{or-left, or-right, and-both, and-left, and-right, and-not, not-off, none-under}
+use Rattle.board.proofs.Laws.Taken.{standsAt, passed, lines-in, workers-in}
+use Rattle.effects.specs.Ready.{Rows, Restarts, Formats, Recovers, Checkpoints, Stores, Advances}
+
+-- ---- the record and the rows
+
+-- A state record that passes.
+pub record Sound (s : State) : Type 0 where
+  pub lines : s .lines ≤ 511
+  pub workers : s .workers ≤ 8
+  pub restart : s .workers < cells (s .lines)
+  pub listed : s .listed ≤ cells (s .lines)
+  pub place : placePast (s .phase) s ≡ false
+  pub update : (w : ℕ) → w < s .workers → updates (leb (cells (s .lines))) (conditionOf s w) ≡ false
+
+pub sound : (s : State) → badRecord s ≡ false → Sound s
+unfolding badRecord
+sound s e =
+    let limits = outside (s .lines) (s .workers) in
+    let list = ltb (cells (s .lines)) (s .listed) in
+    let place = placePast (s .phase) s in
+    let update = anyWorker s (updates (leb (cells (s .lines)))) in
+    let three = or-left (limits || list || place) update e in
+    let two = or-left (limits || list) place three in
+    let one = or-left limits list two in
+    let w = workers-in (s .lines) (s .workers) (or-right (linesOutside (s .lines)) (workersOutside (s .lines) (s .workers)) one) in
+    record {
+      lines = lines-in (s .lines) (or-left (linesOutside (s .lines)) (workersOutside (s .lines) (s .workers)) one) .1;
+      workers = w .1;
+      restart = w .2;
+      listed = ltb-false (cells (s .lines)) (s .listed) (or-right limits list two);
+      place = or-right (limits || list) place three;
+      update = λ i h. and-not (ltb i (s .workers)) _ (none-under 8 _ (or-right (limits || list || place) update e) i (omega arith)) (lt-ltb i (s .workers) h);
+    }
+
+-- Rows that pass.
+pub record Long (l : ℕ) (b : Board) : Type 0 where
+  pub cache : length (b .cache) ≡ rowWords l
+  pub memory : length (b .memory) ≡ rowWords l
+  pub entries : listWords l ≤ length (b .entries)
+
+pub long : (l : ℕ) (b : Board) → badRows l b ≡ false → Long l b
+long l b e =
+    let c = eqb (length (b .cache)) (rowWords l) in
+    let m = eqb (length (b .memory)) (rowWords l) in
+    let list = ltb (length (b .entries)) (listWords l) in
+    let rows = or-left (not c || not m) list e in
+    record {
+      cache = eqb-true (length (b .cache)) (rowWords l) (not-off c (or-left (not c) (not m) rows));
+      memory = eqb-true (length (b .memory)) (rowWords l) (not-off m (or-right (not c) (not m) rows));
+      entries = ltb-false (length (b .entries)) (listWords l) (or-right (not c || not m) list e);
+    }
+
+-- ---- the starts
+
+-- L and W of a taken format are within the limits.
+pub format-limits : (l w : ℕ) (b : Board) → Taken (FormatStart l w) b → (l ≤ 511) × (w ≤ 8)
+unfolding standsAt causes
+format-limits l w b t =
+    let e = passed (FormatStart l w) b t 1 in
+    (lines-in l (or-left (linesOutside l) (workersOutside l w) e) .1, workers-in l w (or-right (linesOutside l) (workersOutside l w) e) .1)
+
+-- A taken recovery has two rows of one length and a header within the limits.
+pub recovery-restarts : (b : Board) → Taken RecoveryStart b → Restarts (b .memory) (b .cache)
+unfolding standsAt causes
+recovery-restarts b t =
+    let n = length (b .memory) in
+    let whole = eqb (n % 8) 0 && leb 16 n && leb n 4096 in
+    let same = eqb (length (b .cache)) n in
+    let list = ltb (length (b .entries)) (n / 4 - 2) in
+    let e = passed RecoveryStart b t 4 in
+    let rows = or-left (not whole || not same) list e in
+    let fits = not-off whole (or-left (not whole) (not same) rows) in
+    let least = leb-true 16 n (and-right (eqb (n % 8) 0) (leb 16 n) (and-left (eqb (n % 8) 0 && leb 16 n) (leb n 4096) fits)) in
+    let most = leb-true n 4096 (and-right (eqb (n % 8) 0 && leb 16 n) (leb n 4096) fits) in
+    let h = passed RecoveryStart b t 5 in
+    let empty = eqb (epochOf (b .memory)) 0 in
+    let size = eqb (linesOf (b .memory)) (n / 8 - 1) in
+    let w = workersOutside (linesOf (b .memory)) (workersOf (b .memory)) in
+    let rest = restNotZero (b .memory) in
+    let three = or-left (empty || not size || w) rest h in
+    let lines = eqb-true (linesOf (b .memory)) (n / 8 - 1) (not-off size (or-right empty (not size) (or-left (empty || not size) w three))) in
+    record {
+      rows = eqb-true (length (b .cache)) n (not-off same (or-right (not whole) (not same) rows));
+      header = omega arith;
+      lines = omega arith;
+      workers = workers-in (linesOf (b .memory)) (workersOf (b .memory)) (or-right (empty || not size) w three) .1;
+    }
+
+-- ---- the step, by phase
+
+module _ (b : Board) (t : Taken Step b) where
+  step-sound : Sound (b .state)
+  unfolding standsAt causes
+  step-sound = sound (b .state) (passed Step b t 3)
+
+  step-long : Long (b .state .lines) b
+  unfolding standsAt causes
+  step-long = long (b .state .lines) b (or-left (badRows (b .state .lines) b) (badEntry b) (passed Step b t 4))
+
+  step-rows : Rows (b .state) (b .memory) (b .cache)
+  step-rows = record { limit = step-sound .lines; inMemory = step-long .memory; inCache = step-long .cache }
+
+  -- The place, where the phase is known.
+  place-at : {phase : Phase} → b .state .phase ≡ phase → placePast phase (b .state) ≡ false
+  place-at e = subst (λ (p : Phase). placePast p (b .state) ≡ false) e (step-sound .place)
+
+  pub step-formats : b .state .phase ≡ Formatting → Formats (b .state) (b .memory) (b .cache)
+  step-formats e = record { rows = step-rows; place = ltb-false _ _ (place-at e) }
+
+  pub step-recovers : b .state .phase ≡ Recovering → Recovers (b .state) (b .memory) (b .cache)
+  step-recovers e = record { rows = step-rows; place = leb-false _ _ (place-at e) }
+
+  pub step-checkpoints : b .state .phase ≡ Running → Checkpoints (b .state) (b .memory) (b .cache) (b .entries)
+  unfolding standsAt causes
+  step-checkpoints e =
+      let s = b .state in
+      let running : isRunning (s .phase) ≡ true = ap isRunning e in
+      let waits = anyWorker s (λ condition. not (isWaiting condition)) in
+      let asked = not-off (s .requested) (or-left (not (s .requested)) waits (and-not (isRunning (s .phase)) (not (s .requested) || waits) (passed Step b t 10) running)) in
+      let on = and-both (isRunning (s .phase)) (s .requested) running asked in
+      let entry = getD (b .entries) (s .place) 0 in
+      record {
+        rows = step-rows;
+        listed = step-sound .listed;
+        list = step-long .entries;
+        place = ltb-false (s .listed + 2) (s .place) (and-not (s .requested) (ltb (s .listed + 2) (s .place)) (place-at e) asked);
+        entry = λ h. leb-false (cells (s .lines)) entry (and-not (checkpointing s && ltb (s .place) (s .listed)) (leb (cells (s .lines)) entry) (or-right (badRows (s .lines) b) (badEntry b) (passed Step b t 4)) (and-both (checkpointing s) (ltb (s .place) (s .listed)) on (lt-ltb (s .place) (s .listed) h)));
+        epoch = λ h. eqb-false (epochOf (b .cache)) lastEpoch (and-not (checkpointing s && eqb (s .place) (s .listed)) (epochSpent b) (passed Step b t 11) (and-both (checkpointing s) (eqb (s .place) (s .listed)) on (eq-eqb (s .place) (s .listed) h)));
+      }
+
+-- ---- updates, restart points, advances
+
+-- A worker under W and a cell under 2L can be stored by.
+stores-of : (b : Board) (w c : ℕ) → Sound (b .state) → Long (b .state .lines) b → w < b .state .workers → c < cells (b .state .lines) → Stores (b .cache) w c × (c < 1022)
+stores-of b w c s l p q = (record { byWorker = omega arith; ofCell = omega arith }, omega arith)
+
+pub update-stores : (w c v : ℕ) (b : Board) → Taken (Update w c v) b → Stores (b .cache) w c × (c < 1022)
+unfolding standsAt causes
+update-stores w c v b t =
+    let k = Update w c v in
+    stores-of b w c (sound (b .state) (passed k b t 3)) (long (b .state .lines) b (passed k b t 4))
+    (leb-false (b .state .workers) w (passed k b t 6))
+    (leb-false (cells (b .state .lines)) c (or-right (ltb c (b .state .workers)) (leb (cells (b .state .lines)) c) (passed k b t 7)))
+
+pub restart-stores : (w v : ℕ) (b : Board) → Taken (RestartPoint w v) b → Stores (b .cache) w w × (w < 1022)
+unfolding standsAt causes
+restart-stores w v b t =
+    let k = RestartPoint w v in
+    let s = sound (b .state) (passed k b t 3) in
+    let under = leb-false (b .state .workers) w (passed k b t 6) in
+    stores-of b w w s (long (b .state .lines) b (passed k b t 4)) under (omega arith)
+
+module _ (w : ℕ) (b : Board) (t : Taken (Advance w) b) where
+  advance-sound : Sound (b .state)
+  unfolding standsAt causes
+  advance-sound = sound (b .state) (or-left (badRecord (b .state)) (listFull (b .state) w) (passed (Advance w) b t 3))
+
+  advance-under : w < b .state .workers
+  unfolding standsAt causes
+  advance-under = leb-false (b .state .workers) w (passed (Advance w) b t 6)
+
+  -- The worker is one of the eight.
+  pub advance-worker : w < 8
+  advance-worker = omega (arith, advance-sound .workers, advance-under)
+
+  -- Where the list is full the next store is not the mark's.
+  advance-room : {c v : ℕ} {next : Store} → conditionOf (b .state) w ≡ Updating c v next → next ≡ Mark → b .state .listed < cells (b .state .lines)
+  unfolding standsAt causes
+  advance-room {c} {v} e m =
+      let s = b .state in
+      let full = or-right (badRecord s) (listFull s w) (passed (Advance w) b t 3) in
+      let lists : mustList (conditionOf s w) ≡ true = ap mustList (e ∙ ap (Updating c v) m) in
+      let adds = and-both (ltb w (s .workers)) (mustList (conditionOf s w)) (lt-ltb w (s .workers) advance-under) lists in
+      let room = eqb-false (s .listed) (cells (s .lines)) (and-not (ltb w (s .workers) && mustList (conditionOf s w)) (eqb (s .listed) (cells (s .lines))) full adds) in
+      omega (arith, advance-sound .listed)
+
+  pub advance-advances : {c v : ℕ} {next : Store} → conditionOf (b .state) w ≡ Updating c v next → Advances (b .state) (b .cache) (b .entries) w c next
+  unfolding standsAt causes
+  advance-advances {c} {v} {next} e =
+      let s = b .state in
+      let l = long (s .lines) b (passed (Advance w) b t 4) in
+      let in-range = leb-false (cells (s .lines)) c (subst (λ (k : Condition). updates (leb (cells (s .lines))) k ≡ false) e (advance-sound .update w advance-under)) in
+      record {
+        stores = stores-of b w c advance-sound l advance-under in-range .0;
+        room = λ m. (omega (arith, advance-room e m, l .entries), omega (arith, advance-room e m, advance-sound .lines));
+      }
+
+-- ---- write-back and read
+
+-- The line of a taken write-back is in both rows.
+pub line-in-rows : (l : ℕ) (b : Board) → Taken (WriteBack l) b → (lineStart l + 8 ≤ length (b .memory)) × (lineStart l + 8 ≤ length (b .cache))
+unfolding standsAt causes
+line-in-rows l b t =
+    let k = WriteBack l in
+    omega (arith, long (b .state .lines) b (passed k b t 4), ltb-false (b .state .lines) l (passed k b t 7))
+
+-- The cell of a taken read is in the cache.
+pub cell-in-cache : (c : ℕ) (b : Board) → Taken (Read c) b → lineStart (cellLine c) + 8 ≤ length (b .cache)
+unfolding standsAt causes
+cell-in-cache c b t =
+    let k = Read c in
+    omega (arith, long (b .state .lines) b (passed k b t 4), leb-false (cells (b .state .lines)) c (passed k b t 7))

@@ -1,0 +1,38 @@
+// The advance call: the next store of a worker's update.
+ghost use mathlib.Core.Path.{_≡_};
+ghost use Rattle.board.specs.declared.Call.the-variants.{Advance};
+ghost use Rattle.board.specs.Effects.{effect};
+ghost use Rattle.board.specs.Next.{lent};
+ghost use Rattle.board.specs.Sequence.{Taken};
+use board::Condition;
+use board::State;
+use effects::store_next;
+
+// What a taken advance does.
+pub fn taken_advance(
+    state: State,
+    memory: &[u64],
+    cache: &mut [u64],
+    entries: &mut [u16],
+    worker: u64,
+) -> State
+    requires { ⌜ Taken (Advance worker) (lent state (now memory) (now cache) (now entries)) ⌝ }
+    ensures { λ r. ⌜ lent r (now (memory .entry)) (now (cache .exit)) (now (entries .exit)) ≡ effect (Advance worker) (lent state (now (memory .entry)) (now (cache .entry)) (now (entries .entry))) ⌝ }
+{
+    let at = worker as usize;
+    let w = state.worker[at];
+    let condition = w.condition;
+    match condition {
+        Condition::Free => state,
+        Condition::Waiting => state,
+        Condition::Updating { cell, value, next } => store_next(
+            state,
+            cache,
+            entries,
+            at,
+            cell,
+            value,
+            next,
+        ),
+    }
+}
