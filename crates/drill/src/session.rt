@@ -210,9 +210,9 @@ fn format(
 {
     let old = session.lines;
     let state = session.state;
-    let sized = fitted(old, lines);
-    let n = words(sized);
-    let cells = 2 * (sized as usize);
+    let fit = fitted(old, lines);
+    let n = words(fit);
+    let cells = 2 * (fit as usize);
     let r = format_to_end(
         state,
         &mut memory[..n],
@@ -222,22 +222,16 @@ fn format(
         workers,
     );
     let number = r.number;
-    let next = r.state;
+    let state = r.state;
     if number != 0 {
         return Answered {
-            session: Session {
-                state: next,
-                lines: old,
-            },
+            session: Session { state, lines: old },
             answer: Shown::Number(number as u64),
             value: Shown::Nothing,
         };
     }
     Answered {
-        session: Session {
-            state: next,
-            lines: sized,
-        },
+        session: Session { state, lines: fit },
         answer: Shown::Number(0),
         value: Shown::Nothing,
     }
