@@ -1,2 +1,3 @@
 -- `Tests` has what is true of the tests that code writes in another way than the definitions.
 pub mod Tests
+pub mod Scan

@@ -2,6 +2,7 @@
 use board::Condition;
 use board::State;
 use board::Store;
+ghost use Prim.Native.Nat.{min};
 ghost use mathlib.Core.Path.{_≡_};
 ghost use lib.Dec.{leb, eqb};
 ghost use Rattle.board.specs.State.{conditionOf, isFree, isWaiting, isUpdating, isMarkStore, mustList, updates, anyUnder};
@@ -139,13 +140,21 @@ fn is_sought(state: State, sought: Sought, i: u64) -> bool
     }
 }
 
+// How many workers are looked at: those under W, of which there are at most eight.
+fn looked_at(workers: u8) -> u64
+    ensures { λ r. ⌜ r ≡ min workers 8 ⌝ }
+{
+    if workers < 8 { workers as u64 } else { 8 }
+}
+
 // One of the workers under W is what is sought.
 pub fn any_worker(state: State, sought: Sought) -> bool
     ensures { λ r. ⌜ r ≡ anyUnder 8 (soughtAt state sought) ⌝ }
 {
+    let end = looked_at(state.workers);
     let mut found = false;
     let mut i: u64 = 0;
-    while i < 8 {
+    while i < end {
         found = found | is_sought(state, sought, i);
         i += 1;
     }

@@ -43,8 +43,9 @@ pub fn next_place(state: State) -> State
     requires { ⌜ state .place < 65535 ⌝ }
     ensures { λ r. ⌜ r ≡ placed state (state .place + 1) (state .undo) ⌝ }
 {
-    let place = state.place + 1;
-    State { place, ..state }
+    let mut next = state;
+    next.place = state.place + 1;
+    next
 }
 
 // "Then running, all free": the end of a format or a recovery.
@@ -88,7 +89,8 @@ pub fn conditioned(state: State, worker: usize, condition: Condition, listed: u1
     requires { ⌜ worker < 8 ⌝ }
     ensures { λ r. ⌜ r ≡ conditioned state worker condition listed ⌝ }
 {
-    let mut next = State { listed, ..state };
+    let mut next = state;
+    next.listed = listed;
     next.worker[worker] = Worker { condition };
     next
 }
