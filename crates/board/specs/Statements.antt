@@ -3,7 +3,7 @@ use Prim.Native.Nat.{ℕ, zero, suc, _+_, _≤_, _<_}
 use mathlib.Core.Path.{_≡_}
 use mathlib.Core.Logic.{_⊎_, _↔_}
 use mathlib.Core.List.{List}
-use mathlib.Core.Bool.{Bool, true, false}
+use mathlib.Core.Bool.{Bool, true, false, _&&_}
 use lib.ListN.{getD, set}
 use Rattle.line.specs.Line.{lineStart}
 use Rattle.board.specs.declared.Call.{Call}
@@ -12,7 +12,7 @@ use Rattle.board.specs.declared.Phase.{Phase}
 use Rattle.board.specs.Board.{Board, cells, epochOf}
 use Rattle.board.specs.State.{conditionOf, isWaiting, isFormatting, isRecovering, isRunning}
 use Rattle.board.specs.Effects.{writtenBack}
-use Rattle.board.specs.Next.{next, valueRead}
+use Rattle.board.specs.Next.{taken, next, valueRead}
 use Rattle.board.specs.Machine.{Machine, formatSteps}
 use Rattle.board.specs.Sequence.{Taken, Event, call, cut, Run, after, Allowed, Takes, Reached, recoverySteps}
 
@@ -44,7 +44,7 @@ Recovery = (r : Run) → Reached r → (b : Board) → Recovered r b → ReadsCh
 unfoldable pub formatStepAt : Event → Run → Bool
 formatStepAt (call (FormatStart l w)) r = false
 formatStepAt (call RecoveryStart) r = false
-formatStepAt (call Step) r = isFormatting (r .board .state .phase)
+formatStepAt (call Step) r = isFormatting (r .board .state .phase) && taken Step (r .board)
 formatStepAt (call (Update w c v)) r = false
 formatStepAt (call (RestartPoint w v)) r = false
 formatStepAt (call (Advance w)) r = false

@@ -5,7 +5,10 @@ use mathlib.Core.Logic.{_⊎_, inl, inr}
 use mathlib.Core.List.{List}
 use mathlib.Core.Bool.{Bool, true, false, cond, true≢false}
 use native.Mathlib.Omega.{arith}
+use borrow.Author.Tests.{eq-eqb}
 use Rattle.line.specs.Cell.{cellLine}
+use Rattle.board.specs.Causes.{cause}
+use Rattle.board.specs.Next.{taken}
 use Rattle.board.specs.declared.State.{State}
 use Rattle.board.specs.declared.UndoStep.{UndoStep}
 use Rattle.board.specs.declared.UndoStep.the-variants.{Restore, Unmark, WriteLine}
@@ -23,7 +26,7 @@ use Rattle.board.specs.Effects.{effect, step, recoveryStep, advance, adv
 use Rattle.board.specs.Machine.{Machine, Unfinished, none, update, feed, advanced, fewer}
 use Rattle.board.specs.Sequence.{Taken, Event, call, cut, Run, after, Allowed}
 use Rattle.board.specs.Statements.{Unchanged, Completed, formatStepAt}
-use Rattle.board.proofs.Laws.Bools.{on, clash}
+use Rattle.board.proofs.Laws.Bools.{on, clash, and-before}
 use Rattle.board.proofs.Laws.View.{Sized, cell-line}
 use Rattle.board.proofs.Laws.Rows.{epoch-back-other}
 use Rattle.board.proofs.Invariant.{Inv, RecoveryInv, RecoveryMachine}
@@ -101,7 +104,8 @@ call-completes : (k : Call) (r : Run) → Inv r → Allowed (call k) r → forma
 unfolding effect feed formatStepAt
 call-completes (FormatStart l w) r i a f t = inl (same-run r (afterTaken (FormatStart l w) r) refl (λ c. refl))
 call-completes RecoveryStart r i a f t = inl (same-run r (afterTaken RecoveryStart r) refl (λ c. refl))
-call-completes Step r i a f t = step-completes r i (not-crashed Step r a t refl) t f
+call-completes Step r i a f t =
+    step-completes r i (not-crashed Step r a t refl) t (and-before (isFormatting (r .board .state .phase)) (taken Step (r .board)) f (eq-eqb (cause Step (r .board)) 0 t))
 call-completes (Update w c v) r i a f t = inl (same-run r (afterTaken (Update w c v) r) refl (λ c. refl))
 call-completes (RestartPoint w v) r i a f t = inl (same-run r (afterTaken (RestartPoint w v) r) refl (λ c. refl))
 call-completes (Advance w) r i a f t =
