@@ -3,6 +3,7 @@ use Prim.Native.Nat.{ℕ}
 use mathlib.Core.Bool.{cond}
 use Rattle.causes.specs.declared.order.Causes.{Causes}
 
+-- The number of the first flag that is set, in rising order; 0 where none is.
 abbrev pub firstOf : Causes → ℕ
 firstOf c =
     cond (c .limits) 1 (cond (c .phase) 2 (cond (c .state) 3 (cond (c .rows) 4 (cond (c .header) 5 (cond (c .worker) 6

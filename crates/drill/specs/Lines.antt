@@ -33,6 +33,7 @@ pub record Done : Type 0 where
   pub answer : Shown
   pub value : Shown
 
+-- What is left and shown, put together.
 abbrev pub done : ℕ → Board → Shown → Shown → Done
 done lines board answer value = record { lines = lines; board = board; answer = answer; value = value }
 

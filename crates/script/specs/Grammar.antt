@@ -37,6 +37,7 @@ value f = valueAfter 0 f
 unfoldable pub isNumber : List ℕ → Bool
 isNumber f = ltb 0 (length f) && (allDigits f && leb (value f) (2 ^ 64 - 1))
 
+-- Every field is a number.
 unfoldable pub allNumbers : List (List ℕ) → Bool
 allNumbers [] = true
 allNumbers (f ∷ fs) = isNumber f && allNumbers fs
