@@ -40,46 +40,68 @@ Undoes l e xs row = (c : ℕ) → c < cells l → Undo e (xs c) (view row c)
 
 -- A header that recovery's start takes on a board of `l` lines.
 pub record Header (l : ℕ) (row : List ℕ) : Type 0 where
+  -- there is a board here
   pub epoch : 0 < epochOf row
+  -- L is the board's
   pub lines : linesOf row ≡ l
+  -- W is within the limits
   pub workers : workersOutside l (workersOf row) ≡ false
+  -- the words that mean nothing are zero
   pub rest : restNotZero row ≡ false
 
 -- A memory from which recovery gives the values `xs`.
 pub record Kept (l : ℕ) (xs : ℕ → ℕ) (row : List ℕ) : Type 0 where
+  -- recovery's start takes the header
   pub header : Header l row
+  -- undoing every cell gives the values
   pub undoes : Undoes l (epochOf row) xs row
 
 -- The rows have the lengths that `l` lines ask.
 pub record Sizes (l : ℕ) (b : Board) : Type 0 where
+  -- L is within its limits
   pub limits : linesOutside l ≡ false
+  -- memory has 8×(L+1) words
   pub memory : Sized l (b .memory)
+  -- so has the cache
   pub cache : Sized l (b .cache)
+  -- the list has room for every cell
   pub entries : listWords l ≤ length (b .entries)
 
 -- ---- formatting
 
 -- The cell lines before `place` are zeros.
 pub record Zeroed (l place : ℕ) (row : List ℕ) : Type 0 where
+  -- the cells of those lines are zeros
   pub cells : (c : ℕ) → c < cells l → cellLine c < place → view row c ≡ record { value = 0; backup = 0; mark = 0 }
+  -- so are their words 6 and 7
   pub spare : (i k : ℕ) → 1 ≤ i → i < place → 6 ≤ k → k < 8 → getD row (lineStart i + k) 0 ≡ 0
 
 -- A format of `l` lines at its place.
 pub record FormatInv (l : ℕ) (b : Board) : Type 0 where
+  -- the record's L is the board's
   pub lines : b .state .lines ≡ l
+  -- its W is within the limits
   pub workers : workersOutside l (b .state .workers) ≡ false
+  -- no checkpoint is requested
   pub request : b .state .requested ≡ false
+  -- the place is at most L+1
   pub within : b .state .place ≤ l + 1
   -- once its first step is taken, memory says that there is no board here
   pub epoch : 0 < b .state .place → epochOf (b .memory) ≡ 0
+  -- lines before the place are zeros in memory
   pub memory : Zeroed l (b .state .place) (b .memory)
+  -- and in the cache
   pub cache : Zeroed l (b .state .place) (b .cache)
 
 -- The machine beside a format.
 pub record FormatMachine (r : Run) : Type 0 where
+  -- the machine's last start was a format's
   pub formatting : r .machine .formatting ≡ true
+  -- no request stands in it
   pub request : r .machine .requested ≡ false
+  -- it has counted the steps to the place
   pub steps : r .machine .steps ≡ r .board .state .place
+  -- once the first step is taken memory is erased
   pub erased : 0 < r .board .state .place → r .erased ≡ true
 
 -- ---- recovering
@@ -92,29 +114,46 @@ AtPlace WriteLine e x memory cache = cache .mark ≡ e → ⊥
 
 -- A recovery of a board of `l` lines; `xs` are the checkpointed values.
 pub record RecoveryInv (l : ℕ) (xs : ℕ → ℕ) (b : Board) : Type 0 where
+  -- the record's L is the board's
   pub lines : b .state .lines ≡ l
+  -- its W is within the limits
   pub workers : workersOutside l (b .state .workers) ≡ false
+  -- the list is empty
   pub listed : b .state .listed ≡ 0
+  -- no checkpoint is requested
   pub request : b .state .requested ≡ false
+  -- all workers are free
   pub free : b .state .worker ≡ allFree
+  -- the place is a cell's
   pub within : b .state .place < cells l
+  -- the cache has a good header
   pub header : Header l (b .cache)
+  -- cache and memory have one epoch
   pub epochs : epochOf (b .cache) ≡ epochOf (b .memory)
+  -- undoing the cache too gives the values
   pub undoes : Undoes l (epochOf (b .memory)) xs (b .cache)
+  -- words 6 and 7 are 0 in the cache
   pub spare : Spare l (b .cache)
-  -- cells passed are not logged in this epoch, in the cache or in memory
+  -- cells passed are not logged in this epoch in the cache
   pub passedCache : (c : ℕ) → c < b .state .place → view (b .cache) c .mark ≡ epochOf (b .memory) → ⊥
+  -- nor in memory
   pub passedMemory : (c : ℕ) → c < b .state .place → view (b .memory) c .mark ≡ epochOf (b .memory) → ⊥
   -- ahead, a cell logged in memory is logged in the cache
   pub ahead : (c : ℕ) → c < cells l → b .state .place < c → view (b .memory) c .mark ≡ epochOf (b .memory) → view (b .cache) c .mark ≡ epochOf (b .memory)
+  -- the cell at the place, by the step that is next
   pub here : AtPlace (b .state .undo) (epochOf (b .memory)) (xs (b .state .place)) (view (b .memory) (b .state .place)) (view (b .cache) (b .state .place))
 
 -- The machine beside a recovery.
 pub record RecoveryMachine (m : Machine) : Type 0 where
+  -- no request stands
   pub request : m .requested ≡ false
+  -- the last start was a recovery's
   pub formatting : m .formatting ≡ false
+  -- the current values are the checkpointed ones
   pub current : (c : ℕ) → m .current c ≡ m .checkpointed c
+  -- no cell is marked
   pub marked : (c : ℕ) → m .marked c ≡ false
+  -- no update is unfinished
   pub unfinished : (w : ℕ) → m .unfinished w ≡ none
 
 -- ---- running
@@ -157,6 +196,7 @@ SameRecords l b = (c : ℕ) → c < cells l → view (b .memory) c .value ≡ vi
 
 -- Before the epoch's store.
 pub record Early (l : ℕ) (b : Board) (m : Machine) : Type 0 where
+  -- cache and memory have one epoch
   pub epochs : epochOf (b .cache) ≡ epochOf (b .memory)
   -- a cell is marked in the machine where it is logged in this epoch
   pub marks : (c : ℕ) → c < cells l → m .marked c ≡ eqb (view (b .cache) c .mark) (epochOf (b .memory))
@@ -166,6 +206,7 @@ pub record Early (l : ℕ) (b : Board) (m : Machine) : Type 0 where
   pub listing : (c : ℕ) → c < cells l → view (b .cache) c .mark ≡ epochOf (b .memory) → (i : ℕ) × (i < b .state .listed) × (getD (b .entries) i 0 ≡ c)
   -- the list's cells before the checkpoint's place have their records in memory
   pub written : (i : ℕ) → i < progress (b .state) → view (b .memory) (getD (b .entries) i 0) .value ≡ view (b .cache) (getD (b .entries) i 0) .value
+  -- the place is at most the list's length
   pub within : progress (b .state) ≤ b .state .listed
   -- once the first step is taken all workers wait
   pub waiting : 0 < progress (b .state) → AllWait (b .state)
@@ -174,19 +215,30 @@ pub record Early (l : ℕ) (b : Board) (m : Machine) : Type 0 where
 
 -- Between the epoch's store in the cache and line 0's write-back.
 pub record Gap (l : ℕ) (b : Board) : Type 0 where
+  -- a request stands
   pub request : b .state .requested ≡ true
+  -- the place is line 0's write-back
   pub place : b .state .place ≡ b .state .listed + 1
+  -- the cache is one epoch ahead of memory
   pub epochs : epochOf (b .cache) ≡ epochOf (b .memory) + 1
+  -- every record is in memory
   pub same : SameRecords l b
+  -- all workers wait
   pub waiting : AllWait (b .state)
 
 -- From line 0's write-back to the release.
 pub record Late (l : ℕ) (b : Board) (m : Machine) : Type 0 where
+  -- a request stands
   pub request : b .state .requested ≡ true
+  -- the epoch's store is behind
   pub low : b .state .listed + 1 ≤ b .state .place
+  -- the release is not
   pub high : b .state .place ≤ b .state .listed + 2
+  -- cache and memory have one epoch
   pub epochs : epochOf (b .cache) ≡ epochOf (b .memory)
+  -- every record is in memory
   pub same : SameRecords l b
+  -- all workers wait
   pub waiting : AllWait (b .state)
   -- the checkpoint is complete
   pub complete : (c : ℕ) → c < cells l → m .checkpointed c ≡ m .current c
@@ -201,20 +253,31 @@ pub data Stage (l : ℕ) (b : Board) (m : Machine) : Type 0 where
 
 -- A running board of `l` lines beside the machine.
 pub record RunningInv (l : ℕ) (b : Board) (m : Machine) : Type 0 where
+  -- the record's L is the board's
   pub lines : b .state .lines ≡ l
+  -- its W is within the limits
   pub workers : workersOutside l (b .state .workers) ≡ false
+  -- record and machine agree whether a request stands
   pub request : m .requested ≡ b .state .requested
+  -- there are eight workers
   pub eight : length (b .state .worker) ≡ 8
+  -- the cache has a good header
   pub header : Header l (b .cache)
   -- the cache too gives the checkpointed values by memory's epoch, so a write-back of any line at any time does no harm
   pub undoes : Undoes l (epochOf (b .memory)) (m .checkpointed) (b .cache)
+  -- each record in the cache is the machine's current value
   pub current : (c : ℕ) → c < cells l → view (b .cache) c .value ≡ m .current c
+  -- words 6 and 7 are 0 in the cache
   pub spare : Spare l (b .cache)
   -- the list is as long as there are marked cells, and names cells
   pub count : b .state .listed ≡ markedCount m
+  -- the list names cells
   pub listed : (i : ℕ) → i < b .state .listed → getD (b .entries) i 0 < cells l
+  -- the machine has counted the steps to the place
   pub steps : b .state .requested ≡ true → m .steps ≡ b .state .place
+  -- the checkpoint's stage
   pub stage : Stage l b m
+  -- each worker's update is the machine's
   pub worker : (w : ℕ) → w < b .state .workers → WorkerInv l (b .cache) (conditionOf (b .state) w) (m .unfinished w)
   -- two unfinished updates have two cells
   pub apart : (w w′ d : ℕ) → w < b .state .workers → w′ < b .state .workers → Touches (conditionOf (b .state) w) d → Touches (conditionOf (b .state) w′) d → w ≡ w′
@@ -230,9 +293,13 @@ InPhase Running r = RunningInv (r .machine .lines) (r .board) (r .machine) × (r
 
 -- The invariant.
 pub record Inv (r : Run) : Type 0 where
+  -- the rows have their lengths
   pub sizes : Sizes (r .machine .lines) (r .board)
+  -- words 6 and 7 are 0 in memory
   pub spare : Spare (r .machine .lines) (r .board .memory)
   -- in every phase memory gives the checkpointed values, or no format has finished since one began to erase it
   pub kept : r .erased ≡ false → Kept (r .machine .lines) (r .machine .checkpointed) (r .board .memory)
+  -- a memory that is being erased says so
   pub lost : r .erased ≡ true → epochOf (r .board .memory) ≡ 0
+  -- what the phase adds, where no cut fell since the last taken start
   pub phase : r .crashed ≡ false → InPhase (r .board .state .phase) r

@@ -1,7 +1,7 @@
 // Why a call is turned down: one function for each test of document 01's cause table, and for each call the number of its first cause.
 mod calls;
 mod limits;
-mod order;
+pub mod order;
 mod phases;
 mod record;
 mod rows;
