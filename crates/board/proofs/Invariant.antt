@@ -174,13 +174,13 @@ BeforeStore Record e v = v .mark ≡ e
 abbrev pub WorkerInv : ℕ → List ℕ → Condition → Unfinished → Type 0
 WorkerInv l cache Free u = u ≡ none
 WorkerInv l cache Waiting u = u ≡ none
-WorkerInv l cache (Updating c v next) u = (u ≡ update c v (storesLeft next)) × (c < cells l) × BeforeStore next (epochOf cache) (view cache c)
+WorkerInv l cache (Updating next c v) u = (u ≡ update c v (storesLeft next)) × (c < cells l) × BeforeStore next (epochOf cache) (view cache c)
 
 -- The worker has an unfinished update of cell `d`.
 abbrev pub Touches : Condition → ℕ → Type 0
 Touches Free d = ⊥
 Touches Waiting d = ⊥
-Touches (Updating c v next) d = c ≡ d
+Touches (Updating next c v) d = c ≡ d
 
 -- The steps that a requested checkpoint has taken.
 abbrev pub progress : State → ℕ

@@ -65,7 +65,7 @@ worker-stores : (k : Condition) (w : ℕ) (s : State) (b : Board) → OneStore b
 unfolding advanceOf
 worker-stores Free w s b = noStore refl refl
 worker-stores Waiting w s b = noStore refl refl
-worker-stores (Updating c v n) w s b = advance-stores n w c v s b
+worker-stores (Updating n c v) w s b = advance-stores n w c v s b
 
 -- What any call but a format's step and a recovery's start does where it is taken.
 effect-stores : (k : Call) (b : Board) → several k (b .state .phase) ≡ false → OneStore b (effect k b)

@@ -135,7 +135,7 @@ firstStore row c = cond (logged row c) Record Backup
 
 -- "The start notes it."
 abbrev pub noted : ℕ → ℕ → ℕ → Board → Board
-noted w c v b = stated (conditioned (b .state) w (Updating c v (firstStore (b .cache) c)) (b .state .listed)) b
+noted w c v b = stated (conditioned (b .state) w (Updating (firstStore (b .cache) c) c v) (b .state .listed)) b
 
 -- "At the last store the worker becomes waiting if a checkpoint is requested by then" (a restart point's), "else free".
 abbrev pub afterLast : State → ℕ → Condition
@@ -143,16 +143,16 @@ afterLast s c = cond (ltb c (s .workers) && s .requested) Waiting Free
 
 -- "backup := record; mark := epoch, and the cell is added to the list; record := value".
 unfoldable pub advance : Store → ℕ → ℕ → ℕ → State → Board → Board
-advance Backup w c v s b = cached (backedUp (b .cache) c) (conditioned s w (Updating c v Mark) (s .listed)) b
+advance Backup w c v s b = cached (backedUp (b .cache) c) (conditioned s w (Updating Mark c v) (s .listed)) b
 advance Mark w c v s b =
-    record { state = conditioned s w (Updating c v Record) (s .listed + 1); memory = b .memory; cache = markedNow (b .cache) c; entries = set (b .entries) (s .listed) c }
+    record { state = conditioned s w (Updating Record c v) (s .listed + 1); memory = b .memory; cache = markedNow (b .cache) c; entries = set (b .entries) (s .listed) c }
 advance Record w c v s b = cached (recorded (b .cache) c v) (conditioned s w (afterLast s c) (s .listed)) b
 
 -- An advance of a worker, by its condition; of one free or waiting there is none.
 unfoldable pub advanceOf : Condition → ℕ → State → Board → Board
 advanceOf Free w s b = b
 advanceOf Waiting w s b = b
-advanceOf (Updating c v next) w s b = advance next w c v s b
+advanceOf (Updating next c v) w s b = advance next w c v s b
 
 -- ---- every call
 

@@ -33,25 +33,25 @@ conditionOf s w = getD (s .worker) w freeWorker .condition
 abbrev pub isFree : Condition → Bool
 isFree Free = true
 isFree Waiting = false
-isFree (Updating c v next) = false
+isFree (Updating next c v) = false
 
 -- "waiting".
 abbrev pub isWaiting : Condition → Bool
 isWaiting Free = false
 isWaiting Waiting = true
-isWaiting (Updating c v next) = false
+isWaiting (Updating next c v) = false
 
 -- "or in the middle of an update".
 abbrev pub isUpdating : Condition → Bool
 isUpdating Free = false
 isUpdating Waiting = false
-isUpdating (Updating c v next) = true
+isUpdating (Updating next c v) = true
 
 -- The worker has an unfinished update whose cell passes the test.
 abbrev pub updates : (ℕ → Bool) → Condition → Bool
 updates test Free = false
 updates test Waiting = false
-updates test (Updating c v next) = test c
+updates test (Updating next c v) = test c
 
 -- The next store of an update is the mark's.
 abbrev pub isMarkStore : Store → Bool
@@ -63,7 +63,7 @@ isMarkStore Record = false
 abbrev pub mustList : Condition → Bool
 mustList Free = false
 mustList Waiting = false
-mustList (Updating c v next) = isMarkStore next
+mustList (Updating next c v) = isMarkStore next
 
 -- Some number below `n` passes the test.
 unfoldable pub anyUnder : ℕ → (ℕ → Bool) → Bool

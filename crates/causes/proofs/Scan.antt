@@ -5,13 +5,13 @@ use mathlib.Core.Bool.{Bool, false, not, _&&_, _||_}
 use native.Mathlib.Omega.{arith}
 use native.Mathlib.Decide.{decLe}
 use lib.Dec.{leb, ltb, eqb}
-use borrow.Author.Tests.{le-ltb}
+use borrow.Author.Tests.{le-ltb, lt-ltb}
 use Rattle.board.specs.declared.State.{State}
 use Rattle.board.specs.State.{anyUnder, conditionOf, isWaiting, updates}
 use Rattle.board.proofs.Laws.Bools.{and-off, or-none}
 use Rattle.causes.specs.declared.workers.Sought.{Sought}
 use Rattle.causes.specs.declared.workers.Sought.the-variants.{CellFrom, NotWaiting, UpdateOf}
-use Rattle.causes.specs.Sought.{soughtAt}
+use Rattle.causes.specs.Sought.{soughtIn, soughtAt}
 
 -- A test and one that fails.
 or-off : (a b : Bool) → b ≡ false → a || b ≡ a
@@ -34,6 +34,12 @@ past-workers s (CellFrom cells) j h = and-off (ltb j (s .workers)) (updates (leb
 past-workers s NotWaiting j h = and-off (ltb j (s .workers)) (not (isWaiting (conditionOf s j))) (le-ltb j (s .workers) h)
 past-workers s (UpdateOf cell except) j h =
     and-off (ltb j (s .workers) && not (eqb j except)) (updates (eqb cell) (conditionOf s j)) (and-off (ltb j (s .workers)) (not (eqb j except)) (le-ltb j (s .workers) h))
+
+-- For a worker under W it is told by its condition.
+pub sought-under : (s : State) (sought : Sought) (i : ℕ) → i < s .workers → soughtAt s sought i ≡ soughtIn sought i (conditionOf s i)
+sought-under s (CellFrom cells) i h = rw (lt-ltb i (s .workers) h)
+sought-under s NotWaiting i h = rw (lt-ltb i (s .workers) h)
+sought-under s (UpdateOf cell except) i h = rw (lt-ltb i (s .workers) h)
 
 -- The scan up to W, or eight, is the scan of all eight.
 pub scan-end : (s : State) (sought : Sought) (i : ℕ) → i ≡ min (s .workers) 8 → anyUnder 8 (soughtAt s sought) ≡ anyUnder i (soughtAt s sought)

@@ -3,9 +3,16 @@ use Prim.Native.Nat.{ℕ}
 use mathlib.Core.Bool.{Bool, not, _&&_}
 use lib.Dec.{leb, ltb, eqb}
 use Rattle.board.specs.declared.State.{State}
+use Rattle.board.specs.declared.Condition.{Condition}
 use Rattle.board.specs.State.{conditionOf, isWaiting, updates}
 use Rattle.causes.specs.declared.workers.Sought.{Sought}
 use Rattle.causes.specs.declared.workers.Sought.the-variants.{CellFrom, NotWaiting, UpdateOf}
+
+-- Worker `i`, in this condition, is what is sought.
+abbrev pub soughtIn : Sought → ℕ → Condition → Bool
+soughtIn (CellFrom cells) i condition = updates (leb cells) condition
+soughtIn NotWaiting i condition = not (isWaiting condition)
+soughtIn (UpdateOf cell except) i condition = not (eqb i except) && updates (eqb cell) condition
 
 -- Worker `i` is under W and is what is sought.
 abbrev pub soughtAt : State → Sought → ℕ → Bool

@@ -17,3 +17,4 @@ pub use calls::of_step;
 pub use calls::of_update;
 pub use calls::of_write_back;
 pub use order::TAKEN;
+pub use workers::condition_of;

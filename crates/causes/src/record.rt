@@ -111,5 +111,9 @@ pub fn not_ready(state: State) -> bool
     ensures { λ r. ⌜ r ≡ notReady state ⌝ }
 {
     let phase = state.phase;
-    phases::is_running(phase) & (!state.requested | workers::any_worker(state, Sought::NotWaiting))
+    if phases::is_running(phase) {
+        !state.requested | workers::any_worker(state, Sought::NotWaiting)
+    } else {
+        false
+    }
 }

@@ -2,11 +2,12 @@
 use board::Condition;
 use board::State;
 use board::Store;
+use board::Worker;
 ghost use Prim.Native.Nat.{min};
 ghost use mathlib.Core.Path.{_≡_};
 ghost use lib.Dec.{leb, eqb};
 ghost use Rattle.board.specs.State.{conditionOf, isFree, isWaiting, isUpdating, isMarkStore, mustList, updates, anyUnder};
-ghost use Rattle.causes.specs.Sought.{soughtAt};
+ghost use Rattle.causes.specs.Sought.{soughtIn, soughtAt};
 
 // What a scan looks for in a worker under W.
 pub enum Sought {
@@ -17,16 +18,28 @@ pub enum Sought {
     UpdateOf { cell: u64, except: u64 },
 }
 
-// The condition of a worker; a number past the eight has none, and counts as free.
+fn condition_in(worker: Worker) -> Condition
+    ensures { λ r. ⌜ r ≡ worker .condition ⌝ }
+{
+    let condition = worker.condition;
+    board::rebuilt(condition)
+}
+
+// The condition of a worker; a number past the eight has none, and counts as free. Each index is a constant, so
+// that the compiler may keep the eight apart (docs/BENCH.md).
 pub fn condition_of(state: State, worker: u64) -> Condition
     ensures { λ r. ⌜ r ≡ conditionOf state worker ⌝ }
 {
-    if worker < 8 {
-        let at = worker as usize;
-        let w = state.worker[at];
-        w.condition
-    } else {
-        Condition::Free
+    match worker {
+        0 => condition_in(state.worker[0]),
+        1 => condition_in(state.worker[1]),
+        2 => condition_in(state.worker[2]),
+        3 => condition_in(state.worker[3]),
+        4 => condition_in(state.worker[4]),
+        5 => condition_in(state.worker[5]),
+        6 => condition_in(state.worker[6]),
+        7 => condition_in(state.worker[7]),
+        _ => Condition::Free,
     }
 }
 
@@ -127,16 +140,14 @@ fn updates_cell(condition: Condition, sought: u64) -> bool
     }
 }
 
-// Worker `i` is under W and is what is sought.
-fn is_sought(state: State, sought: Sought, i: u64) -> bool
-    ensures { λ r. ⌜ r ≡ soughtAt state sought i ⌝ }
+// Worker `i`, in this condition, is what is sought.
+fn is_sought(condition: Condition, sought: Sought, i: u64) -> bool
+    ensures { λ r. ⌜ r ≡ soughtIn sought i condition ⌝ }
 {
-    let condition = condition_of(state, i);
-    let under = i < state.workers as u64;
     match sought {
-        Sought::CellFrom(cells) => under & updates_from(condition, cells),
-        Sought::NotWaiting => under & !is_waiting(condition),
-        Sought::UpdateOf { cell, except } => under & !(i == except) & updates_cell(condition, cell),
+        Sought::CellFrom(cells) => updates_from(condition, cells),
+        Sought::NotWaiting => !is_waiting(condition),
+        Sought::UpdateOf { cell, except } => !(i == except) & updates_cell(condition, cell),
     }
 }
 
@@ -155,7 +166,10 @@ pub fn any_worker(state: State, sought: Sought) -> bool
     let mut found = false;
     let mut i: u64 = 0;
     while i < end {
-        found = found | is_sought(state, sought, i);
+        let at = i as usize;
+        let worker = state.worker[at];
+        let condition = worker.condition;
+        found = found | is_sought(condition, sought, i);
         i += 1;
     }
     found

@@ -96,16 +96,16 @@ undo-told s b p e = e ∙ ap (λ (x : UndoStep). recoveryStep x s b) (sym p)
 
 module _ (s : State) {s′ : State} (m c es : List ℕ) (w cell v : ℕ) where
   -- "The start notes it."
-  pub notes : {next : Store} → next ≡ firstStore c cell → s′ ≡ conditioned s w (Updating cell v next) (s .listed) → lent s′ m c es ≡ noted w cell v (lent s m c es)
-  notes p q = same-board (q ∙ ap (λ (x : Store). conditioned s w (Updating cell v x) (s .listed)) p) refl refl refl
+  pub notes : {next : Store} → next ≡ firstStore c cell → s′ ≡ conditioned s w (Updating next cell v) (s .listed) → lent s′ m c es ≡ noted w cell v (lent s m c es)
+  notes p q = same-board (q ∙ ap (λ (x : Store). conditioned s w (Updating x cell v) (s .listed)) p) refl refl refl
 
   -- "backup := record".
-  pub backs-up : {c′ : List ℕ} {old : ℕ} → old ≡ fieldOf c cell Field.Record → c′ ≡ withField c cell Field.Backup old → s′ ≡ conditioned s w (Updating cell v Mark) (s .listed) → lent s′ m c′ es ≡ advance Backup w cell v s (lent s m c es)
+  pub backs-up : {c′ : List ℕ} {old : ℕ} → old ≡ fieldOf c cell Field.Record → c′ ≡ withField c cell Field.Backup old → s′ ≡ conditioned s w (Updating Mark cell v) (s .listed) → lent s′ m c′ es ≡ advance Backup w cell v s (lent s m c es)
   unfolding advance
   backs-up f p q = same-board q refl (p ∙ ap (withField c cell Field.Backup) f) refl
 
   -- "mark := epoch, and the cell is added to the list".
-  pub marks : {c′ : List ℕ} {epoch : ℕ} {es′ : List ℕ} → epoch ≡ epochOf c → c′ ≡ withField c cell Field.Mark epoch → es′ ≡ set es (s .listed) cell → s′ ≡ conditioned s w (Updating cell v Record) (s .listed + 1) → lent s′ m c′ es′ ≡ advance Mark w cell v s (lent s m c es)
+  pub marks : {c′ : List ℕ} {epoch : ℕ} {es′ : List ℕ} → epoch ≡ epochOf c → c′ ≡ withField c cell Field.Mark epoch → es′ ≡ set es (s .listed) cell → s′ ≡ conditioned s w (Updating Record cell v) (s .listed + 1) → lent s′ m c′ es′ ≡ advance Mark w cell v s (lent s m c es)
   unfolding advance
   marks f p q r = same-board r refl (p ∙ ap (withField c cell Field.Mark) f) q
 

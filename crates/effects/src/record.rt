@@ -84,13 +84,24 @@ pub fn released(state: State) -> State
     started(phase, state.lines, state.workers)
 }
 
-// A worker in another condition, and the list's length put anew.
+// A worker in another condition, and the list's length put anew. Each index is a constant, as in the causes' reading.
 pub fn conditioned(state: State, worker: usize, condition: Condition, listed: u16) -> State
     requires { ⌜ worker < 8 ⌝ }
     ensures { λ r. ⌜ r ≡ conditioned state worker condition listed ⌝ }
 {
     let mut next = state;
+    let condition = board::rebuilt(condition);
+    let put = Worker { condition };
     next.listed = listed;
-    next.worker[worker] = Worker { condition };
+    match worker {
+        0 => next.worker[0] = put,
+        1 => next.worker[1] = put,
+        2 => next.worker[2] = put,
+        3 => next.worker[3] = put,
+        4 => next.worker[4] = put,
+        5 => next.worker[5] = put,
+        6 => next.worker[6] = put,
+        _ => next.worker[7] = put,
+    }
     next
 }

@@ -182,22 +182,18 @@ module _ (w : ℕ) (b : Board) (t : Taken (Advance w) b) where
   unfolding standsAt causes
   advance-under = leb-false (b .state .workers) w (passed (Advance w) b t 6)
 
-  -- The worker is one of the eight.
-  pub advance-worker : w < 8
-  advance-worker = omega (arith, advance-sound .workers, advance-under)
-
   -- Where the list is full the next store is not the mark's.
-  advance-room : {c v : ℕ} {next : Store} → conditionOf (b .state) w ≡ Updating c v next → next ≡ Mark → b .state .listed < cells (b .state .lines)
+  advance-room : {c v : ℕ} {next : Store} → conditionOf (b .state) w ≡ Updating next c v → next ≡ Mark → b .state .listed < cells (b .state .lines)
   unfolding standsAt causes
   advance-room {c} {v} e m =
       let s = b .state in
       let full = or-right (badRecord s) (listFull s w) (passed (Advance w) b t 3) in
-      let lists : mustList (conditionOf s w) ≡ true = ap mustList (e ∙ ap (Updating c v) m) in
+      let lists : mustList (conditionOf s w) ≡ true = ap mustList (e ∙ ap (λ (x : Store). Updating x c v) m) in
       let adds = and-both (ltb w (s .workers)) (mustList (conditionOf s w)) (lt-ltb w (s .workers) advance-under) lists in
       let room = eqb-false (s .listed) (cells (s .lines)) (and-not (ltb w (s .workers) && mustList (conditionOf s w)) (eqb (s .listed) (cells (s .lines))) full adds) in
       omega (arith, advance-sound .listed)
 
-  pub advance-advances : {c v : ℕ} {next : Store} → conditionOf (b .state) w ≡ Updating c v next → Advances (b .state) (b .cache) (b .entries) w c next
+  pub advance-advances : {c v : ℕ} {next : Store} → conditionOf (b .state) w ≡ Updating next c v → Advances (b .state) (b .cache) (b .entries) w c next
   unfolding standsAt causes
   advance-advances {c} {v} {next} e =
       let s = b .state in

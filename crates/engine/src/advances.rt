@@ -19,17 +19,15 @@ pub fn taken_advance(
     requires { ⌜ Taken (Advance worker) (lent state (now memory) (now cache) (now entries)) ⌝ }
     ensures { λ r. ⌜ lent r (now (memory .entry)) (now (cache .exit)) (now (entries .exit)) ≡ effect (Advance worker) (lent state (now (memory .entry)) (now (cache .entry)) (now (entries .entry))) ⌝ }
 {
-    let at = worker as usize;
-    let w = state.worker[at];
-    let condition = w.condition;
+    let condition = causes::condition_of(state, worker);
     match condition {
         Condition::Free => state,
         Condition::Waiting => state,
-        Condition::Updating { cell, value, next } => store_next(
+        Condition::Updating { next, cell, value } => store_next(
             state,
             cache,
             entries,
-            at,
+            worker as usize,
             cell,
             value,
             next,

@@ -51,9 +51,9 @@ advance-memory : (k : Condition) (w : ℕ) (s : State) (b : Board) → advanceOf
 unfolding advanceOf advance
 advance-memory Free w s b = refl
 advance-memory Waiting w s b = refl
-advance-memory (Updating c v Backup) w s b = refl
-advance-memory (Updating c v Mark) w s b = refl
-advance-memory (Updating c v Record) w s b = refl
+advance-memory (Updating Backup c v) w s b = refl
+advance-memory (Updating Mark c v) w s b = refl
+advance-memory (Updating Record c v) w s b = refl
 
 -- A store fewer leaves the checkpointed values.
 fewer-values : (left w d v : ℕ) (m : Machine) (c : ℕ) → fewer left w d v m .checkpointed c ≡ m .checkpointed c

@@ -51,7 +51,7 @@ record Ready (l : ℕ) (b : Board) : Type 0 where
 waiting-updates : (test : ℕ → Bool) (d : Condition) → isWaiting d ≡ true → updates test d ≡ false
 waiting-updates test Free w = refl
 waiting-updates test Waiting w = refl
-waiting-updates test (Updating c v next) w = absurd (false≢true w)
+waiting-updates test (Updating next c v) w = absurd (false≢true w)
 
 -- A board that is ready takes the step.
 ready-taken : {l : ℕ} (b : Board) → Ready l b → Taken Step b

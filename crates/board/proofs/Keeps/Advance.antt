@@ -52,7 +52,7 @@ module _ {e x y : ℕ} {t : Bool} {memory v : View} (inv : CellInv e x y t memor
 -- Worker `w` is about to do the store `next` of its update.
 record Turn (r : Run) (w c v : ℕ) (next : Store) : Type 0 where
   now : Ready r w
-  here : conditionOf (r .board .state) w ≡ Updating c v next
+  here : conditionOf (r .board .state) w ≡ Updating next c v
   cell : c < cells (r .machine .lines)
   before : BeforeStore next (epochOf (r .board .memory)) (view (r .board .cache) c)
 
@@ -68,7 +68,7 @@ module _ (r : Run) (w c v : ℕ) (next : Store) (inv : Inv r) (turn : Turn r w c
   view-after = view-store (r .board .cache) c x (inv .sizes .cache) (turn .cell) f
 
   -- The worker is about to do the store after this one.
-  worker-after : (then : Store) → BeforeStore then (epochOf (r .board .memory)) (put f x (view (r .board .cache) c)) → WorkerInv (r .machine .lines) (withField (r .board .cache) c f x) (Updating c v then) (update c v (storesLeft then))
+  worker-after : (then : Store) → BeforeStore then (epochOf (r .board .memory)) (put f x (view (r .board .cache) c)) → WorkerInv (r .machine .lines) (withField (r .board .cache) c f x) (Updating then c v) (update c v (storesLeft then))
   worker-after then before =
       let epoch : epochOf (r .board .memory) ≡ epochOf (withField (r .board .cache) c f x) = sym (epoch-store (r .board .cache) c f x ∙ turn .now .stage .epochs) in
       (refl, turn .cell, subst₂ (BeforeStore then) epoch (sym view-after) before)
@@ -114,7 +114,7 @@ keeps-store r w c v Backup crashed inv turn =
     let b = r .board in
     let m = r .machine in
     let old = fieldOf (b .cache) c Field.Record in
-    store r w c v Backup inv turn Field.Backup old (Updating c v Mark) (b .state .listed) (b .entries) (m .current) (m .marked) (update c v 2) crashed (λ d o. refl) (λ d o. refl)
+    store r w c v Backup inv turn Field.Backup old (Updating Mark c v) (b .state .listed) (b .entries) (m .current) (m .marked) (update c v 2) crashed (λ d o. refl) (λ d o. refl)
     (cell-backed (cell-inv (turn .now .run) (turn .now .stage) c (turn .cell)) old (turn .before))
     (list-inv (turn .now .run) (turn .now .stage)) refl
     (worker-after r w c v Backup inv turn Field.Backup old Mark (turn .before, view-value (b .cache) c)) (λ d t. t)
@@ -124,7 +124,7 @@ keeps-store r w c v Mark crashed inv turn =
     let ear = turn .now .stage in
     let e = epochOf (b .cache) in
     let unmarked : m .marked c ≡ false = ear .marks c (turn .cell) ∙ ne-eqb _ _ (turn .before .0) in
-    store r w c v Mark inv turn Field.Mark e (Updating c v Record) (b .state .listed + 1) (set (b .entries) (b .state .listed) c) (m .current) (changed (m .marked) c true) (update c v 1) crashed (λ d o. refl)
+    store r w c v Mark inv turn Field.Mark e (Updating Record c v) (b .state .listed + 1) (set (b .entries) (b .state .listed) c) (m .current) (changed (m .marked) c true) (update c v 1) crashed (λ d o. refl)
     (changed-other (m .marked) c true)
     (cell-marked (cell-inv (turn .now .run) ear c (turn .cell)) e (ear .epochs) (turn .before .0) (turn .before .1) (changed-at (m .marked) c true))
     (list-more c (turn .cell) (inv .sizes .entries) unmarked (list-inv (turn .now .run) ear)) (length-set (b .entries) (b .state .listed) c)
@@ -158,7 +158,7 @@ keeps-advance r w inv crashed t = go (conditionOf s w) refl (pass 8) (now .run .
     go : (k : Condition) → conditionOf s w ≡ k → not (isUpdating k) ≡ false → WorkerInv (r .machine .lines) (r .board .cache) k (r .machine .unfinished w) → Inv (afterTaken (Advance w) r)
     go Free e busy worker = absurd (true≢false busy)
     go Waiting e busy worker = absurd (true≢false busy)
-    go (Updating c v next) e busy worker =
+    go (Updating next c v) e busy worker =
         subst₂ (λ (k : Condition) (u : Unfinished). Inv (record { board = advanceOf k w s (r .board); machine = advanced u w (r .machine); crashed = r .crashed && true; erased = r .erased }))
         (sym e) (sym (worker .0))
         (keeps-store r w c v next (r .crashed && true) inv

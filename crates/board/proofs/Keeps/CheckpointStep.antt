@@ -37,7 +37,7 @@ use Rattle.board.proofs.Checkpoint.Acts.{act-line, act-epoch, act-heade
 waiting-worker : (l : ℕ) (cache cache′ : List ℕ) (d : Condition) (u : Unfinished) → isWaiting d ≡ true → WorkerInv l cache d u → (u ≡ none) × WorkerInv l cache′ d u
 waiting-worker l cache cache′ Free u w p = absurd (false≢true w)
 waiting-worker l cache cache′ Waiting u w p = (p, p)
-waiting-worker l cache cache′ (Updating c v next) u w p = absurd (false≢true w)
+waiting-worker l cache cache′ (Updating next c v) u w p = absurd (false≢true w)
 
 -- ---- the epoch's store
 

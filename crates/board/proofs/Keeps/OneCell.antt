@@ -165,7 +165,7 @@ pub record Ready (r : Run) (w : ℕ) : Type 0 where
 not-waiting : (test : Condition → Bool) → test Waiting ≡ false → (k : Condition) → not (test k) ≡ false → isWaiting k ≡ false
 not-waiting test off Free e = refl
 not-waiting test off Waiting e = absurd (clash (not-off (test Waiting) e) off)
-not-waiting test off (Updating c v next) e = refl
+not-waiting test off (Updating next c v) e = refl
 
 -- A taken call that asks for a running board and for a worker in a condition other than waiting: no step of a checkpoint was taken.
 pub ready : (r : Run) (w : ℕ) (test : Condition → Bool) → test Waiting ≡ false → Inv r → r .crashed ≡ false → notRunning (r .board) ≡ false → noWorker (r .board .state) w ≡ false → not (test (conditionOf (r .board .state) w)) ≡ false → Ready r w
@@ -212,7 +212,7 @@ condition-other s w condition listed u o =
 worker-other : (l : ℕ) {c : ℕ} {cache cache′ : List ℕ} → OnlyCell c cache cache′ → (k : Condition) (u : Unfinished) → (Touches k c → ⊥) → WorkerInv l cache k u → WorkerInv l cache′ k u
 worker-other l only Free u o inv = inv
 worker-other l only Waiting u o inv = inv
-worker-other l only (Updating d v next) u o inv =
+worker-other l only (Updating next d v) u o inv =
     (inv .0, inv .1, subst₂ (λ (e : ℕ) (x : View). BeforeStore next e x) (sym (only .header 0 (omega arith))) (sym (only .others d (λ e. o (sym e)))) (inv .2))
 
 -- ---- the lemma

@@ -29,7 +29,7 @@ use Rattle.board.proofs.Keeps.OneCell.{cell-inv, list-inv, only-none, C
 touch-seen : (k : Condition) (c : ℕ) → Touches k c → updates (eqb c) k ≡ true
 touch-seen Free c t = absurd t
 touch-seen Waiting c t = absurd t
-touch-seen (Updating d v next) c t = eq-eqb c d (sym t)
+touch-seen (Updating next d v) c t = eq-eqb c d (sym t)
 
 -- No other worker has an unfinished update of the cell.
 alone : (s : State) (w c : ℕ) → s .workers ≤ 8 → othersUpdate s w c ≡ false → (u : ℕ) → u < s .workers → (w ≡ u → ⊥) → Touches (conditionOf s u) c → ⊥
@@ -47,7 +47,7 @@ first-store true e v c x p = (refl, eqb-true (v .mark) e (sym p))
 first-store false e v c x p = (refl, eqb-false (v .mark) e (sym p))
 
 -- The worker after the start.
-started-worker : (l c v : ℕ) (cache : List ℕ) (marked : Bool) → c < cells l → marked ≡ logged cache c → WorkerInv l cache (Updating c v (firstStore cache c)) (update c v (cond marked 1 3))
+started-worker : (l c v : ℕ) (cache : List ℕ) (marked : Bool) → c < cells l → marked ≡ logged cache c → WorkerInv l cache (Updating (firstStore cache c) c v) (update c v (cond marked 1 3))
 started-worker l c v cache marked h e =
     let first = first-store (logged cache c) (epochOf cache) (view cache c) c v (ap (λ (k : ℕ). eqb k (epochOf cache)) (view-mark cache c)) in
     (ap (λ (t : Bool). update c v (cond t 1 3)) e ∙ first .0, h, first .1)
@@ -55,7 +55,7 @@ started-worker l c v cache marked h e =
 -- What the start of an update of cell `c` leaves.
 abbrev starting : ℕ → ℕ → ℕ → Board → Machine → Change
 starting w c v b m =
-    record { worker = w; cell = c; condition = Updating c v (firstStore (b .cache) c); listed = b .state .listed; cache = b .cache; entries = b .entries; current = m .current; marked = m .marked; unfinished = update c v (cond (m .marked c) 1 3) }
+    record { worker = w; cell = c; condition = Updating (firstStore (b .cache) c) c v; listed = b .state .listed; cache = b .cache; entries = b .entries; current = m .current; marked = m .marked; unfinished = update c v (cond (m .marked c) 1 3) }
 
 -- The start of an update of a cell that no other worker updates.
 start : (r : Run) (w c v : ℕ) (crashed : Bool) → Inv r → Ready r w → c < cells (r .machine .lines) → othersUpdate (r .board .state) w c ≡ false → Inv (changedRun (starting w c v (r .board) (r .machine)) crashed r)

@@ -39,7 +39,7 @@ place-in l b m (late k) q = k .high
 cell-fine : (l : ℕ) (b : Board) (k : Condition) (u : Unfinished) → WorkerInv l (b .cache) k u → updates (leb (cells l)) k ≡ false
 cell-fine l b Free u i = refl
 cell-fine l b Waiting u i = refl
-cell-fine l b (Updating c v next) u i = lt-leb (cells l) c (i .1)
+cell-fine l b (Updating next c v) u i = lt-leb (cells l) c (i .1)
 
 -- The state record of a running board passes its test.
 pub running-record : (l : ℕ) (b : Board) (m : Machine) → linesOutside l ≡ false → b .state .phase ≡ Running → RunningInv l b m → m .lines ≡ l → badRecord (b .state) ≡ false
