@@ -2,35 +2,61 @@
 
 use crate::board::{Phase, Rows, State};
 use crate::call::{perform, Answer, Call};
-use crate::line::{cells, mark_at, row_words};
+use crate::line::{cells, line_of, mark_at, row_words, sizes_allowed};
 
-/// What is done in each round.
+/// What one round is.
 #[derive(Clone, Copy, PartialEq, Eq, Debug)]
-pub enum Workload {
-    /// an update of an unmarked cell: its start and three advances
+pub enum Round {
+    /// a format's start and its L + 2 steps
+    Format,
+    /// the data cells below n updated in rising order, each to its own number: a start and three advances each
+    Fill,
+    /// a request, then a restart point of each worker, after which it waits
+    Wait,
+    /// an update of an unmarked cell: a start and three advances; the host then takes the mark and the entry back
     Update,
-    /// an update of a marked cell: its start and one advance
+    /// an update of a marked cell: a start and one advance
     Again,
-    /// the steps of a checkpoint of n cells
+    /// a checkpoint's n + 3 steps; the host then puts the state record back
     Checkpoint,
-    /// a recovery's start and its steps
+    /// a recovery's start and its 2L steps, with no cell to undo
     Recovery,
-    /// a line written back
+    /// a write-back of the line of a random cell
     WriteBack,
+    /// a read of every cell
+    Reads,
 }
 
-impl Workload {
-    /// By its name on the command line.
-    pub fn named(name: &str) -> Option<Workload> {
+impl Round {
+    /// The rounds that are measured, by their name on the command line.
+    pub fn named(name: &str) -> Option<Round> {
         Some(match name {
-            "update" => Workload::Update,
-            "again" => Workload::Again,
-            "checkpoint" => Workload::Checkpoint,
-            "recovery" => Workload::Recovery,
-            "write-back" => Workload::WriteBack,
+            "update" => Round::Update,
+            "again" => Round::Again,
+            "checkpoint" => Round::Checkpoint,
+            "recovery" => Round::Recovery,
+            "write-back" => Round::WriteBack,
             _ => return None,
         })
     }
+}
+
+/// A board's L and W, the cell n that a fill stops before (n cells are then listed for a checkpoint), the worker that
+/// updates, and the seed.
+#[derive(Clone, Copy)]
+struct Plan {
+    lines: u64,
+    workers: u64,
+    n: u64,
+    worker: u64,
+    seed: u64,
+}
+
+/// A random number, and the data cell that it picks.
+#[derive(Clone, Copy)]
+struct Drawn {
+    random: u64,
+    cell: u64,
 }
 
 /// The next number of a xorshift sequence.
@@ -38,6 +64,72 @@ fn next(seed: u64) -> u64 {
     let a = seed ^ (seed << 13);
     let b = a ^ (a >> 7);
     b ^ (b << 17)
+}
+
+/// The draw after the random number `last`.
+fn draw(plan: Plan, last: u64) -> Drawn {
+    let random = next(last);
+    Drawn { random, cell: plan.workers + random % (cells(plan.lines) - plan.workers) }
+}
+
+/// How many calls a round has.
+fn calls_in(round: Round, plan: Plan) -> u64 {
+    match round {
+        Round::Format => 1 + plan.lines + 2,
+        Round::Fill => 4 * (plan.n - plan.workers),
+        Round::Wait => 1 + 4 * plan.workers,
+        Round::Update => 4,
+        Round::Again => 2,
+        Round::Checkpoint => plan.n + 3,
+        Round::Recovery => 1 + cells(plan.lines),
+        Round::WriteBack => 1,
+        Round::Reads => cells(plan.lines),
+    }
+}
+
+/// Call number `k` of an update: its start, and advances.
+fn update_call(worker: u64, k: u64, cell: u64, value: u64) -> Call {
+    if k == 0 {
+        Call::Update { worker, cell, value }
+    } else {
+        Call::Advance { worker }
+    }
+}
+
+/// Call number `k` of a wait: the request, and four calls of each worker in turn.
+fn wait_call(k: u64) -> Call {
+    if k == 0 {
+        return Call::Request;
+    }
+    let worker = (k - 1) / 4;
+    if (k - 1).is_multiple_of(4) {
+        Call::RestartPoint { worker, value: 3 }
+    } else {
+        Call::Advance { worker }
+    }
+}
+
+/// A start before the first step, and then steps.
+fn step_call(k: u64, start: Call) -> Call {
+    if k == 0 {
+        start
+    } else {
+        Call::Step
+    }
+}
+
+/// Call number `k` of a round.
+fn call_at(round: Round, plan: Plan, k: u64, drawn: Drawn) -> Call {
+    match round {
+        Round::Format => step_call(k, Call::Format { lines: plan.lines, workers: plan.workers }),
+        Round::Fill => update_call(plan.worker, k % 4, plan.workers + k / 4, plan.workers + k / 4),
+        Round::Wait => wait_call(k),
+        Round::Update | Round::Again => update_call(plan.worker, k, drawn.cell, drawn.random),
+        Round::Checkpoint => Call::Step,
+        Round::Recovery => step_call(k, Call::Recovery),
+        Round::WriteBack => Call::WriteBack { line: line_of(drawn.cell as usize) as u64 },
+        Round::Reads => Call::Read { cell: k },
+    }
 }
 
 /// A board without a mistake's switch, so that nothing but the calls is measured.
@@ -49,6 +141,13 @@ struct Board {
 }
 
 impl Board {
+    /// A board that is off, with rows of that size.
+    fn off(lines: u64) -> Board {
+        let words = row_words(lines) as usize;
+        let state = State::started(Phase::Off, 0, 0);
+        Board { state, memory: vec![0; words], cache: vec![0; words], list: vec![0; cells(lines) as usize] }
+    }
+
     /// One call.
     #[inline]
     fn perform(&mut self, call: &Call) -> Answer {
@@ -57,131 +156,64 @@ impl Board {
     }
 }
 
-/// A board as the format (L, 1) leaves it.
-fn formatted(lines: u64) -> Board {
-    let words = row_words(lines) as usize;
-    let state = State::started(Phase::Off, 0, 0);
-    let mut board =
-        Board { state, memory: vec![0; words], cache: vec![0; words], list: vec![0; cells(lines) as usize] };
-    board.perform(&Call::Format { lines, workers: 1 });
-    for _ in 0..lines + 2 {
-        board.perform(&Call::Step);
-    }
-    board
-}
-
-/// One update from its start to its last store; the sum of the answers.
-fn update(board: &mut Board, cell: u64, value: u64, advances: u64) -> u64 {
-    let mut sum = u64::from(board.perform(&Call::Update { worker: 0, cell, value }).number);
-    for _ in 0..advances {
-        sum += u64::from(board.perform(&Call::Advance { worker: 0 }).number);
+/// Plays rounds on a board and sums their answers. This is the one loop, and it has the one call of `perform`, as in the
+/// proved program.
+fn play(round: Round, plan: Plan, rounds: u64, board: &mut Board) -> u64 {
+    let calls = calls_in(round, plan);
+    let mut left = rounds * calls;
+    let mut drawn = draw(plan, plan.seed);
+    let from = board.state;
+    let mut sum = 0u64;
+    let mut k = 0;
+    while left > 0 {
+        let answer = board.perform(&call_at(round, plan, k, drawn));
+        sum = sum.wrapping_add(u64::from(answer.number)).wrapping_add(answer.value);
+        left -= 1;
+        k += 1;
+        if k == calls {
+            match round {
+                Round::Update => {
+                    board.cache[mark_at(drawn.cell as usize)] = 0;
+                    board.state.list_length = 0;
+                }
+                Round::Checkpoint => board.state = from,
+                _ => {}
+            }
+            drawn = draw(plan, drawn.random);
+            k = 0;
+        }
     }
     sum
 }
 
-/// A data cell by a random number, W being 1.
-fn data_cell(lines: u64, seed: u64) -> u64 {
-    1 + seed % (cells(lines) - 1)
-}
-
-/// Updates of unmarked cells: the host takes the mark and the list's entry back after each.
-fn updates(lines: u64, rounds: u64, mut seed: u64) -> u64 {
-    let mut board = formatted(lines);
-    let mut sum = 0u64;
-    for _ in 0..rounds {
-        seed = next(seed);
-        let cell = data_cell(lines, seed);
-        sum = sum.wrapping_add(update(&mut board, cell, seed, 3));
-        board.cache[mark_at(cell as usize)] = 0;
-        board.state.list_length = 0;
-    }
-    read_all(&mut board, lines, sum)
-}
-
-/// Updates of cells that are marked already.
-fn updates_again(lines: u64, rounds: u64, mut seed: u64) -> u64 {
-    let mut board = formatted(lines);
-    let mut sum = 0u64;
-    for cell in 1..cells(lines) {
-        sum = sum.wrapping_add(update(&mut board, cell, cell, 3));
-    }
-    for _ in 0..rounds {
-        seed = next(seed);
-        sum = sum.wrapping_add(update(&mut board, data_cell(lines, seed), seed, 1));
-    }
-    read_all(&mut board, lines, sum)
-}
-
-/// A board with `n` cells listed, a request and its worker waiting: data cells, and the restart cell last.
-fn requested(lines: u64, n: u64) -> Board {
-    let mut board = formatted(lines);
-    for cell in 1..n {
-        update(&mut board, cell, cell, 3);
-    }
-    board.perform(&Call::Request);
-    board.perform(&Call::RestartPoint { worker: 0, value: 3 });
-    for _ in 0..3 {
-        board.perform(&Call::Advance { worker: 0 });
-    }
-    board
-}
-
-/// Checkpoints of `n` cells, each from the same state record.
-fn checkpoints(lines: u64, n: u64, rounds: u64) -> u64 {
-    let mut board = requested(lines, n);
-    let before: State = board.state;
-    let mut sum = 0u64;
-    for _ in 0..rounds {
-        board.state = before;
-        for _ in 0..n + 3 {
-            sum = sum.wrapping_add(u64::from(board.perform(&Call::Step).number));
+/// The board made ready for a workload's rounds, after a format.
+fn prepare(round: Round, plan: Plan, board: &mut Board) {
+    match round {
+        Round::Again => {
+            play(Round::Fill, Plan { n: cells(plan.lines), ..plan }, 1, board);
         }
-    }
-    read_all(&mut board, lines, sum)
-}
-
-/// Recoveries of a memory with no cell to undo.
-fn recoveries(lines: u64, rounds: u64) -> u64 {
-    let mut board = formatted(lines);
-    let mut sum = 0u64;
-    for _ in 0..rounds {
-        sum = sum.wrapping_add(u64::from(board.perform(&Call::Recovery).number));
-        for _ in 0..cells(lines) {
-            sum = sum.wrapping_add(u64::from(board.perform(&Call::Step).number));
+        Round::Checkpoint => {
+            play(Round::Fill, plan, 1, board);
+            play(Round::Wait, plan, 1, board);
         }
+        _ => {}
     }
-    read_all(&mut board, lines, sum)
 }
 
-/// Write-backs of random lines.
-fn write_backs(lines: u64, rounds: u64, mut seed: u64) -> u64 {
-    let mut board = formatted(lines);
-    let mut sum = 0u64;
-    for _ in 0..rounds {
-        seed = next(seed);
-        sum = sum.wrapping_add(u64::from(board.perform(&Call::WriteBack { line: seed % (lines + 1) }).number));
-    }
-    read_all(&mut board, lines, sum)
-}
-
-/// The sum with every cell read added to it.
-fn read_all(board: &mut Board, lines: u64, mut sum: u64) -> u64 {
-    for cell in 0..cells(lines) {
-        sum = sum.wrapping_add(board.perform(&Call::Read { cell }).value);
-    }
-    sum
-}
-
-/// The workload's checksum, or none for a size that is not allowed.
-pub fn run(workload: Workload, lines: u64, n: u64, rounds: u64, seed: u64) -> Option<u64> {
-    if !(1..=511).contains(&lines) || n < 1 || n > cells(lines) || seed == 0 {
+/// A workload's checksum: the answers of its rounds, and of a read of every cell after them. None for a size that is
+/// not allowed.
+pub fn run(round: Round, lines: u64, workers: u64, n: u64, rounds: u64, seed: u64) -> Option<u64> {
+    if !sizes_allowed(lines, workers) || !(workers..=cells(lines)).contains(&n) {
         return None;
     }
-    Some(match workload {
-        Workload::Update => updates(lines, rounds, seed),
-        Workload::Again => updates_again(lines, rounds, seed),
-        Workload::Checkpoint => checkpoints(lines, n, rounds),
-        Workload::Recovery => recoveries(lines, rounds),
-        Workload::WriteBack => write_backs(lines, rounds, seed),
-    })
+    if rounds > u64::from(u32::MAX) || seed == 0 {
+        return None;
+    }
+    let plan = Plan { lines, workers, n, worker: seed % workers, seed };
+    let mut board = Board::off(lines);
+    play(Round::Format, plan, 1, &mut board);
+    prepare(round, plan, &mut board);
+    let measured = play(round, plan, rounds, &mut board);
+    let reads = play(Round::Reads, plan, 1, &mut board);
+    Some(measured.wrapping_add(reads))
 }

@@ -13,7 +13,7 @@ const USAGE: &str = "usage: reference drill
        reference script SEED LINES [L W]
        reference explore SEED COUNT [--mistake NAME] [--only CHECK]
        reference explore --exhaustive [--mistake NAME] [--only CHECK]
-       reference bench WORKLOAD L N ROUNDS SEED";
+       reference bench WORKLOAD L W N ROUNDS SEED";
 
 fn main() -> ExitCode {
     let words: Vec<String> = std::env::args().skip(1).collect();
@@ -57,11 +57,11 @@ fn script_command(numbers: &[&str]) -> Option<ExitCode> {
     done(out.write_all(&script::script(seed, lines, size)).and_then(|()| out.flush()))
 }
 
-/// reference bench WORKLOAD L N ROUNDS SEED: the workload's checksum.
+/// reference bench WORKLOAD L W N ROUNDS SEED: the workload's checksum.
 fn bench_command(workload: &str, numbers: &[&str]) -> Option<ExitCode> {
     let numbers: Vec<u64> = numbers.iter().map(|word| word.parse().ok()).collect::<Option<_>>()?;
-    let [lines, n, rounds, seed] = numbers.as_slice() else { return None };
-    println!("{}", bench::run(bench::Workload::named(workload)?, *lines, *n, *rounds, *seed)?);
+    let [lines, workers, n, rounds, seed] = numbers.as_slice() else { return None };
+    println!("{}", bench::run(bench::Round::named(workload)?, *lines, *workers, *n, *rounds, *seed)?);
     Some(ExitCode::SUCCESS)
 }
 

