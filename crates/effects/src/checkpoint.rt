@@ -2,8 +2,10 @@
 ghost use mathlib.Core.Path.{_≡_};
 ghost use Rattle.board.specs.Effects.{actAt, performAct};
 ghost use Rattle.board.specs.Next.{lent};
+ghost use Rattle.effects.specs.Progress.{progressed};
 ghost use Rattle.effects.specs.Ready.{Checkpoints};
 use crate::cells::cell_line;
+use crate::record::Progress;
 use crate::record::next_place;
 use crate::record::released;
 use board::State;
@@ -14,9 +16,9 @@ pub fn checkpoint_step(
     memory: &mut [u64],
     cache: &mut [u64],
     entries: &[u16],
-) -> State
+) -> Progress
     requires { ⌜ Checkpoints state (now memory) (now cache) (now entries) ⌝ }
-    ensures { λ r. ⌜ lent r (now (memory .exit)) (now (cache .exit)) (now (entries .entry)) ≡ performAct (actAt (state .listed) (state .place)) state (lent state (now (memory .entry)) (now (cache .entry)) (now (entries .entry))) ⌝ }
+    ensures { λ r. ⌜ lent (progressed state r) (now (memory .exit)) (now (cache .exit)) (now (entries .entry)) ≡ performAct (actAt (state .listed) (state .place)) state (lent state (now (memory .entry)) (now (cache .entry)) (now (entries .entry))) ⌝ }
 {
     let place = state.place;
     let listed = state.listed;

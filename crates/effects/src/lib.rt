@@ -8,6 +8,9 @@ mod stores;
 
 pub use checkpoint::checkpoint_step;
 pub use format::format_step;
+pub use record::Progress;
+pub use record::placed;
+pub use record::progressed;
 pub use record::requesting;
 pub use record::started;
 pub use recovery::recovery_step;

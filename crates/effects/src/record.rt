@@ -1,6 +1,7 @@
 // Every way in which a step makes a new state record.
 ghost use mathlib.Core.Path.{_≡_};
 ghost use Prim.Native.Nat.{_+_, _<_};
+ghost use Rattle.effects.specs.Progress.{progressed};
 ghost use Rattle.board.specs.State.{started, placed, opened, requesting, released, conditioned};
 use board::Condition;
 use board::Phase;
@@ -27,41 +28,91 @@ pub fn started(phase: Phase, lines: u16, workers: u8) -> State
     }
 }
 
-// The place, and a recovery's step there, put anew.
-pub fn placed(state: State, place: u16, undo: UndoStep) -> State
-    ensures { λ r. ⌜ r ≡ placed state place undo ⌝ }
+// What a step leaves of the state record: these fields, and the eight workers all freed or all kept. The record is
+// made of it in one place, `progressed`, so that it is copied once at most (docs/BENCH.md).
+pub struct Progress {
+    pub phase: Phase,
+    pub listed: u16,
+    pub place: u16,
+    pub undo: UndoStep,
+    pub requested: bool,
+    pub freed: bool,
+}
+
+// The state record after a step.
+pub fn progressed(state: State, progress: Progress) -> State
+    ensures { λ r. ⌜ r ≡ progressed state progress ⌝ }
 {
+    let phase = progress.phase;
+    let undo = progress.undo;
+    let mut worker = state.worker;
+    if progress.freed {
+        worker = [Worker {
+            condition: Condition::Free,
+        }; 8];
+    }
     State {
+        phase,
+        lines: state.lines,
+        workers: state.workers,
+        listed: progress.listed,
+        place: progress.place,
+        undo,
+        requested: progress.requested,
+        worker,
+    }
+}
+
+// The place, and a recovery's step there, put anew.
+pub fn placed(state: State, place: u16, undo: UndoStep) -> Progress
+    ensures { λ r. ⌜ progressed state r ≡ placed state place undo ⌝ }
+{
+    let phase = state.phase;
+    Progress {
+        phase,
+        listed: state.listed,
         place,
         undo,
-        ..state
+        requested: state.requested,
+        freed: false,
     }
 }
 
 // The next place of a format or a checkpoint.
-pub fn next_place(state: State) -> State
+pub fn next_place(state: State) -> Progress
     requires { ⌜ state .place < 65535 ⌝ }
-    ensures { λ r. ⌜ r ≡ placed state (state .place + 1) (state .undo) ⌝ }
+    ensures { λ r. ⌜ progressed state r ≡ placed state (state .place + 1) (state .undo) ⌝ }
 {
-    let mut next = state;
-    next.place = state.place + 1;
-    next
+    let undo = state.undo;
+    placed(state, state.place + 1, undo)
 }
 
 // "Then running, all free": the end of a format or a recovery.
-pub fn opened(state: State, listed: u16) -> State
-    ensures { λ r. ⌜ r ≡ opened state listed ⌝ }
+pub fn opened(state: State, listed: u16) -> Progress
+    ensures { λ r. ⌜ progressed state r ≡ opened state listed ⌝ }
 {
-    let worker = [Worker {
-        condition: Condition::Free,
-    }; 8];
-    State {
+    Progress {
         phase: Phase::Running,
         listed,
         place: 0,
         undo: UndoStep::Restore,
-        worker,
-        ..state
+        requested: state.requested,
+        freed: true,
+    }
+}
+
+// "release, with all eight workers free, list empty, request gone", in the phase that it is in.
+pub fn released(state: State) -> Progress
+    ensures { λ r. ⌜ progressed state r ≡ released state ⌝ }
+{
+    let phase = state.phase;
+    Progress {
+        phase,
+        listed: 0,
+        place: 0,
+        undo: UndoStep::Restore,
+        requested: false,
+        freed: true,
     }
 }
 
@@ -69,19 +120,12 @@ pub fn opened(state: State, listed: u16) -> State
 pub fn requesting(state: State) -> State
     ensures { λ r. ⌜ r ≡ requesting state ⌝ }
 {
-    let asked = State {
+    State {
+        place: 0,
+        undo: UndoStep::Restore,
         requested: true,
         ..state
-    };
-    placed(asked, 0, UndoStep::Restore)
-}
-
-// "release, with all eight workers free, list empty, request gone": as a start leaves the record, in the phase that it is in.
-pub fn released(state: State) -> State
-    ensures { λ r. ⌜ r ≡ released state ⌝ }
-{
-    let phase = state.phase;
-    started(phase, state.lines, state.workers)
+    }
 }
 
 // A worker in another condition, and the list's length put anew. Each index is a constant, as in the causes' reading.

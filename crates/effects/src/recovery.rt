@@ -8,9 +8,11 @@ ghost use Rattle.board.specs.Effects.{pastCell, recoveryStep};
 ghost use Rattle.board.specs.Next.{lent};
 ghost use Rattle.board.specs.declared.Phase.the-variants.{Recovering};
 ghost use Rattle.board.specs.declared.UndoStep.the-variants.{Restore};
+ghost use Rattle.effects.specs.Progress.{progressed};
 ghost use Rattle.effects.specs.Ready.{Restarts, Recovers};
 use crate::cells::cell_line;
 use crate::cells::logged;
+use crate::record::Progress;
 use crate::record::opened;
 use crate::record::placed;
 use crate::record::started;
@@ -31,9 +33,9 @@ pub fn restart(memory: &[u64], cache: &mut [u64]) -> State
 }
 
 // "Then cells from 0 up .. After the last cell: running."
-fn past_cell(state: State) -> State
+fn past_cell(state: State) -> Progress
     requires { ⌜ state .lines ≤ 511 ⌝ }
-    ensures { λ r. ⌜ r ≡ pastCell state ⌝ }
+    ensures { λ r. ⌜ progressed state r ≡ pastCell state ⌝ }
 {
     let place = state.place as u64;
     let listed = state.listed;
@@ -45,9 +47,9 @@ fn past_cell(state: State) -> State
 }
 
 // "record := backup" where the mark equals the epoch; any other cell, "one step that stores nothing".
-fn first_step(state: State, memory: &[u64], cache: &mut [u64]) -> State
+fn first_step(state: State, memory: &[u64], cache: &mut [u64]) -> Progress
     requires { ⌜ Recovers state (now memory) (now cache) ⌝ }
-    ensures { λ r. ⌜ ((es : List ℕ) → lent r (now (memory .entry)) (now (cache .exit)) es ≡ recoveryStep Restore state (lent state (now (memory .entry)) (now (cache .entry)) es)) ⌝ }
+    ensures { λ r. ⌜ ((es : List ℕ) → lent (progressed state r) (now (memory .entry)) (now (cache .exit)) es ≡ recoveryStep Restore state (lent state (now (memory .entry)) (now (cache .entry)) es)) ⌝ }
 {
     let place = state.place;
     let cell = place as usize;
@@ -61,9 +63,9 @@ fn first_step(state: State, memory: &[u64], cache: &mut [u64]) -> State
 }
 
 // "record := backup; mark := 0; its line written back."
-pub fn recovery_step(state: State, memory: &mut [u64], cache: &mut [u64]) -> State
+pub fn recovery_step(state: State, memory: &mut [u64], cache: &mut [u64]) -> Progress
     requires { ⌜ Recovers state (now memory) (now cache) ⌝ }
-    ensures { λ r. ⌜ ((es : List ℕ) → lent r (now (memory .exit)) (now (cache .exit)) es ≡ recoveryStep (state .undo) state (lent state (now (memory .entry)) (now (cache .entry)) es)) ⌝ }
+    ensures { λ r. ⌜ ((es : List ℕ) → lent (progressed state r) (now (memory .exit)) (now (cache .exit)) es ≡ recoveryStep (state .undo) state (lent state (now (memory .entry)) (now (cache .entry)) es)) ⌝ }
 {
     let place = state.place;
     let cell = place as usize;

@@ -1,6 +1,6 @@
 -- How every call ends: refused, with all as it was, or taken, with its effect.
 use Prim.Native.Nat.{ℕ}
-use mathlib.Core.Path.{_≡_, sym, ap, _∙_}
+use mathlib.Core.Path.{_≡_, refl, sym, ap, _∙_}
 use mathlib.Core.List.{List}
 use borrow.Author.Tests.{eq-eqb, ne-eqb}
 use Rattle.line.specs.declared.Field.{Field}
@@ -15,6 +15,7 @@ use Rattle.board.specs.Next.{Outcome, lent, left, outcome, taken, valueRead, va
 use Rattle.board.specs.Sequence.{Taken}
 use Rattle.board.proofs.Laws.Bools.{chosen, passedOver}
 use Rattle.board.proofs.Laws.Taken.{taken-next, refused-next}
+use Rattle.effects.proofs.Effects.{same-board}
 
 -- An outcome with equal parts.
 same-outcome : {n n′ : ℕ} {b b′ : Board} → n ≡ n′ → b ≡ b′ → _≡_ {A = Outcome} (record { number = n; board = b }) (record { number = n′; board = b′ })
@@ -34,6 +35,10 @@ module _ (k : Call) (s : State) (m c es : List ℕ) where
   done e z f =
       let t = no-cause e z in
       same-outcome (sym t) (f ∙ sym (taken-next k (lent s m c es) t))
+
+  -- The same where the record is made of what the effect left of it.
+  pub done-by : {n : ℕ} {s′ s″ : State} {m′ c′ es′ : List ℕ} → n ≡ cause k (lent s m c es) → n ≡ 0 → s′ ≡ s″ → lent s″ m′ c′ es′ ≡ effect k (lent s m c es) → left 0 s′ m′ c′ es′ ≡ outcome k (lent s m c es)
+  done-by e z p f = done e z (same-board p refl refl refl ∙ f)
 
 -- A refused read gives 0.
 pub reads-nothing : {n : ℕ} (cell : ℕ) (b : Board) → n ≡ cause (Read cell) b → (n ≡ 0 → ⊥) → 0 ≡ valueOf (Read cell) b

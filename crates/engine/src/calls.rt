@@ -8,6 +8,7 @@ use board::Phase;
 use board::State;
 use causes::TAKEN;
 use effects::noted;
+use effects::progressed;
 use effects::requesting;
 use effects::restart;
 use effects::started;
@@ -71,7 +72,8 @@ pub fn step(state: State, memory: &mut [u64], cache: &mut [u64], entries: &[u16]
     if number != TAKEN {
         return Answer { number, state };
     }
-    let next = taken_step(state, memory, cache, entries);
+    let progress = taken_step(state, memory, cache, entries);
+    let next = progressed(state, progress);
     Answer {
         number: TAKEN,
         state: next,

@@ -4,20 +4,24 @@ ghost use Rattle.board.specs.declared.Call.the-variants.{Step};
 ghost use Rattle.board.specs.Effects.{effect};
 ghost use Rattle.board.specs.Next.{lent};
 ghost use Rattle.board.specs.Sequence.{Taken};
+ghost use Rattle.effects.specs.Progress.{progressed};
 use board::Phase;
 use board::State;
+use effects::Progress;
 use effects::checkpoint_step;
 use effects::format_step;
+use effects::placed;
 use effects::recovery_step;
 
 // What a taken step does.
-pub fn taken_step(state: State, memory: &mut [u64], cache: &mut [u64], entries: &[u16]) -> State
+pub fn taken_step(state: State, memory: &mut [u64], cache: &mut [u64], entries: &[u16]) -> Progress
     requires { ⌜ Taken Step (lent state (now memory) (now cache) (now entries)) ⌝ }
-    ensures { λ r. ⌜ lent r (now (memory .exit)) (now (cache .exit)) (now (entries .entry)) ≡ effect Step (lent state (now (memory .entry)) (now (cache .entry)) (now (entries .entry))) ⌝ }
+    ensures { λ r. ⌜ lent (progressed state r) (now (memory .exit)) (now (cache .exit)) (now (entries .entry)) ≡ effect Step (lent state (now (memory .entry)) (now (cache .entry)) (now (entries .entry))) ⌝ }
 {
     let phase = state.phase;
+    let undo = state.undo;
     match phase {
-        Phase::Off => state,
+        Phase::Off => placed(state, state.place, undo),
         Phase::Formatting => format_step(state, memory, cache),
         Phase::Recovering => recovery_step(state, memory, cache),
         Phase::Running => checkpoint_step(state, memory, cache, entries),

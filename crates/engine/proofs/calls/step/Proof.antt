@@ -1,6 +1,6 @@
 -- `engine::calls::step` meets its contract: refused with all as it was, or taken with its effect.
 use borrow.Author.Needs.{needs}
-use Rattle.engine.proofs.Outcome.{refused, done}
+use Rattle.engine.proofs.Outcome.{refused, done-by}
 use Rattle.engine.proofs.calls.step.Statement.{statement}
 use Rattle.engine.proofs.calls.step.Tie as tie
 
@@ -8,10 +8,10 @@ returns : tie.Need-returns
 returns c = search (needs, refused)
 
 returns-2 : tie.Need-returns-2
-returns-2 c = search (needs, done)
+returns-2 c = search (needs, done-by)
 
 pub step-spec : {M : Type 1} → statement M
 step-spec =
     tie.close
-    (tie.spec (search needs) (search needs) (search needs) returns (search needs) (search needs)
+    (tie.spec (search needs) (search needs) (search needs) returns (search needs) (search needs) (search needs)
     (search needs) returns-2)

@@ -3,6 +3,7 @@ use mathlib.Core.Path.{refl}
 use borrow.Author.Needs.{needs}
 use Rattle.engine.proofs.Passed.{step-formats, step-recovers, step-checkpoints}
 use Rattle.board.specs.Effects.{step}
+use Rattle.effects.proofs.Effects.{same-board}
 use Rattle.engine.proofs.Effect.{in-phase}
 use Rattle.engine.proofs.steps.taken_step.Statement.{statement}
 use Rattle.engine.proofs.steps.taken_step.Tie as tie
@@ -18,7 +19,7 @@ checkpoint-step-requires c κs = step-checkpoints _ (c .before .before .before .
 
 returns : tie.Need-returns
 unfolding step
-returns c = in-phase _ _ _ _ (c .enum-told .given .1) refl
+returns c = in-phase _ _ _ _ (c .before .enum-told .given .1) (same-board (c .placed .ensures) refl refl refl)
 
 returns-2 : tie.Need-returns-2
 unfolding step
@@ -41,6 +42,6 @@ returns-4 c =
 pub taken-step-spec : {M : Type 1} → statement M
 taken-step-spec =
     tie.close
-    (tie.spec (search needs) (search needs) format-step-requires (search needs) recovery-step-requires (search needs)
+    (tie.spec (search needs) (λ _ _. tt) (search needs) format-step-requires (search needs) recovery-step-requires (search needs)
     checkpoint-step-requires returns (search needs) (search needs) returns-2 (search needs)
     (search needs) returns-3 (search needs) (search needs) returns-4)
