@@ -18,6 +18,7 @@ pub enum Sought {
     UpdateOf { cell: u64, except: u64 },
 }
 
+// A worker's condition, on its way out of the record.
 fn condition_in(worker: Worker) -> Condition
     ensures { λ r. ⌜ r ≡ worker .condition ⌝ }
 {

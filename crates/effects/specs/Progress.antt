@@ -5,6 +5,6 @@ use Rattle.board.specs.State.{allFree}
 use Rattle.effects.specs.declared.record.Progress.{Progress}
 
 -- The record with a step's progress put in: L and W stay, the workers are all freed or all kept.
-unfoldable pub progressed : State → Progress → State
+abbrev pub progressed : State → Progress → State
 progressed s p =
     record { phase = p .phase; lines = s .lines; workers = s .workers; listed = p .listed; place = p .place; undo = p .undo; requested = p .requested; worker = cond (p .freed) allFree (s .worker) }
