@@ -1,13 +1,13 @@
 // For each call the number of its first cause, 0 where it is taken: document 01's table, a field for each row that the call is tested by.
-use crate::limits;
 use crate::order::Causes;
 use crate::order::LIMITS;
 use crate::order::NONE;
 use crate::order::first;
-use crate::phases;
-use crate::record;
-use crate::rows;
 use board::State;
+use checks::limits;
+use checks::phases;
+use checks::record;
+use checks::rows;
 ghost use mathlib.Core.Path.{_≡_};
 ghost use Prim.Native.Nat.{ℕ};
 ghost use Rattle.board.specs.declared.Call.the-variants.{FormatStart, RecoveryStart, Step, Update, RestartPoint, Advance, Request, WriteBack, Read};

@@ -1,11 +1,6 @@
-// Why a call is turned down: one function for each test of document 01's cause table, and for each call the number of its first cause.
+// Why a call is turned down: for each call the number of its first cause.
 mod calls;
-mod limits;
 pub mod order;
-mod phases;
-mod record;
-mod rows;
-mod workers;
 
 pub use calls::of_advance;
 pub use calls::of_format_start;
@@ -17,4 +12,3 @@ pub use calls::of_step;
 pub use calls::of_update;
 pub use calls::of_write_back;
 pub use order::TAKEN;
-pub use workers::condition_of;

@@ -128,7 +128,7 @@ pub fn requesting(state: State) -> State
     }
 }
 
-// A worker in another condition, and the list's length put anew. Each index is a constant, as in the causes' reading.
+// A worker in another condition, and the list's length put anew. Each index is a constant, as in `checks::condition_of`.
 pub fn conditioned(state: State, worker: usize, condition: Condition, listed: u16) -> State
     requires { ⌜ worker < 8 ⌝ }
     ensures { λ r. ⌜ r ≡ conditioned state worker condition listed ⌝ }

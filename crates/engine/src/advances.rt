@@ -19,7 +19,7 @@ pub fn taken_advance(
     requires { ⌜ Taken (Advance worker) (lent state (now memory) (now cache) (now entries)) ⌝ }
     ensures { λ r. ⌜ lent r (now (memory .entry)) (now (cache .exit)) (now (entries .exit)) ≡ effect (Advance worker) (lent state (now (memory .entry)) (now (cache .entry)) (now (entries .entry))) ⌝ }
 {
-    let condition = causes::condition_of(state, worker);
+    let condition = checks::condition_of(state, worker);
     match condition {
         Condition::Free => state,
         Condition::Waiting => state,

@@ -1,9 +1,0 @@
--- The phase is the record's.
-use Rattle.causes.proofs.phases.not_running.Statement.{statement}
-use Rattle.causes.proofs.phases.not_running.Tie as tie
-
-returns : tie.Need-returns
-returns c m k e = rw (c .is-running .ensures)
-
-pub not-running-spec : {M : Type 1} → statement M
-not-running-spec = tie.close (tie.spec (λ _ _. tt) returns)

@@ -1,0 +1,47 @@
+-- A scan may stop at W: no worker from there on is what is sought.
+use Prim.Native.Nat.{ℕ, zero, suc, _≤_, _<_, min}
+use mathlib.Core.Path.{_≡_, refl, sym, ap, subst, _∙_}
+use mathlib.Core.Bool.{Bool, false, not, _&&_, _||_}
+use native.Mathlib.Omega.{arith}
+use native.Mathlib.Decide.{decLe}
+use lib.Dec.{leb, ltb, eqb}
+use borrow.Author.Tests.{le-ltb, lt-ltb}
+use Rattle.board.specs.declared.State.{State}
+use Rattle.board.specs.State.{anyUnder, conditionOf, isWaiting, updates}
+use Rattle.board.proofs.Laws.Bools.{and-off, or-none}
+use Rattle.checks.specs.declared.workers.Sought.{Sought}
+use Rattle.checks.specs.declared.workers.Sought.the-variants.{CellFrom, NotWaiting, UpdateOf}
+use Rattle.checks.specs.Sought.{soughtIn, soughtAt}
+
+-- A test and one that fails.
+or-off : (a b : Bool) → b ≡ false → a || b ≡ a
+or-off Bool.true b e = refl
+or-off Bool.false b e = e
+
+-- A scan finds no more past the last number that passes.
+pub under-past : (n m : ℕ) (test : ℕ → Bool) → n ≤ m → ((j : ℕ) → n ≤ j → j < m → test j ≡ false) → anyUnder m test ≡ anyUnder n test
+unfolding anyUnder
+under-past n zero test h f = ap (λ (k : ℕ). anyUnder k test) (let z : zero ≡ n = omega arith in z)
+under-past n (suc m) test h f =
+    elim (decLe n m) [
+      | yes b ↦ or-off (anyUnder m test) (test m) (f m b (omega arith)) ∙ under-past n m test b (λ j p q. f j p (omega arith))
+      | no b ↦ ap (λ (k : ℕ). anyUnder k test) (let z : suc m ≡ n = omega arith in z)
+    ]
+
+-- A worker from W on is not what is sought.
+past-workers : (s : State) (sought : Sought) (j : ℕ) → s .workers ≤ j → soughtAt s sought j ≡ false
+past-workers s (CellFrom cells) j h = and-off (ltb j (s .workers)) (updates (leb cells) (conditionOf s j)) (le-ltb j (s .workers) h)
+past-workers s NotWaiting j h = and-off (ltb j (s .workers)) (not (isWaiting (conditionOf s j))) (le-ltb j (s .workers) h)
+past-workers s (UpdateOf cell except) j h =
+    and-off (ltb j (s .workers) && not (eqb j except)) (updates (eqb cell) (conditionOf s j)) (and-off (ltb j (s .workers)) (not (eqb j except)) (le-ltb j (s .workers) h))
+
+-- For a worker under W it is told by its condition.
+pub sought-under : (s : State) (sought : Sought) (i : ℕ) → i < s .workers → soughtAt s sought i ≡ soughtIn sought i (conditionOf s i)
+sought-under s (CellFrom cells) i h = rw (lt-ltb i (s .workers) h)
+sought-under s NotWaiting i h = rw (lt-ltb i (s .workers) h)
+sought-under s (UpdateOf cell except) i h = rw (lt-ltb i (s .workers) h)
+
+-- The scan up to W, or eight, is the scan of all eight.
+pub scan-end : (s : State) (sought : Sought) (i : ℕ) → i ≡ min (s .workers) 8 → anyUnder 8 (soughtAt s sought) ≡ anyUnder i (soughtAt s sought)
+scan-end s sought i e =
+    under-past i 8 (soughtAt s sought) (omega arith) (λ j p q. past-workers s sought j (omega arith))

@@ -1,0 +1,16 @@
+-- Each arm is the definition's at its phase.
+use borrow.Author.Needs.{needs}
+use Rattle.checks.proofs.record.place_past.Statement.{statement}
+use Rattle.checks.proofs.record.place_past.Tie as tie
+
+returns-2 : tie.Need-returns-2
+returns-2 c = rw (c .before .before .enum-told2 .given .1)
+
+returns-3 : tie.Need-returns-3
+returns-3 c = rw (c .before .before .enum-told3 .given .1, c .before .cells .ensures)
+
+returns-4 : tie.Need-returns-4
+returns-4 c = rw (c .before .before .before .enum-told4 .given .1)
+
+pub place-past-spec : {M : Type 1} → statement M
+place-past-spec = tie.close (tie.spec (λ c. search needs) (λ c. search needs) (λ c. search needs) (λ c. search needs) (λ c. search needs) (λ c. search needs) (λ _ _. tt) (λ c. search needs) (λ c. search needs) (λ c. search needs) (λ c. search needs) (λ c. search needs) (λ c. search needs) returns-2 returns-3 returns-4)

@@ -1,0 +1,21 @@
+-- What a scan looks for in the workers under W: the three tests of the cause table that speak of several workers.
+use Prim.Native.Nat.{ℕ}
+use mathlib.Core.Bool.{Bool, not, _&&_}
+use lib.Dec.{leb, ltb, eqb}
+use Rattle.board.specs.declared.State.{State}
+use Rattle.board.specs.declared.Condition.{Condition}
+use Rattle.board.specs.State.{conditionOf, isWaiting, updates}
+use Rattle.checks.specs.declared.workers.Sought.{Sought}
+use Rattle.checks.specs.declared.workers.Sought.the-variants.{CellFrom, NotWaiting, UpdateOf}
+
+-- Worker `i`, in this condition, is what is sought.
+abbrev pub soughtIn : Sought → ℕ → Condition → Bool
+soughtIn (CellFrom cells) i condition = updates (leb cells) condition
+soughtIn NotWaiting i condition = not (isWaiting condition)
+soughtIn (UpdateOf cell except) i condition = not (eqb i except) && updates (eqb cell) condition
+
+-- Worker `i` is under W and is what is sought.
+abbrev pub soughtAt : State → Sought → ℕ → Bool
+soughtAt s (CellFrom cells) = λ i. ltb i (s .workers) && updates (leb cells) (conditionOf s i)
+soughtAt s NotWaiting = λ i. ltb i (s .workers) && not (isWaiting (conditionOf s i))
+soughtAt s (UpdateOf cell except) = λ i. ltb i (s .workers) && not (eqb i except) && updates (eqb cell) (conditionOf s i)

@@ -1,0 +1,177 @@
+// What the workers are doing, and the scans over those under W.
+use board::Condition;
+use board::State;
+use board::Store;
+use board::Worker;
+ghost use Prim.Native.Nat.{min};
+ghost use mathlib.Core.Path.{_≡_};
+ghost use lib.Dec.{leb, eqb};
+ghost use Rattle.board.specs.State.{conditionOf, isFree, isWaiting, isUpdating, isMarkStore, mustList, updates, anyUnder};
+ghost use Rattle.checks.specs.Sought.{soughtIn, soughtAt};
+
+// What a scan looks for in a worker under W.
+pub enum Sought {
+    // an unfinished update of this cell or a later one
+    CellFrom(u64),
+    NotWaiting,
+    // an unfinished update of this cell, by another worker than the one excepted
+    UpdateOf { cell: u64, except: u64 },
+}
+
+// A worker's condition, on its way out of the record.
+fn condition_in(worker: Worker) -> Condition
+    ensures { λ r. ⌜ r ≡ worker .condition ⌝ }
+{
+    let condition = worker.condition;
+    board::rebuilt(condition)
+}
+
+// The condition of a worker; a number past the eight has none, and counts as free. Each index is a constant, so
+// that the compiler may keep the eight apart (docs/BENCH.md).
+pub fn condition_of(state: State, worker: u64) -> Condition
+    ensures { λ r. ⌜ r ≡ conditionOf state worker ⌝ }
+{
+    match worker {
+        0 => condition_in(state.worker[0]),
+        1 => condition_in(state.worker[1]),
+        2 => condition_in(state.worker[2]),
+        3 => condition_in(state.worker[3]),
+        4 => condition_in(state.worker[4]),
+        5 => condition_in(state.worker[5]),
+        6 => condition_in(state.worker[6]),
+        7 => condition_in(state.worker[7]),
+        _ => Condition::Free,
+    }
+}
+
+pub fn is_free(condition: Condition) -> bool
+    ensures { λ r. ⌜ r ≡ isFree condition ⌝ }
+{
+    match condition {
+        Condition::Free => true,
+        Condition::Waiting => false,
+        Condition::Updating {
+            cell: _,
+            value: _,
+            next: _,
+        } => false,
+    }
+}
+
+pub fn is_waiting(condition: Condition) -> bool
+    ensures { λ r. ⌜ r ≡ isWaiting condition ⌝ }
+{
+    match condition {
+        Condition::Free => false,
+        Condition::Waiting => true,
+        Condition::Updating {
+            cell: _,
+            value: _,
+            next: _,
+        } => false,
+    }
+}
+
+pub fn is_updating(condition: Condition) -> bool
+    ensures { λ r. ⌜ r ≡ isUpdating condition ⌝ }
+{
+    match condition {
+        Condition::Free => false,
+        Condition::Waiting => false,
+        Condition::Updating {
+            cell: _,
+            value: _,
+            next: _,
+        } => true,
+    }
+}
+
+fn is_mark_store(next: Store) -> bool
+    ensures { λ r. ⌜ r ≡ isMarkStore next ⌝ }
+{
+    match next {
+        Store::Backup => false,
+        Store::Mark => true,
+        Store::Record => false,
+    }
+}
+
+// The worker's next advance "must add a cell" to the list.
+pub fn must_list(condition: Condition) -> bool
+    ensures { λ r. ⌜ r ≡ mustList condition ⌝ }
+{
+    match condition {
+        Condition::Free => false,
+        Condition::Waiting => false,
+        Condition::Updating {
+            cell: _,
+            value: _,
+            next,
+        } => is_mark_store(next),
+    }
+}
+
+// An unfinished update of a cell from `cells` on.
+fn updates_from(condition: Condition, cells: u64) -> bool
+    ensures { λ r. ⌜ r ≡ updates (leb cells) condition ⌝ }
+{
+    match condition {
+        Condition::Free => false,
+        Condition::Waiting => false,
+        Condition::Updating {
+            cell,
+            value: _,
+            next: _,
+        } => cells <= cell as u64,
+    }
+}
+
+// An unfinished update of this very cell.
+fn updates_cell(condition: Condition, sought: u64) -> bool
+    ensures { λ r. ⌜ r ≡ updates (eqb sought) condition ⌝ }
+{
+    match condition {
+        Condition::Free => false,
+        Condition::Waiting => false,
+        Condition::Updating {
+            cell,
+            value: _,
+            next: _,
+        } => sought == cell as u64,
+    }
+}
+
+// Worker `i`, in this condition, is what is sought.
+fn is_sought(condition: Condition, sought: Sought, i: u64) -> bool
+    ensures { λ r. ⌜ r ≡ soughtIn sought i condition ⌝ }
+{
+    match sought {
+        Sought::CellFrom(cells) => updates_from(condition, cells),
+        Sought::NotWaiting => !is_waiting(condition),
+        Sought::UpdateOf { cell, except } => !(i == except) & updates_cell(condition, cell),
+    }
+}
+
+// How many workers are looked at: those under W, of which there are at most eight.
+fn looked_at(workers: u8) -> u64
+    ensures { λ r. ⌜ r ≡ min workers 8 ⌝ }
+{
+    if workers < 8 { workers as u64 } else { 8 }
+}
+
+// One of the workers under W is what is sought.
+pub fn any_worker(state: State, sought: Sought) -> bool
+    ensures { λ r. ⌜ r ≡ anyUnder 8 (soughtAt state sought) ⌝ }
+{
+    let end = looked_at(state.workers);
+    let mut found = false;
+    let mut i: u64 = 0;
+    while i < end {
+        let at = i as usize;
+        let worker = state.worker[at];
+        let condition = worker.condition;
+        found = found | is_sought(condition, sought, i);
+        i += 1;
+    }
+    found
+}
