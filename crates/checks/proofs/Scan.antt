@@ -4,13 +4,13 @@ use mathlib.Core.Path.{_≡_, refl, sym, ap, subst, _∙_}
 use mathlib.Core.Bool.{Bool, false, not, _&&_, _||_}
 use native.Mathlib.Omega.{arith}
 use native.Mathlib.Decide.{decLe}
-use lib.Dec.{leb, ltb, eqb}
+use lib.Dec.{ltb, eqb}
 use borrow.Author.Tests.{le-ltb, lt-ltb}
 use Rattle.board.specs.declared.State.{State}
-use Rattle.board.specs.State.{anyUnder, conditionOf, isWaiting, updates}
+use Rattle.board.specs.State.{anyUnder, conditionOf, updates, othersUpdate}
 use Rattle.board.proofs.Laws.Bools.{and-off, or-none}
 use Rattle.checks.specs.declared.workers.Sought.{Sought}
-use Rattle.checks.specs.declared.workers.Sought.the-variants.{CellFrom, NotWaiting, UpdateOf}
+use Rattle.checks.specs.declared.workers.Sought.the-variants.{UpdateOf}
 use Rattle.checks.specs.Sought.{soughtIn, soughtAt}
 
 -- A test and one that fails.
@@ -30,18 +30,23 @@ under-past n (suc m) test h f =
 
 -- A worker from W on is not what is sought.
 past-workers : (s : State) (sought : Sought) (j : ℕ) → s .workers ≤ j → soughtAt s sought j ≡ false
-past-workers s (CellFrom cells) j h = and-off (ltb j (s .workers)) (updates (leb cells) (conditionOf s j)) (le-ltb j (s .workers) h)
-past-workers s NotWaiting j h = and-off (ltb j (s .workers)) (not (isWaiting (conditionOf s j))) (le-ltb j (s .workers) h)
-past-workers s (UpdateOf cell except) j h =
-    and-off (ltb j (s .workers) && not (eqb j except)) (updates (eqb cell) (conditionOf s j)) (and-off (ltb j (s .workers)) (not (eqb j except)) (le-ltb j (s .workers) h))
+past-workers s sought j h = and-off (ltb j (s .workers)) (soughtIn sought j (conditionOf s j)) (le-ltb j (s .workers) h)
 
 -- For a worker under W it is told by its condition.
 pub sought-under : (s : State) (sought : Sought) (i : ℕ) → i < s .workers → soughtAt s sought i ≡ soughtIn sought i (conditionOf s i)
-sought-under s (CellFrom cells) i h = rw (lt-ltb i (s .workers) h)
-sought-under s NotWaiting i h = rw (lt-ltb i (s .workers) h)
-sought-under s (UpdateOf cell except) i h = rw (lt-ltb i (s .workers) h)
+sought-under s sought i h = rw (lt-ltb i (s .workers) h)
 
 -- The scan up to W, or eight, is the scan of all eight.
 pub scan-end : (s : State) (sought : Sought) (i : ℕ) → i ≡ min (s .workers) 8 → anyUnder 8 (soughtAt s sought) ≡ anyUnder i (soughtAt s sought)
 scan-end s sought i e =
     under-past i 8 (soughtAt s sought) (omega arith) (λ j p q. past-workers s sought j (omega arith))
+
+-- Three tests, in two ways of bracketing.
+and-regroup : (a b c : Bool) → a && (b && c) ≡ (a && b) && c
+and-regroup Bool.true b c = refl
+and-regroup Bool.false b c = refl
+
+-- The scan for another worker's update of a cell is the definition's.
+pub others-sought : (s : State) (w c : ℕ) → anyUnder 8 (soughtAt s (UpdateOf c w)) ≡ othersUpdate s w c
+others-sought s w c =
+    ap (anyUnder 8) (λ k i. and-regroup (ltb i (s .workers)) (not (eqb i w)) (updates (eqb c) (conditionOf s i)) k)

@@ -16,6 +16,4 @@ soughtIn (UpdateOf cell except) i condition = not (eqb i except) && updates (eqb
 
 -- Worker `i` is under W and is what is sought.
 abbrev pub soughtAt : State → Sought → ℕ → Bool
-soughtAt s (CellFrom cells) = λ i. ltb i (s .workers) && updates (leb cells) (conditionOf s i)
-soughtAt s NotWaiting = λ i. ltb i (s .workers) && not (isWaiting (conditionOf s i))
-soughtAt s (UpdateOf cell except) = λ i. ltb i (s .workers) && not (eqb i except) && updates (eqb cell) (conditionOf s i)
+soughtAt s sought i = ltb i (s .workers) && soughtIn sought i (conditionOf s i)
