@@ -2,7 +2,7 @@
 use Prim.Native.Nat.{ℕ, zero, suc, _<_}
 use mathlib.Core.Path.{_≡_, refl, sym, ap, subst, _∙_}
 use mathlib.Core.List.{List, [], _∷_, _++_, map}
-use mathlib.Core.Bool.{Bool, true, false, cond, not, _&&_, true≢false, false≢true}
+use mathlib.Core.Bool.{Bool, true, false, cond, not, _&&_, _||_, false≢true}
 use native.Mathlib.Omega.{arith}
 use lib.ListN.{length, replicate}
 use borrow.Author.Tests.{eqb-true, eq-eqb, ne-eqb}
@@ -17,12 +17,13 @@ use Rattle.board.specs.Board.{Board, cells}
 use Rattle.board.specs.State.{anyUnder, started}
 use Rattle.board.specs.Causes.{badRecord, causes, firstStanding, cause}
 use Rattle.board.specs.Effects.{formatStep, recoveryStep, actAt, performAct, step, advance, advanceOf, effect}
-use Rattle.board.specs.Next.{taken, next, valueRead, Kind, start, stepping, other, kind, isStart, isStep}
+use Rattle.board.specs.Next.{Taken, taken, next, valueRead, Kind, startsFormat, startsRecovery, stepping, writing, other, reading, kind, isStart, isStep}
 use Rattle.board.specs.Machine.{Machine, beginning, changed, countUnder, fewer, advanced, checkpointStep, stepped, writeBackSeen, feed}
-use Rattle.board.specs.Sequence.{Taken, Event, call, cut, Run, takenCall, refusedCall, after, runs, Allowed, Lawful, Takes, finished, steps, between, Begins, formatted, opening, Reached, reached, undoSteps, recoverySteps}
+use Rattle.board.specs.Sequence.{Event, call, cut, Run, takenCall, refusedCall, after, runs, Allowed, Lawful, Takes, finished, steps, between, Begins, formatted, opening, Reached, reached, undoSteps, recoverySteps}
 use Rattle.board.specs.Statements.{Recovered}
 use Rattle.board.specs.Bench.{blankFor, afterCalls}
 use Rattle.board.proofs.Laws.Bools.{on, chosen, passedOver, and-off, and-left, and-right}
+use Rattle.board.proofs.Laws.Taken.{of-kind}
 use Rattle.board.proofs.Keeps.Every.{by-answer}
 use Rattle.board.proofs.Theorems.{recovery}
 
@@ -73,9 +74,12 @@ lawful-calls (k ∷ ks) r es d h = (λ e t. absurd (false≢true (sym d ∙ e)),
 
 -- A choice by a taken call's kind.
 byKind : Kind → Bool → Bool → Bool
-byKind start more same = false
+byKind startsFormat more same = false
+byKind startsRecovery more same = false
 byKind stepping more same = more
+byKind writing more same = same
 byKind other more same = same
+byKind (reading c) more same = same
 
 -- The calls from a board on hold `n` taken steps, the last call being the last of them, and no taken start.
 takesTest : ℕ → List Call → Board → Bool
@@ -87,25 +91,20 @@ takesTest (suc n) (k ∷ ks) b =
     let same = takesTest (suc n) ks (next k b) in
     cond (taken k b) (byKind (kind k) more same) same
 
--- The call of that kind is the step.
-only-step : (k : Call) → kind k ≡ stepping → k ≡ Step
-only-step (FormatStart l w) e = absurd (true≢false (ap isStart e))
-only-step RecoveryStart e = absurd (true≢false (ap isStart e))
-only-step Step e = refl
-only-step (Update w c v) e = absurd (false≢true (ap isStep e))
-only-step (RestartPoint w v) e = absurd (false≢true (ap isStep e))
-only-step (Advance w) e = absurd (false≢true (ap isStep e))
-only-step Request e = absurd (false≢true (ap isStep e))
-only-step (WriteBack l) e = absurd (false≢true (ap isStep e))
-only-step (Read c) e = absurd (false≢true (ap isStep e))
+-- Neither a start nor a step.
+passes : (k : Call) {d : Kind} → kind k ≡ d → isStart d || isStep d ≡ false → isStart (kind k) || isStep (kind k) ≡ false
+passes k e o = ap (λ (x : Kind). isStart x || isStep x) e ∙ o
 
 -- What the test says of a taken call.
 taken-test : {n : ℕ} {ks : List Call} {b b′ : Board} (more same : Bool) (k : Call) (d : Kind) → kind k ≡ d → Taken k b → (more ≡ true → Takes n (next k b) ks b′) → (same ≡ true → Takes (suc n) (next k b) ks b′) → byKind d more same ≡ true → Takes (suc n) b (k ∷ ks) b′
 unfolding byKind
-taken-test more same k start e t f g h = absurd (false≢true h)
+taken-test more same k startsFormat e t f g h = absurd (false≢true h)
+taken-test more same k startsRecovery e t f g h = absurd (false≢true h)
 taken-test {n} {ks} {b} {b′} more same k stepping e t f g h =
-    subst (λ (j : Call). Taken j b → Takes n (next j b) ks b′ → Takes (suc n) b (j ∷ ks) b′) (sym (only-step k e)) steps t (f h)
-taken-test more same k other e t f g h = between (λ _. e) (g h)
+    subst (λ (j : Call). Taken j b → Takes n (next j b) ks b′ → Takes (suc n) b (j ∷ ks) b′) (sym (of-kind k stepping e)) steps t (f h)
+taken-test more same k writing e t f g h = between (λ _. passes k e refl) (g h)
+taken-test more same k other e t f g h = between (λ _. passes k e refl) (g h)
+taken-test more same k (reading c) e t f g h = between (λ _. passes k e refl) (g h)
 
 -- The test says that the steps are taken.
 tested : (n : ℕ) (ks : List Call) (b : Board) → takesTest n ks b ≡ true → Takes n b ks (afterCalls ks b)

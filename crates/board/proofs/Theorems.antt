@@ -12,7 +12,7 @@ use Rattle.board.specs.declared.Call.the-variants.{FormatStart, Recovery
 use Rattle.board.specs.Board.{Board, cells, epochOf}
 use Rattle.board.specs.State.{isRunning, isFormatting}
 use Rattle.board.specs.Causes.{causes}
-use Rattle.board.specs.Sequence.{Taken, Event, call, cut, Run, after, Allowed, Reached}
+use Rattle.board.specs.Sequence.{Event, call, cut, Run, after, Allowed, Reached}
 use Rattle.board.specs.Statements.{Reads, Recovery, formatStepAt, Unchanged, Completed, Completion, TwoBoards, FormatEnds, RecoveryEnds, CheckpointEnds, RecoveryStarts, SingleStores, SpareWords}
 use Rattle.board.proofs.Laws.Bools.{not-off}
 use Rattle.board.proofs.Invariant.{Inv}
@@ -27,6 +27,7 @@ use Rattle.board.proofs.Format.Ends as FormatSteps
 use Rattle.board.proofs.Recovery.Ends as RecoverySteps
 use Rattle.board.proofs.Checkpoint.Ends as CheckpointSteps
 use Rattle.board.proofs.Stores
+use Rattle.board.specs.Next.{Taken}
 
 -- A taken read is made of a running board.
 read-running : (c : ℕ) (b : Board) → Taken (Read c) b → isRunning (b .state .phase) ≡ true

@@ -19,7 +19,7 @@ use Rattle.line.specs.declared.Field.{Field}
 use Rattle.line.specs.Line.{lineOf, withLine}
 use Rattle.line.specs.Cell.{cellLine, fieldOf, withField}
 use Rattle.board.specs.Board.{Board, cells, epochOf, linesOf, workersOf, headerWords, zeroWords}
-use Rattle.board.specs.State.{conditionOf, started, placed, opened, requesting, released, conditioned}
+use Rattle.board.specs.State.{conditionOf, started, placed, opened, requesting, released, conditioned, relisted}
 
 -- ---- what a step does to the rows
 
@@ -107,7 +107,7 @@ pub data Act : Type 0 where
 unfoldable pub actAt : ℕ → ℕ → Act
 actAt n place = cond (ltb place n) writeLine (cond (eqb place n) storeEpoch (cond (eqb place (n + 1)) writeHeader release))
 
--- "writing that cell's line back".
+-- "writing that cell's line back": the line that the step at a place before the list's end writes.
 abbrev pub listedLine : ℕ → List ℕ → ℕ
 listedLine place entries = cellLine (getD entries place 0)
 
@@ -135,7 +135,7 @@ firstStore row c = cond (logged row c) Record Backup
 
 -- "The start notes it."
 abbrev pub noted : ℕ → ℕ → ℕ → Board → Board
-noted w c v b = stated (conditioned (b .state) w (Updating (firstStore (b .cache) c) c v) (b .state .listed)) b
+noted w c v b = stated (conditioned (b .state) w (Updating (firstStore (b .cache) c) c v)) b
 
 -- "At the last store the worker becomes waiting if a checkpoint is requested by then" (a restart point's), "else free".
 abbrev pub afterLast : State → ℕ → Condition
@@ -143,10 +143,10 @@ afterLast s c = cond (ltb c (s .workers) && s .requested) Waiting Free
 
 -- "backup := record; mark := epoch, and the cell is added to the list; record := value".
 unfoldable pub advance : Store → ℕ → ℕ → ℕ → State → Board → Board
-advance Backup w c v s b = cached (backedUp (b .cache) c) (conditioned s w (Updating Mark c v) (s .listed)) b
+advance Backup w c v s b = cached (backedUp (b .cache) c) (conditioned s w (Updating Mark c v)) b
 advance Mark w c v s b =
-    record { state = conditioned s w (Updating Record c v) (s .listed + 1); memory = b .memory; cache = markedNow (b .cache) c; entries = set (b .entries) (s .listed) c }
-advance Record w c v s b = cached (recorded (b .cache) c v) (conditioned s w (afterLast s c) (s .listed)) b
+    record { state = relisted (conditioned s w (Updating Record c v)) (s .listed + 1); memory = b .memory; cache = markedNow (b .cache) c; entries = set (b .entries) (s .listed) c }
+advance Record w c v s b = cached (recorded (b .cache) c v) (conditioned s w (afterLast s c)) b
 
 -- An advance of a worker, by its condition; of one free or waiting there is none.
 unfoldable pub advanceOf : Condition → ℕ → State → Board → Board

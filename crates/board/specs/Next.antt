@@ -1,5 +1,6 @@
 -- Document 01, "Why a call is turned down": every call as one function, taken or refused.
 use Prim.Native.Nat.{ℕ}
+use mathlib.Core.Path.{_≡_}
 use mathlib.Core.Bool.{Bool, true, false, cond}
 use lib.Dec.{eqb}
 use mathlib.Core.List.{List}
@@ -11,6 +12,10 @@ use Rattle.line.specs.Cell.{fieldOf}
 use Rattle.board.specs.Board.{Board}
 use Rattle.board.specs.Causes.{cause}
 use Rattle.board.specs.Effects.{effect}
+
+-- "A taken call returns 0."
+abbrev pub Taken : Call → Board → Type 0
+Taken k b = cause k b ≡ 0
 
 -- No cause stands.
 abbrev pub taken : Call → Board → Bool
@@ -24,33 +29,40 @@ next k b = cond (taken k b) (effect k b) b
 unfoldable pub valueRead : ℕ → Board → ℕ
 valueRead c b = cond (taken (Read c) b) (fieldOf (b .cache) c Field.Record) 0
 
--- The three kinds of call that sequences tell apart: the starts of format and recovery, the step, and the others.
+-- What a call is to a sequence: a start of format or recovery, the step, a write-back, a read of a cell, or one of the others.
 pub data Kind : Type 0 where
-  start stepping other : Kind
+  startsFormat startsRecovery stepping writing other : Kind
+  reading : ℕ → Kind
 
 -- The kind of a call.
 abbrev pub kind : Call → Kind
-kind (FormatStart l w) = start
-kind RecoveryStart = start
+kind (FormatStart l w) = startsFormat
+kind RecoveryStart = startsRecovery
 kind Step = stepping
 kind (Update w c v) = other
 kind (RestartPoint w v) = other
 kind (Advance w) = other
 kind Request = other
-kind (WriteBack l) = other
-kind (Read c) = other
+kind (WriteBack l) = writing
+kind (Read c) = reading c
 
 -- A start of format or recovery.
 abbrev pub isStart : Kind → Bool
-isStart start = true
+isStart startsFormat = true
+isStart startsRecovery = true
 isStart stepping = false
+isStart writing = false
 isStart other = false
+isStart (reading c) = false
 
 -- The step call.
 abbrev pub isStep : Kind → Bool
-isStep start = false
+isStep startsFormat = false
+isStep startsRecovery = false
 isStep stepping = true
+isStep writing = false
 isStep other = false
+isStep (reading c) = false
 
 -- ---- what a contract says
 
@@ -58,27 +70,29 @@ isStep other = false
 abbrev pub lent : State → List ℕ → List ℕ → List ℕ → Board
 lent state memory cache entries = record { state = state; memory = memory; cache = cache; entries = entries }
 
--- "its complete outcome: number, state and each lent word".
+-- What a call of each kind gives back: a read the value read, every other call 0.
+abbrev pub givenBy : Kind → Board → ℕ
+givenBy startsFormat b = 0
+givenBy startsRecovery b = 0
+givenBy stepping b = 0
+givenBy writing b = 0
+givenBy other b = 0
+givenBy (reading c) b = valueRead c b
+
+-- The value that a call gives back.
+unfoldable pub valueOf : Call → Board → ℕ
+valueOf k b = givenBy (kind k) b
+
+-- "its complete outcome: number, state and each lent word", with the value read.
 pub record Outcome : Type 0 where
   pub number : ℕ
+  pub value : ℕ
   pub board : Board
 
 -- The outcome that a call must have, taken or refused.
 abbrev pub outcome : Call → Board → Outcome
-outcome k b = record { number = cause k b; board = next k b }
+outcome k b = record { number = cause k b; value = valueOf k b; board = next k b }
 
--- The outcome that a call had: the number and the state that it gave back, and the rows as it left them.
-abbrev pub left : ℕ → State → List ℕ → List ℕ → List ℕ → Outcome
-left number state memory cache entries = record { number = number; board = lent state memory cache entries }
-
--- The value that a call gives back: what a read read, 0 for every other call.
-unfoldable pub valueOf : Call → Board → ℕ
-valueOf (FormatStart l w) b = 0
-valueOf RecoveryStart b = 0
-valueOf Step b = 0
-valueOf (Update w c v) b = 0
-valueOf (RestartPoint w v) b = 0
-valueOf (Advance w) b = 0
-valueOf Request b = 0
-valueOf (WriteBack l) b = 0
-valueOf (Read c) b = valueRead c b
+-- What every contract says: the call, made of board `before`, gave back `number` and `value` and left board `after`, and that is its outcome.
+abbrev pub Performed : Call → Board → ℕ → ℕ → Board → Type 0
+Performed k before number value after = record { number = number; value = value; board = after } ≡ outcome k before

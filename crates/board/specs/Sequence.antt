@@ -2,20 +2,15 @@
 use Prim.Native.Nat.{ℕ, zero, suc, _+_}
 use mathlib.Core.Path.{_≡_}
 use mathlib.Core.List.{List, [], _∷_}
-use mathlib.Core.Bool.{Bool, true, false, cond, not, _&&_}
+use mathlib.Core.Bool.{Bool, true, false, cond, not, _&&_, _||_}
 use lib.ListN.{length}
 use Rattle.board.specs.declared.State.{State}
 use Rattle.board.specs.declared.Call.{Call}
 use Rattle.board.specs.declared.Call.the-variants.{FormatStart, RecoveryStart, Step}
 use Rattle.board.specs.Board.{Board, cells, linesOf}
-use Rattle.board.specs.Causes.{cause}
 use Rattle.board.specs.Effects.{logged}
-use Rattle.board.specs.Next.{taken, next, Kind, other, kind, isStart, isStep}
+use Rattle.board.specs.Next.{Taken, taken, next, kind, isStart, isStep}
 use Rattle.board.specs.Machine.{Machine, beginning, feed, formatSteps, finishesFormat}
-
--- "A taken call returns 0."
-abbrev pub Taken : Call → Board → Type 0
-Taken k b = cause k b ≡ 0
 
 -- A call, or a cut with what it leaves: "any words in cache and list and any state record; memory stays".
 pub data Event : Type 0 where
@@ -71,7 +66,7 @@ Lawful (e ∷ es) r = Allowed e r × Lawful es (after e r)
 pub data Takes : ℕ → Board → List Call → Board → Type 0 where
   finished : {b : Board} → Takes zero b [] b
   steps : {n : ℕ} {b : Board} {ks : List Call} {b′ : Board} → Taken Step b → Takes n (next Step b) ks b′ → Takes (suc n) b (Step ∷ ks) b′
-  between : {n : ℕ} {k : Call} {b : Board} {ks : List Call} {b′ : Board} → (Taken k b → kind k ≡ other) → Takes (suc n) (next k b) ks b′ → Takes (suc n) b (k ∷ ks) b′
+  between : {n : ℕ} {k : Call} {b : Board} {ks : List Call} {b′ : Board} → (Taken k b → isStart (kind k) || isStep (kind k) ≡ false) → Takes (suc n) (next k b) ks b′ → Takes (suc n) b (k ∷ ks) b′
 
 -- "A sequence begins with state and rows as a finished format left them, whatever they were before its start."
 pub data Begins : Board → Machine → Type 0 where

@@ -1,6 +1,6 @@
 -- Document 01, "Lines and cells" and "Steps": the state record, its workers, and every way in which a step makes a new one.
 use Prim.Native.Nat.{ℕ, zero, suc, _+_}
-use mathlib.Core.List.{List}
+use mathlib.Core.List.{List, [], _∷_}
 use mathlib.Core.Bool.{Bool, true, false, not, _&&_, _||_}
 use lib.Dec.{ltb, eqb}
 use lib.ListN.{getD, set, replicate}
@@ -130,12 +130,31 @@ abbrev pub requesting : State → State
 requesting s =
     record { phase = s .phase; lines = s .lines; workers = s .workers; listed = s .listed; place = 0; undo = Restore; requested = true; worker = s .worker }
 
+-- "release, with all eight workers free": the condition that it leaves a worker in.
+abbrev pub afterRelease : Condition → Condition
+afterRelease condition = Free
+
+-- Worker `w` after the release.
+abbrev pub releasedWorker : State → ℕ → Worker
+releasedWorker s w = record { condition = afterRelease (conditionOf s w) }
+
+-- The eight workers after the release.
+abbrev pub releasedWorkers : State → List Worker
+releasedWorkers s =
+    releasedWorker s 0 ∷ releasedWorker s 1 ∷ releasedWorker s 2 ∷ releasedWorker s 3
+    ∷ releasedWorker s 4 ∷ releasedWorker s 5 ∷ releasedWorker s 6 ∷ releasedWorker s 7 ∷ []
+
 -- "release, with all eight workers free, list empty, request gone", the place 0.
 abbrev pub released : State → State
 released s =
-    record { phase = s .phase; lines = s .lines; workers = s .workers; listed = 0; place = 0; undo = Restore; requested = false; worker = allFree }
+    record { phase = s .phase; lines = s .lines; workers = s .workers; listed = 0; place = 0; undo = Restore; requested = false; worker = releasedWorkers s }
 
--- The record with worker `w` in another condition and the list's length put anew.
-abbrev pub conditioned : State → ℕ → Condition → ℕ → State
-conditioned s w condition listed =
-    record { phase = s .phase; lines = s .lines; workers = s .workers; listed = listed; place = s .place; undo = s .undo; requested = s .requested; worker = set (s .worker) w (record { condition = condition }) }
+-- The record with worker `w` in another condition.
+abbrev pub conditioned : State → ℕ → Condition → State
+conditioned s w condition =
+    record { phase = s .phase; lines = s .lines; workers = s .workers; listed = s .listed; place = s .place; undo = s .undo; requested = s .requested; worker = set (s .worker) w (record { condition = condition }) }
+
+-- The record with another length of the list.
+abbrev pub relisted : State → ℕ → State
+relisted s listed =
+    record { phase = s .phase; lines = s .lines; workers = s .workers; listed = listed; place = s .place; undo = s .undo; requested = s .requested; worker = s .worker }

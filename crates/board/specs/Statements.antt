@@ -12,9 +12,9 @@ use Rattle.board.specs.declared.Phase.{Phase}
 use Rattle.board.specs.Board.{Board, cells, epochOf}
 use Rattle.board.specs.State.{conditionOf, isWaiting, isFormatting, isRecovering, isRunning}
 use Rattle.board.specs.Effects.{writtenBack}
-use Rattle.board.specs.Next.{taken, next, valueRead}
+use Rattle.board.specs.Next.{taken, next, valueRead, Taken}
 use Rattle.board.specs.Machine.{Machine, formatSteps}
-use Rattle.board.specs.Sequence.{Taken, Event, call, cut, Run, after, Allowed, Takes, Reached, recoverySteps}
+use Rattle.board.specs.Sequence.{Event, call, cut, Run, after, Allowed, Takes, Reached, recoverySteps}
 
 -- ---- 1. reads
 

@@ -13,8 +13,7 @@ use Rattle.board.specs.declared.State.{State}
 use Rattle.board.specs.declared.Call.the-variants.{FormatStart, Step}
 use Rattle.board.specs.Board.{Board, rowWords, listWords, linesOutside, workersOutside, outside}
 use Rattle.board.specs.Causes.{causes, cause, firstStanding}
-use Rattle.board.specs.Next.{lent, next, taken}
-use Rattle.board.specs.Sequence.{Taken}
+use Rattle.board.specs.Next.{lent, next, taken, Taken}
 use Rattle.board.specs.Statements.{stepsFrom}
 use Rattle.board.proofs.Invariant.{Sizes}
 use Rattle.board.proofs.Laws.Bools.{on, split, chosen, passedOver, or-left}

@@ -11,8 +11,7 @@ use Rattle.board.specs.declared.Call.the-variants.{Read}
 use Rattle.board.specs.Board.{Board}
 use Rattle.board.specs.Causes.{cause}
 use Rattle.board.specs.Effects.{effect}
-use Rattle.board.specs.Next.{Outcome, lent, left, outcome, taken, valueRead, valueOf}
-use Rattle.board.specs.Sequence.{Taken}
+use Rattle.board.specs.Next.{Outcome, lent, left, outcome, taken, valueRead, valueOf, Taken}
 use Rattle.board.proofs.Laws.Bools.{chosen, passedOver}
 use Rattle.board.proofs.Laws.Taken.{taken-next, refused-next}
 use Rattle.effects.proofs.Effects.{same-board}

@@ -19,10 +19,10 @@ use Rattle.board.specs.declared.Call.the-variants.{FormatStart, RecoveryStart, 
 use Rattle.board.specs.Board.{Board, cells, rowWords, listWords, linesOutside, workersOutside, outside, epochOf, linesOf, workersOf, restNotZero, lastEpoch}
 use Rattle.board.specs.State.{conditionOf, isRunning, isWaiting, updates, mustList, anyWorker}
 use Rattle.board.specs.Causes.{causes, badRecord, badRows, badEntry, placePast, listFull, checkpointing, epochSpent}
-use Rattle.board.specs.Sequence.{Taken}
 use Rattle.board.proofs.Laws.Bools.{or-left, or-right, and-both, and-left, and-right, and-not, not-off, none-under}
 use Rattle.board.proofs.Laws.Taken.{standsAt, passed, lines-in, workers-in}
 use Rattle.effects.specs.Ready.{Rows, Restarts, Formats, Recovers, Checkpoints, Stores, Advances}
+use Rattle.board.specs.Next.{Taken}
 
 -- ---- the record and the rows
 

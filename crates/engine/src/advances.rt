@@ -2,8 +2,7 @@
 ghost use mathlib.Core.Path.{_≡_};
 ghost use Rattle.board.specs.declared.Call.the-variants.{Advance};
 ghost use Rattle.board.specs.Effects.{effect};
-ghost use Rattle.board.specs.Next.{lent};
-ghost use Rattle.board.specs.Sequence.{Taken};
+ghost use Rattle.board.specs.Next.{lent, Taken};
 use board::Condition;
 use board::State;
 use effects::store_next;

@@ -2,8 +2,7 @@
 ghost use mathlib.Core.Path.{_≡_};
 ghost use Rattle.board.specs.declared.Call.the-variants.{Step};
 ghost use Rattle.board.specs.Effects.{effect};
-ghost use Rattle.board.specs.Next.{lent};
-ghost use Rattle.board.specs.Sequence.{Taken};
+ghost use Rattle.board.specs.Next.{lent, Taken};
 ghost use Rattle.effects.specs.Progress.{progressed};
 use board::Phase;
 use board::State;

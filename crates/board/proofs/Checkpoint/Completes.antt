@@ -8,7 +8,7 @@ use native.Mathlib.Omega.{arith}
 use borrow.Author.Tests.{eq-eqb}
 use Rattle.line.specs.Cell.{cellLine}
 use Rattle.board.specs.Causes.{cause}
-use Rattle.board.specs.Next.{taken}
+use Rattle.board.specs.Next.{taken, Taken}
 use Rattle.board.specs.declared.State.{State}
 use Rattle.board.specs.declared.UndoStep.{UndoStep}
 use Rattle.board.specs.declared.UndoStep.the-variants.{Restore, Unmark, WriteLine}
@@ -24,7 +24,7 @@ use Rattle.board.specs.Board.{Board, cells, epochOf}
 use Rattle.board.specs.State.{conditionOf, isFormatting, placed}
 use Rattle.board.specs.Effects.{effect, step, recoveryStep, advance, advanceOf, logged, cached, restored, stated, pastCell}
 use Rattle.board.specs.Machine.{Machine, Unfinished, none, update, feed, advanced, fewer}
-use Rattle.board.specs.Sequence.{Taken, Event, call, cut, Run, after, Allowed}
+use Rattle.board.specs.Sequence.{Event, call, cut, Run, after, Allowed}
 use Rattle.board.specs.Statements.{Unchanged, Completed, formatStepAt}
 use Rattle.board.proofs.Laws.Bools.{on, clash, and-before}
 use Rattle.board.proofs.Laws.View.{Sized, cell-line}

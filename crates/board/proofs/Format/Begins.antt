@@ -2,22 +2,21 @@
 use Prim.Native.Nat.{ℕ, suc, _+_}
 use mathlib.Core.Path.{_≡_, refl, sym, ap, subst, _∙_}
 use mathlib.Core.List.{List}
-use mathlib.Core.Bool.{false, not, _||_}
+use mathlib.Core.Bool.{false, not, _||_, true≢false}
 use native.Mathlib.Omega.{arith}
 use native.Mathlib.Decide.{decLe}
 use Rattle.board.specs.declared.Phase.{Phase}
 use Rattle.board.specs.declared.Phase.the-variants.{Formatting}
 use Rattle.board.specs.declared.Call.{Call}
-use Rattle.board.specs.declared.Call.the-variants.{FormatStart, RecoveryStart, Step, Update, RestartPoint, Advance, Request, WriteBack, Read}
+use Rattle.board.specs.declared.Call.the-variants.{FormatStart, Step}
 use Rattle.board.specs.Board.{Board}
 use Rattle.board.specs.State.{isOff, isFormatting, isRunning}
-use Rattle.board.specs.Causes.{causes}
-use Rattle.board.specs.Next.{start, stepping, other, kind}
+use Rattle.board.specs.Next.{Taken, Kind, startsFormat, startsRecovery, stepping, writing, other, reading, kind, isStart, isStep}
 use Rattle.board.specs.Machine.{Machine, formatSteps}
-use Rattle.board.specs.Sequence.{Taken, Takes, finished, steps, between, Begins, formatted, opening}
+use Rattle.board.specs.Sequence.{Takes, finished, steps, between, Begins, formatted, opening}
 use Rattle.board.proofs.Laws.Bools.{clash}
 use Rattle.board.proofs.Invariant.{Inv}
-use Rattle.board.proofs.Laws.Taken.{standsAt, passed, taken-next, refused-next}
+use Rattle.board.proofs.Laws.Taken.{phaseBars, phase-passed, taken-next, refused-next}
 use Rattle.board.proofs.Format.Board.{Formats, Fresh, format-begins, erasing-step, format-erases, finishing-step, format-finishes}
 use Rattle.board.proofs.Keeps.FormatStep.{fresh-inv}
 
@@ -31,26 +30,17 @@ not-running b p e = clash (ap (λ (k : Phase). not (isRunning k)) p) e
 not-written : (b : Board) → b .state .phase ≡ Formatting → isOff (b .state .phase) || isFormatting (b .state .phase) ≡ false → ⊥
 not-written b p e = clash (ap (λ (k : Phase). isOff k || isFormatting k) p) e
 
--- A start is no other call.
-start-other : start ≡ other → ⊥
-start-other e = let z : _≡_ {A = ℕ} 0 1 = cc in omega arith
-
--- A step is no other call.
-stepping-other : stepping ≡ other → ⊥
-stepping-other e = let z : _≡_ {A = ℕ} 0 1 = cc in omega arith
-
 -- In a format every call but the starts and the step is refused.
-pub format-refuses : (k : Call) (b : Board) → b .state .phase ≡ Formatting → kind k ≡ other → Taken k b → ⊥
-unfolding standsAt causes
-format-refuses (FormatStart l w) b p o t = start-other o
-format-refuses RecoveryStart b p o t = start-other o
-format-refuses Step b p o t = stepping-other o
-format-refuses (Update w c v) b p o t = not-running b p (passed (Update w c v) b t 2)
-format-refuses (RestartPoint w v) b p o t = not-running b p (passed (RestartPoint w v) b t 2)
-format-refuses (Advance w) b p o t = not-running b p (passed (Advance w) b t 2)
-format-refuses Request b p o t = not-running b p (passed Request b t 2)
-format-refuses (WriteBack l) b p o t = not-written b p (passed (WriteBack l) b t 2)
-format-refuses (Read c) b p o t = not-running b p (passed (Read c) b t 2)
+pub format-refuses : (k : Call) (b : Board) → b .state .phase ≡ Formatting → isStart (kind k) || isStep (kind k) ≡ false → Taken k b → ⊥
+format-refuses k b p o t = barred (kind k) o (phase-passed k b t)
+  where
+    barred : (d : Kind) → isStart d || isStep d ≡ false → phaseBars d b ≡ false → ⊥
+    barred startsFormat u e = true≢false u
+    barred startsRecovery u e = true≢false u
+    barred stepping u e = true≢false u
+    barred writing u e = not-written b p e
+    barred other u e = not-running b p e
+    barred (reading c) u e = not-running b p e
 
 -- ---- a format taken to its end
 

@@ -18,7 +18,6 @@ use Rattle.board.specs.State.{allFree, conditionOf, placed, opened}
 use Rattle.board.specs.Causes.{causes, badRows}
 use Rattle.board.specs.Effects.{effect, step, formatStep, inBoth}
 use Rattle.board.specs.Machine.{none, beginning}
-use Rattle.board.specs.Sequence.{Taken}
 use Rattle.board.specs.Statements.{Spare}
 use Rattle.board.proofs.Laws.Bools.{chosen, passedOver, or-left, or-right, not-off, clash}
 use Rattle.board.proofs.Laws.View.{View, view, Sized}
@@ -27,6 +26,7 @@ use Rattle.board.proofs.Laws.Taken.{standsAt, passed, workers-in}
 use Rattle.board.proofs.Laws.Idle.{free-condition}
 use Rattle.board.proofs.Laws.Count.{count-none}
 use Rattle.board.proofs.Format.Rows.{zeros, zeroed-none, sized-erased, spare-erase, zeroed-erase, epoch-erase, sized-fresh, epoch-fresh, header-fresh, view-fresh, spare-fresh, undoes-fresh, kept-fresh}
+use Rattle.board.specs.Next.{Taken}
 
 -- A board in a format of `l` lines.
 pub record Formats (l : ℕ) (b : Board) : Type 0 where

@@ -12,11 +12,11 @@ use Rattle.board.specs.State.{allFree, isOff, isRunning}
 use Rattle.board.specs.Causes.{placePast}
 use Rattle.board.specs.Effects.{effect}
 use Rattle.board.specs.Machine.{formatSteps}
-use Rattle.board.specs.Sequence.{Taken}
 use Rattle.board.specs.Statements.{stepsFrom, AllTaken, EndsIn, FormatEnds}
 use Rattle.board.proofs.Laws.Taken.{taken-next}
 use Rattle.board.proofs.Laws.Idle.{idle-step-taken, ends-more}
 use Rattle.board.proofs.Format.Board.{Formats, format-begins, erasing, erasing-step, format-erases, finishing, finishing-step}
+use Rattle.board.specs.Next.{Taken}
 
 -- A format from its start on, undisturbed: the list is empty and all workers are free.
 record Alone (l : ℕ) (b : Board) : Type 0 where

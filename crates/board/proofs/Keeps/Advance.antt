@@ -20,7 +20,7 @@ use Rattle.board.specs.State.{conditionOf, isUpdating}
 use Rattle.board.specs.Causes.{causes}
 use Rattle.board.specs.Effects.{recorded, afterLast, advance, advanceOf, effect}
 use Rattle.board.specs.Machine.{Unfinished, none, update, changed, fewer, advanced, feed}
-use Rattle.board.specs.Sequence.{Taken, Run}
+use Rattle.board.specs.Sequence.{Run}
 use Rattle.board.proofs.Laws.Bools.{on}
 use Rattle.board.proofs.Laws.View.{View, view, put, view-value, view-store}
 use Rattle.board.proofs.Invariant.{BeforeStore, storesLeft, WorkerInv, Touches, Inv}
@@ -28,6 +28,7 @@ use Rattle.board.proofs.Laws.Taken.{standsAt, passed, afterTaken}
 use Rattle.board.proofs.Laws.Rows.{epoch-store}
 use Rattle.board.proofs.Laws.Count.{changed-at, changed-other}
 use Rattle.board.proofs.Keeps.OneCell.{CellInv, ListInv, cell-inv, list-inv, list-more, only-store, Change, changedRun, Ready, ready, one-cell}
+use Rattle.board.specs.Next.{Taken}
 
 -- ---- a cell's view
 

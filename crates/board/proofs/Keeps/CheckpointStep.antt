@@ -18,7 +18,7 @@ use Rattle.board.specs.Board.{Board, cells, epochOf}
 use Rattle.board.specs.State.{freeWorker, allFree, conditionOf, isWaiting, placed, released}
 use Rattle.board.specs.Effects.{writtenBack, cached, stated, Act, writeLine, storeEpoch, writeHeader, release, actAt, performAct}
 use Rattle.board.specs.Machine.{Unfinished, none, update, Machine, countUnder, counted, completed, dropped, checkpointStep}
-use Rattle.board.specs.Sequence.{Taken, Run}
+use Rattle.board.specs.Sequence.{Run}
 use Rattle.board.proofs.Laws.Bools.{chosen, passedOver}
 use Rattle.board.proofs.Laws.View.{View, view, Sized, cell-line, view-backed, view-header}
 use Rattle.board.proofs.Invariant.{Undo, WorkerInv, Touches, AllWait, SameRecords, Early, Late, Stage, early, gap, late, RunningInv, Inv}
@@ -30,6 +30,7 @@ use Rattle.board.proofs.Checkpoint.Run.{Carried, RunningRun, running-ru
 use Rattle.board.proofs.Checkpoint.Stages.{moved, early-placed, early-back}
 use Rattle.board.proofs.Checkpoint.Back.{quiet-back, header-back}
 use Rattle.board.proofs.Checkpoint.Acts.{act-line, act-epoch, act-header, act-release, machine-counts, machine-completes, machine-drops, acted, step-acts, step-ready}
+use Rattle.board.specs.Next.{Taken}
 
 -- ---- workers that wait
 

@@ -15,9 +15,9 @@ use Rattle.board.specs.Board.{Board}
 use Rattle.board.specs.State.{isOff}
 use Rattle.board.specs.Causes.{causes, cause}
 use Rattle.board.specs.Effects.{effect}
-use Rattle.board.specs.Next.{taken, next, kind, isStart}
+use Rattle.board.specs.Next.{taken, next, kind, isStart, Taken}
 use Rattle.board.specs.Machine.{Machine, feed}
-use Rattle.board.specs.Sequence.{Taken, Event, call, cut, Run, cutBoard, takenCall, refusedCall, after, runs, Allowed, Lawful, Reached, reached, opening}
+use Rattle.board.specs.Sequence.{Event, call, cut, Run, cutBoard, takenCall, refusedCall, after, runs, Allowed, Lawful, Reached, reached, opening}
 use Rattle.board.proofs.Laws.Bools.{split, clash, chosen, passedOver}
 use Rattle.board.proofs.Laws.View.{Sized}
 use Rattle.board.proofs.Invariant.{Inv}

@@ -6,11 +6,12 @@ use Rattle.board.specs.declared.Call.the-variants.{FormatStart}
 use Rattle.board.specs.Board.{Board}
 use Rattle.board.specs.Effects.{effect}
 use Rattle.board.specs.Machine.{feed}
-use Rattle.board.specs.Sequence.{Taken, Run}
+use Rattle.board.specs.Sequence.{Run}
 use Rattle.board.specs.Statements.{Spare}
 use Rattle.board.proofs.Invariant.{Kept, Sizes, Inv}
 use Rattle.board.proofs.Laws.Taken.{afterTaken}
 use Rattle.board.proofs.Format.Board.{start-sizes, format-begins}
+use Rattle.board.specs.Next.{Taken}
 
 -- Rows have lengths for one number of lines only.
 pub lines-same : (l k : ℕ) (b : Board) → Sizes l b → Sizes k b → k ≡ l

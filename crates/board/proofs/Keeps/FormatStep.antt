@@ -12,12 +12,13 @@ use Rattle.board.specs.declared.Call.the-variants.{Step}
 use Rattle.board.specs.Board.{Board}
 use Rattle.board.specs.Effects.{effect}
 use Rattle.board.specs.Machine.{Machine, beginning, counted, formatSteps, finishesFormat, checkpointStep, stepped, feed}
-use Rattle.board.specs.Sequence.{Taken, Run, erasedBy}
+use Rattle.board.specs.Sequence.{Run, erasedBy}
 use Rattle.board.specs.Statements.{Spare}
 use Rattle.board.proofs.Laws.Bools.{chosen, passedOver, and-both, and-off-right}
 use Rattle.board.proofs.Invariant.{FormatMachine, InPhase, Inv}
 use Rattle.board.proofs.Laws.Taken.{afterTaken}
 use Rattle.board.proofs.Format.Board.{Formats, Erased, Fresh, erasing, erasing-step, format-erases, finishing, finishing-step, format-finishes}
+use Rattle.board.specs.Next.{Taken}
 
 -- ---- the machine
 

@@ -21,7 +21,7 @@ use Rattle.board.specs.declared.Condition.the-variants.{Free, Waiting, U
 use Rattle.board.specs.declared.Phase.{Phase}
 use Rattle.board.specs.declared.Phase.the-variants.{Off, Formatting, Recovering, Running}
 use Rattle.board.specs.Board.{Board, cells, listWords, epochOf}
-use Rattle.board.specs.State.{freeWorker, conditionOf, conditioned, isWaiting, isRunning}
+use Rattle.board.specs.State.{freeWorker, conditionOf, conditioned, relisted, isWaiting, isRunning}
 use Rattle.board.specs.Causes.{noWorker, notRunning}
 use Rattle.board.specs.Machine.{Unfinished, Machine, changed, countUnder}
 use Rattle.board.specs.Sequence.{Run}
@@ -133,7 +133,7 @@ pub record Change : Type 0 where
 -- The board after a change.
 abbrev pub changedBoard : Change → Board → Board
 changedBoard ch b =
-    record { state = conditioned (b .state) (ch .worker) (ch .condition) (ch .listed); memory = b .memory; cache = ch .cache; entries = ch .entries }
+    record { state = relisted (conditioned (b .state) (ch .worker) (ch .condition)) (ch .listed); memory = b .memory; cache = ch .cache; entries = ch .entries }
 
 -- The machine after a change.
 abbrev pub changedMachine : Change → Machine → Machine
@@ -200,12 +200,12 @@ ready r w test unlike inv crashed on worker holds = go (r .board .state .phase) 
 -- ---- the workers after a change
 
 -- The worker has its new condition.
-condition-at : (s : State) (w : ℕ) (condition : Condition) (listed : ℕ) → w < length (s .worker) → conditionOf (conditioned s w condition listed) w ≡ condition
-condition-at s w condition listed h = ap (λ (x : Worker). x .condition) (getD-set-same (s .worker) w (record { condition = condition }) freeWorker h)
+condition-at : (s : State) (w : ℕ) (condition : Condition) → w < length (s .worker) → conditionOf (conditioned s w condition) w ≡ condition
+condition-at s w condition h = ap (λ (x : Worker). x .condition) (getD-set-same (s .worker) w (record { condition = condition }) freeWorker h)
 
 -- Every other worker has its old one.
-condition-other : (s : State) (w : ℕ) (condition : Condition) (listed u : ℕ) → (w ≡ u → ⊥) → conditionOf (conditioned s w condition listed) u ≡ conditionOf s u
-condition-other s w condition listed u o =
+condition-other : (s : State) (w : ℕ) (condition : Condition) (u : ℕ) → (w ≡ u → ⊥) → conditionOf (conditioned s w condition) u ≡ conditionOf s u
+condition-other s w condition u o =
     ap (λ (x : Worker). x .condition) (getD-set-other (s .worker) w u (record { condition = condition }) freeWorker (λ e. o (sym e)))
 
 -- A worker's update of another cell is as it was.
@@ -259,10 +259,10 @@ module _ (b : Board) (m : Machine) (ch : Change) (run : RunningInv (m .lines) b 
 
   -- The worker after a change, and every other.
   at : conditionOf (changedBoard ch b .state) (ch .worker) ≡ ch .condition
-  at = condition-at (b .state) (ch .worker) (ch .condition) (ch .listed) seat
+  at = condition-at (b .state) (ch .worker) (ch .condition) seat
 
   other : (u : ℕ) → (ch .worker ≡ u → ⊥) → conditionOf (changedBoard ch b .state) u ≡ conditionOf (b .state) u
-  other = condition-other (b .state) (ch .worker) (ch .condition) (ch .listed)
+  other = condition-other (b .state) (ch .worker) (ch .condition)
 
   -- Every worker's update is as the machine has it.
   each-worker : (u : ℕ) → u < b .state .workers → WorkerInv (m .lines) (ch .cache) (conditionOf (changedBoard ch b .state) u) (changed (m .unfinished) (ch .worker) (ch .unfinished) u)

@@ -5,11 +5,12 @@ use native.Mathlib.Omega.{arith}
 use Rattle.board.specs.declared.Call.the-variants.{RecoveryStart}
 use Rattle.board.specs.Effects.{effect}
 use Rattle.board.specs.Machine.{feed}
-use Rattle.board.specs.Sequence.{Taken, Run}
+use Rattle.board.specs.Sequence.{Run}
 use Rattle.board.proofs.Laws.Bools.{split}
 use Rattle.board.proofs.Invariant.{Kept, RecoveryInv, Inv}
 use Rattle.board.proofs.Laws.Taken.{afterTaken}
 use Rattle.board.proofs.Recovery.Board.{some-cell, started-header}
+use Rattle.board.specs.Next.{Taken}
 
 -- A recovery start is taken only where no format is unfinished.
 pub erased-off : (r : Run) → Inv r → Taken RecoveryStart (r .board) → r .erased ≡ false

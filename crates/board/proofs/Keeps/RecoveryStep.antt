@@ -20,7 +20,7 @@ use Rattle.board.specs.Board.{Board, cells, epochOf}
 use Rattle.board.specs.State.{placed, opened}
 use Rattle.board.specs.Effects.{writtenBack, logged, restored, unmarked, pastCell, effect}
 use Rattle.board.specs.Machine.{Machine, countUnder, counted, stepped, feed}
-use Rattle.board.specs.Sequence.{Taken, Run, erasedBy}
+use Rattle.board.specs.Sequence.{Run, erasedBy}
 use Rattle.board.proofs.Laws.Bools.{passedOver, clash, and-off}
 use Rattle.board.proofs.Laws.View.{View, view, view-mark, view-backup, view-store, view-backed, cell-line}
 use Rattle.board.proofs.Invariant.{Sizes, AtPlace, RecoveryInv, RecoveryMachine, WorkerInv, Touches, progress, Early, early, RunningInv, InPhase, Inv}
@@ -28,6 +28,7 @@ use Rattle.board.proofs.Laws.Taken.{afterTaken}
 use Rattle.board.proofs.Recovery.Board.{recovery-cases, past-cases, Underway, underway-placed, underway-opened, all-free}
 use Rattle.board.proofs.Laws.Count.{count-none}
 use Rattle.board.proofs.Recovery.Rows.{whole-epoch, whole-kept, Restoring, restoring-own, restoring-store, restoring-back, restoring-past}
+use Rattle.board.specs.Next.{Taken}
 
 -- ---- the machine
 

@@ -11,11 +11,12 @@ use Rattle.board.specs.State.{isRunning, requesting}
 use Rattle.board.specs.Causes.{causes, epochSpent}
 use Rattle.board.specs.Effects.{stated, effect}
 use Rattle.board.specs.Machine.{Machine, startedRequest, feed}
-use Rattle.board.specs.Sequence.{Taken, Run}
+use Rattle.board.specs.Sequence.{Run}
 use Rattle.board.proofs.Laws.Bools.{clash, not-off}
 use Rattle.board.proofs.Invariant.{Early, Stage, early, gap, late, RunningInv, Inv}
 use Rattle.board.proofs.Laws.Taken.{standsAt, passed, afterTaken}
 use Rattle.board.proofs.Checkpoint.Run.{is-running, running-run, inv-running}
+use Rattle.board.specs.Next.{Taken}
 
 -- Where no request stands the board is before the epoch's store.
 pub unrequested-early : {l : ℕ} {b : Board} {m : Machine} → b .state .requested ≡ false → Stage l b m → Early l b m

@@ -16,12 +16,13 @@ use Rattle.board.specs.State.{conditionOf, isFree, updates, othersUpdate
 use Rattle.board.specs.Causes.{causes}
 use Rattle.board.specs.Effects.{firstStore, logged, effect}
 use Rattle.board.specs.Machine.{update, Machine, feed}
-use Rattle.board.specs.Sequence.{Taken, Run}
+use Rattle.board.specs.Sequence.{Run}
 use Rattle.board.proofs.Laws.Bools.{clash, or-right, and-not, and-both, not-to, none-under}
 use Rattle.board.proofs.Laws.View.{View, view, view-mark}
 use Rattle.board.proofs.Invariant.{BeforeStore, storesLeft, WorkerInv, Touches, Inv}
 use Rattle.board.proofs.Laws.Taken.{standsAt, passed, afterTaken, workers-in}
 use Rattle.board.proofs.Keeps.OneCell.{cell-inv, list-inv, only-none, Change, changedRun, Ready, ready, one-cell}
+use Rattle.board.specs.Next.{Taken}
 
 -- ---- what the passed tests say
 

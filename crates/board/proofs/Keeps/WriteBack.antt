@@ -16,7 +16,7 @@ use Rattle.board.specs.State.{isOff, isFormatting}
 use Rattle.board.specs.Causes.{causes, notRecoveringOrRunning}
 use Rattle.board.specs.Effects.{writtenBack, backed, effect}
 use Rattle.board.specs.Machine.{Machine, markedCount, completed, writeBackSeen, feed}
-use Rattle.board.specs.Sequence.{Taken, Run}
+use Rattle.board.specs.Sequence.{Run}
 use Rattle.board.proofs.Laws.Bools.{on, passedOver, clash, and-left, and-right, and-both, and-off, and-off-right}
 use Rattle.board.proofs.Laws.View.{View, view, sized-back}
 use Rattle.board.proofs.Invariant.{Undoes, Sizes, AtPlace, RecoveryInv, Stage, early, gap, late, RunningInv, InPhase, Inv}
@@ -26,6 +26,7 @@ use Rattle.board.proofs.Checkpoint.Run.{Carried, RunningRun, running-ru
 use Rattle.board.proofs.Checkpoint.Memory.{both-back, epoch-back, kept-back}
 use Rattle.board.proofs.Checkpoint.Stages.{place-high, early-back, gap-back, late-back}
 use Rattle.board.proofs.Checkpoint.Back.{backRun, quiet-back, header-back}
+use Rattle.board.specs.Next.{Taken}
 
 -- ---- recovering
 

@@ -13,8 +13,7 @@ use Rattle.board.specs.declared.Call.the-variants.{Step}
 use Rattle.board.specs.Board.{Board, cells, workersOutside}
 use Rattle.board.specs.State.{freeWorker, allFree, conditionOf, isOff, isRunning, isWaiting, updates, anyWorker}
 use Rattle.board.specs.Causes.{causes, placePast, badRows, badEntry, checkpointing, epochSpent}
-use Rattle.board.specs.Next.{next}
-use Rattle.board.specs.Sequence.{Taken}
+use Rattle.board.specs.Next.{next, Taken}
 use Rattle.board.specs.Statements.{stepsFrom, AllTaken, EndsIn}
 use Rattle.board.proofs.Laws.Bools.{or-none, and-off}
 use Rattle.board.proofs.Invariant.{Sizes}

@@ -18,9 +18,9 @@ use Rattle.board.specs.declared.Call.the-variants.{Read}
 use Rattle.board.specs.Board.{Board, cells, linesOutside}
 use Rattle.board.specs.State.{conditionOf, updates, isRunning}
 use Rattle.board.specs.Causes.{causes, cause, badRecord, badRows, placePast}
-use Rattle.board.specs.Next.{taken, valueRead}
+use Rattle.board.specs.Next.{taken, valueRead, Taken}
 use Rattle.board.specs.Machine.{Machine, Unfinished}
-use Rattle.board.specs.Sequence.{Taken, Run}
+use Rattle.board.specs.Sequence.{Run}
 use Rattle.board.proofs.Laws.Bools.{split, chosen, and-off, and-off-right, not-on}
 use Rattle.board.proofs.Laws.View.{view, view-value}
 use Rattle.board.proofs.Invariant.{Inv, InPhase, RunningInv, Stage, early, gap, late, WorkerInv, progress}

@@ -13,12 +13,11 @@ use Rattle.board.specs.declared.Call.{Call}
 use Rattle.board.specs.declared.Call.the-variants.{FormatStart, RecoveryStart, Step, Update, RestartPoint, Advance, Request, WriteBack, Read}
 use Rattle.board.specs.Board.{Board, cells, rowWords, listWords, linesOutside, workersOutside, outside}
 use Rattle.board.specs.State.{conditionOf, updates, anyUnder, anyWorker}
-use Rattle.board.specs.Causes.{Cause, causes, firstStanding, cause, badRecord, badRows, placePast}
+use Rattle.board.specs.Causes.{Cause, causes, firstStanding, cause, badRecord, badRows, placePast, notOn, notRecoveringOrRunning, notRunning}
 use Rattle.board.specs.Effects.{effect}
-use Rattle.board.specs.Next.{taken, next}
 use Rattle.board.specs.Machine.{Machine, feed}
-use Rattle.board.specs.Sequence.{Taken, Run, erasedBy}
-use Rattle.board.specs.Next.{kind, isStart}
+use Rattle.board.specs.Sequence.{Run, erasedBy}
+use Rattle.board.specs.Next.{Taken, taken, next, Kind, startsFormat, startsRecovery, stepping, writing, other, reading, kind, isStart}
 use Rattle.board.proofs.Laws.Bools.{split, chosen, passedOver, or-left, or-right, or-none, and-left, and-right, and-both, and-if, not-off, not-on, under-none}
 use Rattle.board.proofs.Laws.View.{Sized}
 use Rattle.board.proofs.Invariant.{Sizes}
@@ -67,23 +66,57 @@ clear-at (k ∷ ks) c n =
     (λ t. chosen (eqb (k .number) n) (k .stands) (standsAt n ks) t ∙ c .0)
     (λ f. passedOver (eqb (k .number) n) (k .stands) (standsAt n ks) f ∙ clear-at ks (c .1) n)
 
--- Every row of every call has a number other than 0.
-table-numbered : (k : Call) (b : Board) → numbered (causes k b) ≡ true
-unfolding numbered causes
-table-numbered (FormatStart l w) b = refl
-table-numbered RecoveryStart b = refl
-table-numbered Step b = refl
-table-numbered (Update w c v) b = refl
-table-numbered (RestartPoint w v) b = refl
-table-numbered (Advance w) b = refl
-table-numbered Request b = refl
-table-numbered (WriteBack l) b = refl
-table-numbered (Read c) b = refl
+-- The phase's test that a call of each kind must pass.
+abbrev pub phaseBars : Kind → Board → Bool
+phaseBars startsFormat b = false
+phaseBars startsRecovery b = false
+phaseBars stepping b = notOn b
+phaseBars writing b = notRecoveringOrRunning b
+phaseBars other b = notRunning b
+phaseBars (reading c) b = notRunning b
+
+-- The call of a kind that has only one.
+abbrev pub OfKind : Kind → Call → Type 0
+OfKind startsFormat k = (l : ℕ) × (w : ℕ) × (k ≡ FormatStart l w)
+OfKind startsRecovery k = k ≡ RecoveryStart
+OfKind stepping k = k ≡ Step
+OfKind writing k = (l : ℕ) × (k ≡ WriteBack l)
+OfKind other k = Unit {0}
+OfKind (reading c) k = k ≡ Read c
+
+-- What a call's rows of the table and its kind have in common with every other call's.
+record Entered (k : Call) : Type 0 where
+  -- every row has a number other than 0
+  numbers : (b : Board) → numbered (causes k b) ≡ true
+  -- the row of cause 2 is that of the kind
+  phase : (b : Board) → standsAt 2 (causes k b) ≡ phaseBars (kind k) b
+  -- the kind tells the call
+  named : OfKind (kind k) k
+
+entered : (k : Call) → Entered k
+unfolding numbered standsAt causes
+entered (FormatStart l w) = record { numbers = λ b. refl; phase = λ b. refl; named = (l, w, refl) }
+entered RecoveryStart = record { numbers = λ b. refl; phase = λ b. refl; named = refl }
+entered Step = record { numbers = λ b. refl; phase = λ b. refl; named = refl }
+entered (Update w c v) = record { numbers = λ b. refl; phase = λ b. refl; named = tt }
+entered (RestartPoint w v) = record { numbers = λ b. refl; phase = λ b. refl; named = tt }
+entered (Advance w) = record { numbers = λ b. refl; phase = λ b. refl; named = tt }
+entered Request = record { numbers = λ b. refl; phase = λ b. refl; named = tt }
+entered (WriteBack l) = record { numbers = λ b. refl; phase = λ b. refl; named = (l, refl) }
+entered (Read c) = record { numbers = λ b. refl; phase = λ b. refl; named = refl }
 
 -- A taken call passes the test of every number. (`unfolding standsAt causes` opens the test.)
 pub passed : (k : Call) (b : Board) → Taken k b → (n : ℕ) → standsAt n (causes k b) ≡ false
 unfolding cause
-passed k b t n = clear-at (causes k b) (first-clear (causes k b) (table-numbered k b) t) n
+passed k b t n = clear-at (causes k b) (first-clear (causes k b) (entered k .numbers b) t) n
+
+-- A taken call passes the phase's test of its kind.
+pub phase-passed : (k : Call) (b : Board) → Taken k b → phaseBars (kind k) b ≡ false
+phase-passed k b t = sym (entered k .phase b) ∙ passed k b t 2
+
+-- A call of a kind that has only one is that call.
+pub of-kind : (k : Call) (d : Kind) → kind k ≡ d → OfKind d k
+of-kind k d e = subst (λ (x : Kind). OfKind x k) e (entered k .named)
 
 -- A call that passes every test is taken. (`unfolding Clear causes` opens what is to be shown.)
 pub take : (k : Call) (b : Board) → Clear (causes k b) → Taken k b

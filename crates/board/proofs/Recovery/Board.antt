@@ -20,11 +20,11 @@ use Rattle.board.specs.Board.{Board, cells, rowWords, listWords, linesOu
 use Rattle.board.specs.State.{freeWorker, allFree, conditionOf, placed, opened}
 use Rattle.board.specs.Effects.{cached, stated, backed, logged, restored, unmarked, pastCell, recoveryStep, step, effect}
 use Rattle.board.specs.Causes.{causes}
-use Rattle.board.specs.Sequence.{Taken}
 use Rattle.board.proofs.Laws.Bools.{on, or-left, or-right, and-left, and-right, and-both, not-off, not-on}
 use Rattle.board.proofs.Invariant.{Sizes}
 use Rattle.board.proofs.Laws.Idle.{free-condition}
 use Rattle.board.proofs.Laws.Taken.{standsAt, passed, lines-in}
+use Rattle.board.specs.Next.{Taken}
 
 -- ---- the step by cases
 

@@ -18,7 +18,7 @@ use Rattle.board.specs.Board.{Board, cells, linesOf}
 use Rattle.board.specs.State.{isOff, isRunning, isRecovering, placed}
 use Rattle.board.specs.Causes.{placePast}
 use Rattle.board.specs.Effects.{cached, pastCell, effect}
-use Rattle.board.specs.Sequence.{Taken, recoverySteps}
+use Rattle.board.specs.Sequence.{recoverySteps}
 use Rattle.board.specs.Statements.{stepsFrom, AllTaken, EndsIn, RecoveryEnds}
 use Rattle.board.proofs.Laws.View.{Sized, sized-store, sized-back, cell-line}
 use Rattle.board.proofs.Invariant.{Sizes}
@@ -26,6 +26,7 @@ use Rattle.board.proofs.Laws.Taken.{taken-next}
 use Rattle.board.proofs.Laws.Idle.{idle-step-taken, ends-more}
 use Rattle.board.proofs.Recovery.Board.{recovery-cases, past-cases, Underway, underway-placed, some-cell, started-header, started-sizes}
 use Rattle.board.proofs.Recovery.Count.{remaining, remaining-start, remaining-positive, remaining-step}
+use Rattle.board.specs.Next.{Taken}
 
 -- ---- a recovery at any board
 

@@ -3,25 +3,24 @@ use Prim.Native.Nat.{ℕ, zero, suc, _+_, _≤_, _<_}
 use mathlib.Core.Path.{_≡_, refl, sym, ap, subst, _∙_}
 use mathlib.Core.Logic.{_⊎_, inl, inr, ⊎-elim}
 use mathlib.Core.List.{List}
-use mathlib.Core.Bool.{Bool, true, false, cond, not, _&&_, true≢false}
+use mathlib.Core.Bool.{Bool, true, false, cond, not, _&&_, _||_, true≢false}
 use native.Mathlib.Omega.{arith}
 use native.Mathlib.Numerals.{add-one}
 use lib.Dec.{leb, eqb}
 use Rattle.board.specs.declared.Phase.{Phase}
 use Rattle.board.specs.declared.Phase.the-variants.{Recovering, Running}
 use Rattle.board.specs.declared.Call.{Call}
-use Rattle.board.specs.declared.Call.the-variants.{FormatStart, RecoveryStart, Step, Update, RestartPoint, Advance, Request, WriteBack, Read}
+use Rattle.board.specs.declared.Call.the-variants.{RecoveryStart, Step, WriteBack, Read}
 use Rattle.board.specs.Board.{Board, cells}
 use Rattle.board.specs.State.{isRunning}
-use Rattle.board.specs.Causes.{causes}
 use Rattle.board.specs.Effects.{effect}
-use Rattle.board.specs.Next.{next, valueRead, Kind, start, stepping, other, kind, isStart, isStep}
+use Rattle.board.specs.Next.{Taken, next, valueRead, Kind, startsFormat, startsRecovery, stepping, writing, other, reading, kind, isStart, isStep}
 use Rattle.board.specs.Machine.{Machine, feed, stepped, finishesFormat, beginning, counted, completed, checkpointStep, writeBackSeen, markedCount}
-use Rattle.board.specs.Sequence.{Taken, Event, call, Run, after, Allowed, Takes, finished, steps, between, recoverySteps}
+use Rattle.board.specs.Sequence.{Event, call, Run, after, Allowed, Takes, finished, steps, between, recoverySteps}
 use Rattle.board.specs.Statements.{ReadsCheckpointed, Recovered}
 use Rattle.board.proofs.Laws.Bools.{on, clash, and-off, and-off-right, passedOver}
 use Rattle.board.proofs.Invariant.{Inv, RecoveryInv, RecoveryMachine}
-use Rattle.board.proofs.Laws.Taken.{standsAt, passed, taken-next, refused-next, afterTaken}
+use Rattle.board.proofs.Laws.Taken.{phaseBars, phase-passed, of-kind, taken-next, refused-next, afterTaken}
 use Rattle.board.proofs.Keeps.Every.{by-answer}
 use Rattle.board.proofs.Laws.Reading.{in-phase, read-taken, read-current}
 use Rattle.board.proofs.Recovery.Count.{remaining, remaining-start, remaining-step, remaining-positive}
@@ -90,9 +89,9 @@ some-left : {l : ℕ} {xs : ℕ → ℕ} (r : Run) → Underway zero l xs r → 
 some-left r u =
     omega (arith, remaining-positive (r .board) (place-within r (u .inv) (u .uncut) (u .phase)), u .left)
 
--- Every call of a running board is refused in a recovery.
-not-running : (k : Call) (b : Board) → b .state .phase ≡ Recovering → (Taken k b → not (isRunning (b .state .phase)) ≡ false) → Taken k b → ⊥
-not-running k b p f t = clash (ap (λ (q : Phase). not (isRunning q)) p) (f t)
+-- In a recovery the phase doesn't allow a call that needs running.
+not-running : (b : Board) → b .state .phase ≡ Recovering → not (isRunning (b .state .phase)) ≡ false → ⊥
+not-running b p e = clash (ap (λ (q : Phase). not (isRunning q)) p) e
 
 module _ (l : ℕ) (xs : ℕ → ℕ) where
   -- After a taken step of the recovery one step fewer is left, or it was the last and the board is done.
@@ -123,17 +122,9 @@ module _ (l : ℕ) (xs : ℕ → ℕ) where
       go (inr x) =
           inr (omega (arith, x .1, u .left), done l xs (afterTaken Step r) inv uncut (x .0) lines values)
 
-  -- A call other than a start or step that is taken in a recovery is a write-back, which leaves it underway.
-  goes-on : (n : ℕ) (k : Call) (r : Run) → Underway n l xs r → Taken k (r .board) → kind k ≡ other → Underway n l xs (afterTaken k r)
-  unfolding standsAt causes
-  goes-on n (FormatStart k w) r u t e = absurd (true≢false (ap isStart e))
-  goes-on n RecoveryStart r u t e = absurd (true≢false (ap isStart e))
-  goes-on n Step r u t e = absurd (true≢false (ap isStep e))
-  goes-on n (Update w c v) r u t e = absurd (not-running (Update w c v) (r .board) (u .phase) (λ t. passed (Update w c v) (r .board) t 2) t)
-  goes-on n (RestartPoint w v) r u t e = absurd (not-running (RestartPoint w v) (r .board) (u .phase) (λ t. passed (RestartPoint w v) (r .board) t 2) t)
-  goes-on n (Advance w) r u t e = absurd (not-running (Advance w) (r .board) (u .phase) (λ t. passed (Advance w) (r .board) t 2) t)
-  goes-on n Request r u t e = absurd (not-running Request (r .board) (u .phase) (λ t. passed Request (r .board) t 2) t)
-  goes-on n (WriteBack i) r u t e =
+  -- A write-back leaves the recovery underway.
+  written-back : (n i : ℕ) (r : Run) → Underway n l xs r → Taken (WriteBack i) (r .board) → Underway n l xs (afterTaken (WriteBack i) r)
+  written-back n i r u t =
       record {
         inv = keeps-write-back r i (u .inv) (u .uncut) t;
         uncut = and-off (r .crashed) true (u .uncut);
@@ -142,7 +133,20 @@ module _ (l : ℕ) (xs : ℕ → ℕ) where
         lines = back-lines i (r .machine) ∙ u .lines;
         values = λ c. back-current i (r .machine) c ∙ u .values c;
       }
-  goes-on n (Read c) r u t e = absurd (not-running (Read c) (r .board) (u .phase) (λ t. passed (Read c) (r .board) t 2) t)
+
+  -- A call other than a start or step that is taken in a recovery is a write-back.
+  goes-on : (n : ℕ) (k : Call) (r : Run) → Underway n l xs r → Taken k (r .board) → isStart (kind k) || isStep (kind k) ≡ false → Underway n l xs (afterTaken k r)
+  goes-on n k r u t e = by-kind (kind k) refl e (phase-passed k (r .board) t)
+    where
+      by-kind : (d : Kind) → kind k ≡ d → isStart d || isStep d ≡ false → phaseBars d (r .board) ≡ false → Underway n l xs (afterTaken k r)
+      by-kind startsFormat q o p = absurd (true≢false o)
+      by-kind startsRecovery q o p = absurd (true≢false o)
+      by-kind stepping q o p = absurd (true≢false o)
+      by-kind writing q o p =
+          let (i, same) = of-kind k writing q in
+          subst (λ (x : Call). Underway n l xs (afterTaken x r)) (sym same) (written-back n i r u (subst (λ (x : Call). Taken x (r .board)) same t))
+      by-kind other q o p = absurd (not-running (r .board) (u .phase) p)
+      by-kind (reading c) q o p = absurd (not-running (r .board) (u .phase) p)
 
   -- To the last step, and the board is done.
   to-the-end : {n : ℕ} {ks : List Call} {b b′ : Board} → Takes n b ks b′ → (r : Run) → r .board ≡ b → Underway n l xs r → Done l xs b′

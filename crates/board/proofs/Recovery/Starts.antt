@@ -10,10 +10,11 @@ use Rattle.board.specs.declared.Call.{Call}
 use Rattle.board.specs.declared.Call.the-variants.{RecoveryStart}
 use Rattle.board.specs.Board.{Board, cells, epochOf, linesOf, workersOf, workersOutside, restNotZero}
 use Rattle.board.specs.Causes.{causes, badRecoveryRows, badHeader}
-use Rattle.board.specs.Sequence.{Taken, Run}
+use Rattle.board.specs.Sequence.{Run}
 use Rattle.board.proofs.Laws.Bools.{or-none, and-both, not-on}
 use Rattle.board.proofs.Invariant.{Inv, Kept, Header, Sizes}
 use Rattle.board.proofs.Laws.Taken.{Clear, take, lines-in}
+use Rattle.board.specs.Next.{Taken}
 
 -- The rows of a board pass recovery's test.
 rows-pass : (l : ℕ) (b : Board) → Sizes l b → badRecoveryRows b ≡ false
