@@ -49,6 +49,17 @@ pub record Header (l : ℕ) (row : List ℕ) : Type 0 where
   -- the words that mean nothing are zero
   pub rest : restNotZero row ≡ false
 
+-- The header's words after the epoch are the same in two rows.
+abbrev pub SameSizes : List ℕ → List ℕ → Type 0
+SameSizes row row′ = (k : ℕ) → 0 < k → k < 8 → getD row′ k 0 ≡ getD row k 0
+
+-- A board whose sizes are those of memory's header.
+pub record Own (b : Board) : Type 0 where
+  -- memory and cache have one header, but for the epoch
+  pub header : SameSizes (b .memory) (b .cache)
+  -- the record's W is the header's
+  pub workers : b .state .workers ≡ workersOf (b .memory)
+
 -- A memory from which recovery gives the values `xs`.
 pub record Kept (l : ℕ) (xs : ℕ → ℕ) (row : List ℕ) : Type 0 where
   -- recovery's start takes the header
@@ -126,6 +137,8 @@ pub record RecoveryInv (l : ℕ) (xs : ℕ → ℕ) (b : Board) : Type 0 where
   pub free : b .state .worker ≡ allFree
   -- the place is a cell's
   pub within : b .state .place < cells l
+  -- the sizes are memory's
+  pub own : Own b
   -- the cache has a good header
   pub header : Header l (b .cache)
   -- cache and memory have one epoch
@@ -261,6 +274,8 @@ pub record RunningInv (l : ℕ) (b : Board) (m : Machine) : Type 0 where
   pub request : m .requested ≡ b .state .requested
   -- there are eight workers
   pub eight : length (b .state .worker) ≡ 8
+  -- the sizes are memory's
+  pub own : Own b
   -- the cache has a good header
   pub header : Header l (b .cache)
   -- the cache too gives the checkpointed values by memory's epoch, so a write-back of any line at any time does no harm

@@ -1,4 +1,4 @@
--- Each call keeps the invariant; `Every` is all of them over whole sequences.
+-- Each call keeps the invariant; `Every` is all of them over whole histories.
 pub mod OneCell
 pub mod FormatStart
 pub mod FormatStep
@@ -9,4 +9,5 @@ pub mod Update
 pub mod Advance
 pub mod WriteBack
 pub mod CheckpointStep
+pub mod Quiet
 pub mod Every

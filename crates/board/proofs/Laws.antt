@@ -5,4 +5,5 @@ pub mod View
 pub mod Rows
 pub mod Taken
 pub mod Idle
+pub mod Takes
 pub mod Reading

@@ -7,5 +7,6 @@ pub mod Recovery
 pub mod Checkpoint
 pub mod Keeps
 pub mod Stores
+pub mod Updates
 pub mod Theorems
 pub mod Example

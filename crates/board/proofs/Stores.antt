@@ -16,7 +16,8 @@ use Rattle.board.specs.declared.Phase.the-variants.{Off, Formatting, Rec
 use Rattle.board.specs.declared.Call.{Call}
 use Rattle.board.specs.declared.Call.the-variants.{FormatStart, RecoveryStart, Step, Update, RestartPoint, Advance, Request, WriteBack, Read}
 use Rattle.board.specs.Board.{Board, epochOf}
-use Rattle.board.specs.State.{placed, conditionOf}
+use Rattle.board.specs.State.{placed, conditionOf, isFormatting}
+use Rattle.board.specs.Next.{kind}
 use Rattle.board.specs.Effects.{Act, writeLine, storeEpoch, writeHeader, release, cached, stated, logged, restored, pastCell, recoveryStep, actAt, listedLine, performAct, step, advance, advanceOf, effect}
 use Rattle.board.specs.Statements.{OneStore, noStore, oneWord, oneLine, several, SingleStores}
 use Rattle.board.proofs.Laws.Bools.{on}
@@ -46,8 +47,8 @@ checkpoint-stores writeHeader s b = oneLine 0 refl refl
 checkpoint-stores release s b = noStore refl refl
 
 -- A step in any phase but a format.
-step-stores : (p : Phase) (s : State) (b : Board) → several Step p ≡ false → OneStore b (step p s b)
-unfolding step several
+step-stores : (p : Phase) (s : State) (b : Board) → isFormatting p ≡ false → OneStore b (step p s b)
+unfolding step
 step-stores Off s b e = noStore refl refl
 step-stores Formatting s b e = absurd (true≢false e)
 step-stores Recovering s b e = recovery-stores (s .undo) s b
@@ -68,8 +69,8 @@ worker-stores Waiting w s b = noStore refl refl
 worker-stores (Updating n c v) w s b = advance-stores n w c v s b
 
 -- What any call but a format's step and a recovery's start does where it is taken.
-effect-stores : (k : Call) (b : Board) → several k (b .state .phase) ≡ false → OneStore b (effect k b)
-unfolding effect several
+effect-stores : (k : Call) (b : Board) → several (kind k) (b .state .phase) ≡ false → OneStore b (effect k b)
+unfolding effect
 effect-stores (FormatStart l w) b e = noStore refl refl
 effect-stores RecoveryStart b e = absurd (true≢false e)
 effect-stores Step b e = step-stores (b .state .phase) (b .state) b e

@@ -1,33 +1,38 @@
--- THE THEOREMS: every statement of `specs/Statements.antt`, proved. DEMAND 3 is `recovery`, and `two-boards` its consequence.
+-- THE THEOREMS: every statement of `specs/Statements.antt`, proved. DEMAND 3 is `demand3`.
 use Prim.Native.Nat.{ℕ, _+_, _<_}
 use mathlib.Core.Path.{_≡_, refl, sym, ap, subst, _∙_}
 use mathlib.Core.Logic.{_⊎_, inl, inr}
-use mathlib.Core.Bool.{Bool, true, false, not, true≢false}
+use mathlib.Core.Bool.{Bool, true, false, cond, not, true≢false}
 use native.Mathlib.Omega.{arith}
-use borrow.Author.Tests.{leb-false}
+use borrow.Author.Tests.{leb-false, eqb-true, eqb-false}
 use Rattle.board.specs.declared.Phase.{Phase}
 use Rattle.board.specs.declared.Phase.the-variants.{Off, Formatting, Recovering, Running}
-use Rattle.board.specs.declared.Call.{Call}
-use Rattle.board.specs.declared.Call.the-variants.{FormatStart, RecoveryStart, Step, Update, RestartPoint, Advance, Request, WriteBack, Read}
-use Rattle.board.specs.Board.{Board, cells, epochOf}
+use Rattle.board.specs.declared.Call.the-variants.{FormatStart, RecoveryStart, Read}
+use Rattle.board.specs.Board.{Board, cells, epochOf, linesOf, workersOf}
 use Rattle.board.specs.State.{isRunning, isFormatting}
 use Rattle.board.specs.Causes.{causes}
-use Rattle.board.specs.Sequence.{Event, call, cut, Run, after, Allowed, Reached}
-use Rattle.board.specs.Statements.{Reads, Recovery, formatStepAt, Unchanged, Completed, Completion, TwoBoards, FormatEnds, RecoveryEnds, CheckpointEnds, RecoveryStarts, SingleStores, SpareWords}
-use Rattle.board.proofs.Laws.Bools.{not-off}
+use Rattle.board.specs.Next.{Taken, next, valueRead, valueOf, Performed}
+use Rattle.board.specs.Machine.{Machine, beginning, formatSteps}
+use Rattle.board.specs.Sequence.{Begins, formatted, Run, cutRun, cuts, History, begun, further, rose, lastCheckpoint, recoverySteps}
+use Rattle.board.specs.Statements
+use Rattle.board.specs.Statements.{Reads, ReadsCheckpointed, Recovered, Recovery, CutAndRecovered, ReadAlike, Demand3, LastCheckpoint, OwnSizes, RecoveredSizes, Completes, formatStepIn, Completion, stepsFrom, FormatEnds, RecoveryEnds, CheckpointEnds, RecoveryStarts, HistoryBegins, HasRecovery, UpdateEnds, SingleStores, Spare, SpareWords}
+use Rattle.board.proofs.Laws.Bools.{on, not-off}
 use Rattle.board.proofs.Invariant.{Inv}
-use Rattle.board.proofs.Laws.Taken.{standsAt, passed}
+use Rattle.board.proofs.Laws.Taken.{standsAt, passed, performed-number, performed-value, performed-taken, performing}
+use Rattle.board.proofs.Laws.Takes.{all-takes}
 use Rattle.board.proofs.Laws.Reading.{in-phase, read-taken, read-current}
 use Rattle.board.proofs.Checkpoint.Run.{is-running}
-use Rattle.board.proofs.Keeps.Every.{not-crashed, reached-inv}
-use Rattle.board.proofs.Recovery.Finishes.{recovers}
-use Rattle.board.proofs.Checkpoint.Completes.{completes}
+use Rattle.board.proofs.Keeps.Every.{carried, history-inv}
+use Rattle.board.proofs.Recovery.Finishes.{Done, recovers}
+use Rattle.board.proofs.Keeps.RecoveryStart.{recovery-kept}
 use Rattle.board.proofs.Recovery.Starts.{start-taken}
 use Rattle.board.proofs.Format.Ends as FormatSteps
 use Rattle.board.proofs.Recovery.Ends as RecoverySteps
 use Rattle.board.proofs.Checkpoint.Ends as CheckpointSteps
+use Rattle.board.proofs.Updates
 use Rattle.board.proofs.Stores
-use Rattle.board.specs.Next.{Taken}
+
+-- ---- 1. reads
 
 -- A taken read is made of a running board.
 read-running : (c : ℕ) (b : Board) → Taken (Read c) b → isRunning (b .state .phase) ≡ true
@@ -39,31 +44,114 @@ read-cell : (c : ℕ) (b : Board) → Taken (Read c) b → c < cells (b .state .
 unfolding standsAt causes
 read-cell c b t = leb-false (cells (b .state .lines)) c (passed (Read c) b t 7)
 
--- 1. A taken read gives the machine's current value.
+-- DEMAND 2: a read gives the machine's current value.
 pub reads : Reads
-reads r h c a t =
-    let i = reached-inv r h in
-    let d = not-crashed (Read c) r a t refl in
-    let p = is-running (r .board .state .phase) (read-running c (r .board) t) in
-    let l : r .board .state .lines ≡ r .machine .lines = in-phase r i d Running p .0 .lines in
-    read-current r i d p c (subst (λ (n : ℕ). c < cells n) l (read-cell c (r .board) t))
+unfolding valueOf
+reads r h d c value b p =
+    let i = history-inv r h in
+    let t = performed-taken (Read c) (r .board) p refl .0 in
+    let on = is-running (r .board .state .phase) (read-running c (r .board) t) in
+    let l : r .board .state .lines ≡ r .machine .lines = in-phase r i d Running on .0 .lines in
+    performed-value (Read c) (r .board) p ∙ read-current r i d on c (subst (λ (n : ℕ). c < cells n) l (read-cell c (r .board) t))
 
--- 2. DEMAND 3: after any lawful sequence and a finished recovery every cell reads what the machine held at the last completed checkpoint.
+-- ---- 2. recovery
+
+-- What a recovered board's reads return.
+done-reads : (m : Machine) {l w : ℕ} (b : Board) → Done l w (m .checkpointed) b → ReadsCheckpointed m b
+unfolding valueOf
+done-reads m b d c h number value b′ p =
+    let r = d .reads c (subst (λ (l : ℕ). c < cells l) (d .lines) h) in
+    (performed-number (Read c) b p ∙ r .0, performed-value (Read c) b p ∙ r .1)
+
+-- After any history a finished recovery reads the checkpointed values.
 pub recovery : Recovery
-recovery r h b e = recovers r (reached-inv r h) b e
+recovery r h b e = done-reads (r .machine) b (recovers r (history-inv r h) b e)
 
--- 3. The machine's checkpoint is complete when the new epoch's number is in memory.
+-- One more cut is one more thing that happens.
+cut-history : {r : Run} {b : Board} → History r → (e : CutAndRecovered r b) → History (cutRun (e .state) (e .cache) (e .entries) r)
+cut-history h e = further h (cuts (e .state) (e .cache) (e .entries) (e .lengths))
+
+-- Two boards read alike exactly when the checkpointed values are equal.
+alike : (m n : Machine) (b d : Board) → b .state .lines ≡ d .state .lines → ReadsCheckpointed m b → ReadsCheckpointed n d → ReadAlike m b n d
+alike m n b d same x y c h p q v u b′ d′ first second =
+    let e = x c h p v b′ first .1 in
+    let f = y c (subst (λ (l : ℕ). c < cells l) same h) q u d′ second .1 in
+    (λ g. sym e ∙ g ∙ f, λ g. e ∙ g ∙ sym f)
+
+-- DEMAND 3: two boards, any histories, one more cut each, and finished recoveries.
+pub demand3 : Demand3
+demand3 r s hr hs b d er es =
+    let x : ReadsCheckpointed (r .machine) b = recovery _ (cut-history hr er) b (er .recovered) in
+    let y : ReadsCheckpointed (s .machine) d = recovery _ (cut-history hs es) d (es .recovered) in
+    (x, y, λ same. alike (r .machine) (s .machine) b d same x y)
+
+-- The last checkpoint stays where memory's epoch does, and is the current one where it rises.
+last-stays : (format : Bool) (r r′ : Run) (xs : ℕ → ℕ) → Completes format r r′ → (c : ℕ) → c < cells (r′ .machine .lines) → (c < cells (r .machine .lines) → xs c ≡ r .machine .checkpointed c) → cond (rose r r′) (r′ .machine .current) xs c ≡ r′ .machine .checkpointed c
+last-stays format r r′ xs done c h before = go format done
+  where
+    old : ℕ
+    old = epochOf (r .board .memory)
+
+    new : ℕ
+    new = epochOf (r′ .board .memory)
+
+    by-rise : (new ≡ old + 1 → r′ .machine .current c ≡ r′ .machine .checkpointed c) → ((new ≡ old + 1 → ⊥) → xs c ≡ r′ .machine .checkpointed c) → cond (rose r r′) (r′ .machine .current) xs c ≡ r′ .machine .checkpointed c
+    by-rise f g =
+        on (λ (x : ℕ → ℕ). x c ≡ r′ .machine .checkpointed c) (rose r r′) (r′ .machine .current) xs (λ t. f (eqb-true new (old + 1) t)) (λ t. g (eqb-false new (old + 1) t))
+
+    inside : r′ .machine .lines ≡ r .machine .lines → c < cells (r .machine .lines)
+    inside e = subst (λ (l : ℕ). c < cells l) e h
+
+    go : (f : Bool) → Completes f r r′ → cond (rose r r′) (r′ .machine .current) xs c ≡ r′ .machine .checkpointed c
+    go false (inl u) = by-rise (λ e. absurd (omega (arith, u .epoch))) (λ o. before (inside (u .board .lines)) ∙ sym (u .values c (inside (u .board .lines))))
+    go false (inr u) = by-rise (λ e. u .current c (inside (u .board .lines)) ∙ sym (u .values c (inside (u .board .lines)))) (λ o. absurd (o (u .epoch)))
+    go true (inl u) = by-rise (λ e. absurd (omega (arith, u .epoch))) (λ o. before (inside (u .lines)) ∙ sym (u .values c (inside (u .lines))))
+    go true (inr u) = by-rise (λ e. u .current c ∙ sym (u .values c)) (λ o. absurd (o (omega (arith, u .before, u .epoch))))
+
+-- A history begins with equal current and checkpointed values.
+begins-equal : (b : Board) (m : Machine) → Begins b m → (c : ℕ) → m .current c ≡ m .checkpointed c
+begins-equal b m (formatted l w value d d′ b′ p takes) c = refl
+
+-- The checkpointed values are the current ones where memory's epoch last rose.
+pub last-checkpoint : LastCheckpoint
+unfolding lastCheckpoint
+last-checkpoint r (begun {b = b} {m = m} h) c p = begins-equal b m h c
+last-checkpoint r (further {r = q} h e) c p =
+    last-stays (formatStepIn e) q r (lastCheckpoint h) (carried (history-inv q h) e .completion) c p (λ i. last-checkpoint q h c i)
+
+-- L and W are the header's.
+pub sizes : Statements.Sizes
+sizes r h e =
+    record { header = header; lines = λ d f. lines (r .board .state .phase) refl d f .0; workers = λ d f. lines (r .board .state .phase) refl d f .1 }
+  where
+    i : Inv r
+    i = history-inv r h
+
+    header : linesOf (r .board .memory) ≡ r .machine .lines
+    header = i .kept e .header .lines
+
+    lines : (p : Phase) → r .board .state .phase ≡ p → r .crashed ≡ false → isFormatting (r .board .state .phase) ≡ false → (r .board .state .lines ≡ linesOf (r .board .memory)) × (r .board .state .workers ≡ workersOf (r .board .memory))
+    lines Off q d f = absurd (in-phase r i d Off q)
+    lines Formatting q d f = absurd (true≢false (sym (ap isFormatting q) ∙ f))
+    lines Recovering q d f = (in-phase r i d Recovering q .0 .lines ∙ sym header, in-phase r i d Recovering q .0 .own .workers)
+    lines Running q d f = (in-phase r i d Running q .0 .lines ∙ sym header, in-phase r i d Running q .0 .own .workers)
+
+-- L and W survive a recovery.
+pub recovered-sizes : RecoveredSizes
+recovered-sizes r h b e =
+    let i = history-inv r h in
+    let done = recovers r i b e in
+    (done .lines ∙ sym (recovery-kept r i (performed-taken RecoveryStart (r .board) (e .begun) refl .0) .header .lines), done .workers)
+
+-- ---- 3. completion
+
+-- The machine's checkpoint is complete when the new epoch's number is in memory.
 pub completion : Completion
-completion r h e a f = completes e r (reached-inv r h) a f
+completion r r′ h e = carried (history-inv r h) e .completion
 
--- 4. DEMAND 3 on two boards of one size: a cell reads alike exactly when the checkpointed values are equal.
-pub two-boards : TwoBoards
-two-boards r s hr hs b d er es same c h =
-    let x = recovery r hr b er c h .1 in
-    let y = recovery s hs d es c (subst (λ (n : ℕ). c < cells n) same h) .1 in
-    (λ e. sym x ∙ e ∙ y, λ e. x ∙ e ∙ sym y)
+-- ---- 4. progress
 
--- 5. Formats, recoveries and checkpoints end, and recovery can be started.
+-- Formats, recoveries, checkpoints and updates end, and recovery can be started.
 pub format-ends : FormatEnds
 format-ends = FormatSteps.format-ends
 
@@ -71,20 +159,38 @@ pub recovery-ends : RecoveryEnds
 recovery-ends = RecoverySteps.recovery-ends
 
 pub checkpoint-ends : CheckpointEnds
-checkpoint-ends r h = CheckpointSteps.checkpoint-ends r (reached-inv r h)
+checkpoint-ends r h = CheckpointSteps.checkpoint-ends r (history-inv r h)
 
 pub recovery-starts : RecoveryStarts
-recovery-starts r h e = start-taken r (reached-inv r h) e
+recovery-starts r h e = start-taken r (history-inv r h) e
 
--- 6. A call stores at most one word of the cache or one line of memory; words 6 and 7 stay.
+pub update-ends : UpdateEnds
+update-ends r h = Updates.update-ends r (history-inv r h)
+
+-- So there are histories, and finished recoveries.
+pub history-begins : HistoryBegins
+history-begins l w b t =
+    let start = next (FormatStart l w) b in
+    (stepsFrom (formatSteps l) start, (beginning l, formatted l w _ b start _ (performing (FormatStart l w) b t refl refl) (all-takes (formatSteps l) start (format-ends l w b t .0))))
+
+pub has-recovery : HasRecovery
+has-recovery r h e =
+    let t = recovery-starts r h e in
+    let start = next RecoveryStart (r .board) in
+    let n = recoverySteps (r .board .memory) in
+    (stepsFrom n start, record { value = valueOf RecoveryStart (r .board); start = start; begun = performing RecoveryStart (r .board) t refl refl; ended = all-takes n start (recovery-ends (r .board) t .0) })
+
+-- ---- 5. single stores
+
+-- A call stores at most one word of the cache or one line of memory; words 6 and 7 stay.
 pub single-stores : SingleStores
 single-stores = Stores.single-stores
 
 pub spare-words : SpareWords
-spare-words r h = (reached-inv r h .spare, λ d f. spare-cache (r .board .state .phase) refl d f)
+spare-words r h = (history-inv r h .spare, λ d f. spare-cache (r .board .state .phase) refl d f)
   where
-    spare-cache : (p : Phase) → r .board .state .phase ≡ p → r .crashed ≡ false → isFormatting (r .board .state .phase) ≡ false → Rattle.board.specs.Statements.Spare (r .machine .lines) (r .board .cache)
-    spare-cache Off e d f = absurd (in-phase r (reached-inv r h) d Off e)
+    spare-cache : (p : Phase) → r .board .state .phase ≡ p → r .crashed ≡ false → isFormatting (r .board .state .phase) ≡ false → Spare (r .machine .lines) (r .board .cache)
+    spare-cache Off e d f = absurd (in-phase r (history-inv r h) d Off e)
     spare-cache Formatting e d f = absurd (true≢false (sym (ap isFormatting e) ∙ f))
-    spare-cache Recovering e d f = in-phase r (reached-inv r h) d Recovering e .0 .spare
-    spare-cache Running e d f = in-phase r (reached-inv r h) d Running e .0 .spare
+    spare-cache Recovering e d f = in-phase r (history-inv r h) d Recovering e .0 .spare
+    spare-cache Running e d f = in-phase r (history-inv r h) d Running e .0 .spare

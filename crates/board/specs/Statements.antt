@@ -1,81 +1,139 @@
--- What is claimed of the board over whole sequences, each claim as a type. `proofs/Theorems.antt` proves every one.
+-- What is claimed of the board over whole histories, each claim as a type. `proofs/Theorems.antt` proves every one. DEMAND 3 is `Demand3`.
 use Prim.Native.Nat.{ℕ, zero, suc, _+_, _≤_, _<_}
 use mathlib.Core.Path.{_≡_}
 use mathlib.Core.Logic.{_⊎_, _↔_}
 use mathlib.Core.List.{List}
-use mathlib.Core.Bool.{Bool, true, false, _&&_}
+use mathlib.Core.Bool.{Bool, true, false, cond, _&&_, _||_}
+use lib.Dec.{eqb}
 use lib.ListN.{getD, set}
 use Rattle.line.specs.Line.{lineStart}
+use Rattle.board.specs.declared.State.{State}
 use Rattle.board.specs.declared.Call.{Call}
-use Rattle.board.specs.declared.Call.the-variants.{FormatStart, RecoveryStart, Step, Update, RestartPoint, Advance, Request, WriteBack, Read}
+use Rattle.board.specs.declared.Call.the-variants.{FormatStart, RecoveryStart, Step, Update, RestartPoint, Advance, Read}
 use Rattle.board.specs.declared.Phase.{Phase}
-use Rattle.board.specs.Board.{Board, cells, epochOf}
-use Rattle.board.specs.State.{conditionOf, isWaiting, isFormatting, isRecovering, isRunning}
+use Rattle.board.specs.Board.{Board, cells, epochOf, linesOf, workersOf}
+use Rattle.board.specs.State.{conditionOf, isFree, isWaiting, isFormatting, isRunning}
 use Rattle.board.specs.Effects.{writtenBack}
-use Rattle.board.specs.Next.{taken, next, valueRead, Taken}
+use Rattle.board.specs.Next.{Taken, next, Kind, startsFormat, startsRecovery, stepping, writing, other, reading, kind, isStep, Performed}
 use Rattle.board.specs.Machine.{Machine, formatSteps}
-use Rattle.board.specs.Sequence.{Event, call, cut, Run, after, Allowed, Takes, Reached, recoverySteps}
+use Rattle.board.specs.Sequence.{Takes, Begins, Run, called, cutRun, KeepsLengths, Happens, performs, cuts, History, lastCheckpoint, recoverySteps}
 
 -- ---- 1. reads
 
--- Demand 2: "from a finished format on, a read agrees with the simple machine": a taken read gives the machine's current value.
+-- DEMAND 2: "from a finished format on, a read agrees with the simple machine": a read that returns 0, with no cut since the last taken start, gives the machine's current value.
 abbrev pub Reads : Type 0
-Reads = (r : Run) → Reached r → (c : ℕ) → Allowed (call (Read c)) r → Taken (Read c) (r .board) → valueRead c (r .board) ≡ r .machine .current c
+Reads =
+    (r : Run) → History r → r .crashed ≡ false →
+    (c value : ℕ) (b : Board) → Performed (Read c) (r .board) 0 value b → value ≡ r .machine .current c
 
 -- ---- 2. recovery
 
--- Every cell's read on board `b` is taken and gives the value checkpointed in machine `m`.
+-- Every cell's read on board `b` returns 0 and gives the value checkpointed in machine `m`.
 abbrev pub ReadsCheckpointed : Machine → Board → Type 0
-ReadsCheckpointed m b = (c : ℕ) → c < cells (m .lines) → Taken (Read c) b × (valueRead c b ≡ m .checkpointed c)
+ReadsCheckpointed m b =
+    (c : ℕ) → c < cells (b .state .lines) →
+    (number value : ℕ) (b′ : Board) → Performed (Read c) b number value b′ → (number ≡ 0) × (value ≡ m .checkpointed c)
 
--- The board `b` is what a finished recovery left that was started in run `r`: its start was taken and all steps that memory called for, other calls among them.
+-- The board `b` is what a finished recovery left that was started in run `r`: its start returned 0, and so did all steps that memory called for, other calls among them.
 pub record Recovered (r : Run) (b : Board) : Type 0 where
-  pub begun : Taken RecoveryStart (r .board)
-  pub calls : List Call
-  pub ended : Takes (recoverySteps (r .board .memory)) (next RecoveryStart (r .board)) calls b
+  pub value : ℕ
+  pub start : Board
+  pub begun : Performed RecoveryStart (r .board) 0 value start
+  pub ended : Takes (recoverySteps (r .board .memory)) start b
 
--- DEMAND 3: after any lawful sequence and a finished recovery every cell reads what the machine held at the last completed checkpoint.
+-- After any history, a cut at its end or none ("a recovery start in mid-work is a cut"), a finished recovery reads the values of the last completed checkpoint.
 abbrev pub Recovery : Type 0
-Recovery = (r : Run) → Reached r → (b : Board) → Recovered r b → ReadsCheckpointed (r .machine) b
+Recovery = (r : Run) → History r → (b : Board) → Recovered r b → ReadsCheckpointed (r .machine) b
+
+-- One more cut, which may leave anything in cache, list and state record, and a finished recovery.
+pub record CutAndRecovered (r : Run) (b : Board) : Type 0 where
+  pub state : State
+  pub cache : List ℕ
+  pub entries : List ℕ
+  pub lengths : KeepsLengths cache entries (r .board)
+  pub recovered : Recovered (cutRun state cache entries r) b
+
+-- A cell reads alike on two boards exactly when the values checkpointed in their machines are equal.
+abbrev pub ReadAlike : Machine → Board → Machine → Board → Type 0
+ReadAlike m b n d =
+    (c : ℕ) → c < cells (b .state .lines) →
+    (p q v u : ℕ) (b′ d′ : Board) → Performed (Read c) b p v b′ → Performed (Read c) d q u d′ → (v ≡ u) ↔ (m .checkpointed c ≡ n .checkpointed c)
+
+-- DEMAND 3: two boards, each given a finished format, any history of calls and cuts, one more cut and a finished recovery. Then every cell reads what
+-- the simple machine held at the last completed checkpoint; and where the boards are of one size, a cell reads alike exactly when those values are equal.
+abbrev pub Demand3 : Type 0
+Demand3 =
+    (r s : Run) → History r → History s →
+    (b d : Board) → CutAndRecovered r b → CutAndRecovered s d →
+    ReadsCheckpointed (r .machine) b × ReadsCheckpointed (s .machine) d × (b .state .lines ≡ d .state .lines → ReadAlike (r .machine) b (s .machine) d)
+
+-- The values checkpointed in the machine are the current ones where memory's epoch last rose.
+abbrev pub LastCheckpoint : Type 0
+LastCheckpoint = (r : Run) (h : History r) (c : ℕ) → c < cells (r .machine .lines) → lastCheckpoint h c ≡ r .machine .checkpointed c
+
+-- The L of board and machine is the header's, and so are the state record's L and W, from a start on and up to the next cut, unless a format has begun to erase.
+pub record OwnSizes (r : Run) : Type 0 where
+  pub header : linesOf (r .board .memory) ≡ r .machine .lines
+  pub lines : r .crashed ≡ false → isFormatting (r .board .state .phase) ≡ false → r .board .state .lines ≡ linesOf (r .board .memory)
+  pub workers : r .crashed ≡ false → isFormatting (r .board .state .phase) ≡ false → r .board .state .workers ≡ workersOf (r .board .memory)
+
+abbrev pub Sizes : Type 0
+Sizes = (r : Run) → History r → r .erased ≡ false → OwnSizes r
+
+-- L and W survive a recovery: the record's are then those of the header that it was started on.
+abbrev pub RecoveredSizes : Type 0
+RecoveredSizes =
+    (r : Run) → History r → (b : Board) → Recovered r b → (b .state .lines ≡ linesOf (r .board .memory)) × (b .state .workers ≡ workersOf (r .board .memory))
 
 -- ---- 3. completion
 
--- The event is a taken step of a format.
-unfoldable pub formatStepAt : Event → Run → Bool
-formatStepAt (call (FormatStart l w)) r = false
-formatStepAt (call RecoveryStart) r = false
-formatStepAt (call Step) r = isFormatting (r .board .state .phase) && taken Step (r .board)
-formatStepAt (call (Update w c v)) r = false
-formatStepAt (call (RestartPoint w v)) r = false
-formatStepAt (call (Advance w)) r = false
-formatStepAt (call Request) r = false
-formatStepAt (call (WriteBack l)) r = false
-formatStepAt (call (Read c)) r = false
-formatStepAt (cut s cache entries) r = false
+-- What happens is a taken step of a format.
+unfoldable pub formatStepIn : {r r′ : Run} → Happens r r′ → Bool
+formatStepIn (performs {r = r} k number value b p a) = eqb number 0 && isStep (kind k) && isFormatting (r .board .state .phase)
+formatStepIn (cuts s cache entries p) = false
+
+-- The board keeps its size: L, and every header word in memory but the epoch.
+pub record SameBoard (r r′ : Run) : Type 0 where
+  pub lines : r′ .machine .lines ≡ r .machine .lines
+  pub header : (k : ℕ) → 0 < k → k < 8 → getD (r′ .board .memory) k 0 ≡ getD (r .board .memory) k 0
 
 -- Neither memory's epoch nor any checkpointed value has changed.
 pub record Unchanged (r r′ : Run) : Type 0 where
+  pub board : SameBoard r r′
   pub epoch : epochOf (r′ .board .memory) ≡ epochOf (r .board .memory)
   pub values : (c : ℕ) → c < cells (r .machine .lines) → r′ .machine .checkpointed c ≡ r .machine .checkpointed c
 
--- Memory has the next epoch, and the checkpointed values are the current ones.
+-- Memory has the next epoch, and the checkpointed values are the current ones, which stay.
 pub record Completed (r r′ : Run) : Type 0 where
+  pub board : SameBoard r r′
   pub epoch : epochOf (r′ .board .memory) ≡ epochOf (r .board .memory) + 1
   pub values : (c : ℕ) → c < cells (r .machine .lines) → r′ .machine .checkpointed c ≡ r .machine .current c
+  pub current : (c : ℕ) → c < cells (r .machine .lines) → r′ .machine .current c ≡ r .machine .current c
 
--- "the checkpoint is complete" in the machine exactly when the new epoch's number is in memory.
+-- A format's step that is not its last: memory's epoch is 0 from then on, and the machine keeps its values.
+pub record Erasing (r r′ : Run) : Type 0 where
+  pub lines : r′ .machine .lines ≡ r .machine .lines
+  pub epoch : epochOf (r′ .board .memory) ≡ 0
+  pub values : (c : ℕ) → c < cells (r .machine .lines) → r′ .machine .checkpointed c ≡ r .machine .checkpointed c
+
+-- A format's last step: memory's epoch is 1, and all values are 0.
+pub record Formatted (r r′ : Run) : Type 0 where
+  pub lines : r′ .machine .lines ≡ r .machine .lines
+  pub before : epochOf (r .board .memory) ≡ 0
+  pub epoch : epochOf (r′ .board .memory) ≡ 1
+  pub values : (c : ℕ) → r′ .machine .checkpointed c ≡ 0
+  pub current : (c : ℕ) → r′ .machine .current c ≡ 0
+
+-- What becomes of the last checkpoint, by whether a format's step happens.
+abbrev pub Completes : Bool → Run → Run → Type 0
+Completes false r r′ = Unchanged r r′ ⊎ Completed r r′
+Completes true r r′ = Erasing r r′ ⊎ Formatted r r′
+
+-- "the checkpoint is complete" in the machine exactly when the new epoch's number is in memory; a format's steps say 'no board here' until the last.
 abbrev pub Completion : Type 0
-Completion = (r : Run) → Reached r → (e : Event) → Allowed e r → formatStepAt e r ≡ false → Unchanged r (after e r) ⊎ Completed r (after e r)
+Completion = (r r′ : Run) → History r → (e : Happens r r′) → Completes (formatStepIn e) r r′
 
--- ---- 4. two boards
-
--- Demand 3: "on two boards of one size a cell reads alike exactly when those values are equal".
-abbrev pub TwoBoards : Type 0
-TwoBoards =
-    (r s : Run) → Reached r → Reached s → (b d : Board) → Recovered r b → Recovered s d → r .machine .lines ≡ s .machine .lines →
-    (c : ℕ) → c < cells (r .machine .lines) → (valueRead c b ≡ valueRead c d) ↔ (r .machine .checkpointed c ≡ s .machine .checkpointed c)
-
--- ---- 5. progress
+-- ---- 4. progress
 
 -- `n` steps one after the other.
 unfoldable pub stepsFrom : ℕ → Board → Board
@@ -102,14 +160,39 @@ RecoveryEnds = (b : Board) → Taken RecoveryStart b → EndsIn (recoverySteps (
 -- "With n entries that is n+3 steps": a requested checkpoint ends once all workers under W wait.
 abbrev pub CheckpointEnds : Type 0
 CheckpointEnds =
-    (r : Run) → Reached r → r .crashed ≡ false → isRunning (r .board .state .phase) ≡ true → r .board .state .requested ≡ true → r .board .state .place ≡ 0 →
+    (r : Run) → History r → r .crashed ≡ false → isRunning (r .board .state .phase) ≡ true → r .board .state .requested ≡ true → r .board .state .place ≡ 0 →
     ((w : ℕ) → w < r .board .state .workers → isWaiting (conditionOf (r .board .state) w) ≡ true) → EndsIn (r .board .state .listed + 3) (r .board)
 
--- After any lawful sequence a recovery can be started, unless a format took its first step and none has finished since.
+-- After any history a recovery can be started, unless a format took its first step and none has finished since.
 abbrev pub RecoveryStarts : Type 0
-RecoveryStarts = (r : Run) → Reached r → r .erased ≡ false → Taken RecoveryStart (r .board)
+RecoveryStarts = (r : Run) → History r → r .erased ≡ false → Taken RecoveryStart (r .board)
 
--- ---- 6. single stores
+-- Where a format's start is taken there is a finished format, so a history begins there.
+abbrev pub HistoryBegins : Type 0
+HistoryBegins = (l w : ℕ) (b : Board) → Taken (FormatStart l w) b → (b′ : Board) × ((m : Machine) × Begins b′ m)
+
+-- After any history there is a finished recovery, unless a format took its first step and none has finished since.
+abbrev pub HasRecovery : Type 0
+HasRecovery = (r : Run) → History r → r .erased ≡ false → (b : Board) × Recovered r b
+
+-- An update of cell `c` was started by worker `w`, or a restart point, of its own cell.
+pub data Starts (w c v : ℕ) : Call → Type 0 where
+  updates : Starts w c v (Update w c v)
+  restarts : c ≡ w → Starts w c v (RestartPoint w v)
+
+-- The advances of worker `w` are taken, one after the other, and lead to board `b′`.
+pub data Advances (w : ℕ) : ℕ → Board → Board → Type 0 where
+  over : {b : Board} → Advances w zero b b
+  advances : {n value : ℕ} {b d b′ : Board} → Performed (Advance w) b 0 value d → Advances w n d b′ → Advances w (suc n) b b′
+
+-- An update ends: undisturbed, as many advances as its start gave it are taken; then the worker is free or waiting, and a read gives the value.
+abbrev pub UpdateEnds : Type 0
+UpdateEnds =
+    (r : Run) → History r → r .crashed ≡ false →
+    (w c v : ℕ) (k : Call) → Starts w c v k → (value : ℕ) (b : Board) → Performed k (r .board) 0 value b →
+    (b′ : Board) × (Advances w (cond (r .machine .marked c) 1 3) b b′ × (isFree (conditionOf (b′ .state) w) || isWaiting (conditionOf (b′ .state) w) ≡ true) × Performed (Read c) b′ 0 v b′)
+
+-- ---- 5. single stores
 
 -- "One call does at most one store to a line or one line write-back".
 pub data OneStore (b b′ : Board) : Type 0 where
@@ -118,20 +201,17 @@ pub data OneStore (b b′ : Board) : Type 0 where
   oneLine : (l : ℕ) → b′ .memory ≡ writtenBack l b → b′ .cache ≡ b .cache → OneStore b b′
 
 -- "except in format steps and at recovery's start".
-unfoldable pub several : Call → Phase → Bool
-several (FormatStart l w) phase = false
-several RecoveryStart phase = true
-several Step phase = isFormatting phase
-several (Update w c v) phase = false
-several (RestartPoint w v) phase = false
-several (Advance w) phase = false
-several Request phase = false
-several (WriteBack l) phase = false
-several (Read c) phase = false
+abbrev pub several : Kind → Phase → Bool
+several startsFormat phase = false
+several startsRecovery phase = true
+several stepping phase = isFormatting phase
+several writing phase = false
+several other phase = false
+several (reading c) phase = false
 
 -- A taken call other than those stores at most one word of the cache or one line of memory.
 abbrev pub SingleStores : Type 0
-SingleStores = (k : Call) (b : Board) → Taken k b → several k (b .state .phase) ≡ false → OneStore b (next k b)
+SingleStores = (k : Call) (b : Board) → Taken k b → several (kind k) (b .state .phase) ≡ false → OneStore b (next k b)
 
 -- Words 6 and 7 of every cell line of a row are 0.
 abbrev pub Spare : ℕ → List ℕ → Type 0
@@ -140,5 +220,5 @@ Spare lines row = (l k : ℕ) → 1 ≤ l → l ≤ lines → 6 ≤ k → k < 8 
 -- "Words 6 and 7 are never changed after format": in memory always, in the cache while recovering or running.
 abbrev pub SpareWords : Type 0
 SpareWords =
-    (r : Run) → Reached r → Spare (r .machine .lines) (r .board .memory) ×
+    (r : Run) → History r → Spare (r .machine .lines) (r .board .memory) ×
     (r .crashed ≡ false → isFormatting (r .board .state .phase) ≡ false → Spare (r .machine .lines) (r .board .cache))

@@ -2,15 +2,15 @@
 use Prim.Native.Nat.{ℕ, _+_, _≤_, _<_}
 use mathlib.Core.Path.{_≡_, refl, sym, subst, _∙_}
 use mathlib.Core.Logic.{inl, inr}
-use mathlib.Core.Bool.{Bool, true}
+use mathlib.Core.Bool.{Bool, true, false}
 use native.Mathlib.Omega.{arith}
 use Rattle.board.specs.Board.{cells, epochOf}
 use Rattle.board.specs.Effects.{writtenBack}
 use Rattle.board.specs.Sequence.{Run}
 use Rattle.board.proofs.Laws.Bools.{chosen}
 use Rattle.board.proofs.Laws.View.{sized-back}
-use Rattle.board.proofs.Invariant.{Undoes, Kept, Stage, early, gap, late, Inv}
-use Rattle.board.proofs.Laws.Rows.{epoch-back-header, spare-back}
+use Rattle.board.proofs.Invariant.{SameSizes, Undoes, Kept, Stage, early, gap, late, Inv}
+use Rattle.board.proofs.Laws.Rows.{epoch-back-header, spare-back, sizes-back}
 use Rattle.board.proofs.Checkpoint.Run.{Carried, RunningRun, inv-running}
 use Rattle.board.proofs.Checkpoint.Memory.{undoes-same, kept-same, epoch-back, kept-back, kept-next, undoes-next}
 use Rattle.board.proofs.Checkpoint.Stages.{moved, remade, running-moved, late-back}
@@ -21,6 +21,10 @@ backRun r i place xs steps crashed =
     record { board = moved (r .board) (writtenBack i (r .board)) place; machine = remade (r .machine) xs steps; crashed = crashed; erased = r .erased }
 
 module _ (r : Run) (s : RunningRun r) (place steps : ℕ) (agree : r .board .state .requested ≡ true → steps ≡ place) (crashed : Bool) where
+  -- The sizes in memory stay.
+  sizes : (i : ℕ) → i ≤ r .machine .lines → SameSizes (r .board .memory) (writtenBack i (r .board))
+  sizes i h = sizes-back (r .board .memory) (r .board .cache) (s .inv .sizes .memory) (s .inv .sizes .cache) i h (s .running .own .header)
+
   -- The invariant after a write-back, from what it leaves in memory and the stage it leads to.
   inv-back : (i : ℕ) → i ≤ r .machine .lines → (xs : ℕ → ℕ) → Kept (r .machine .lines) xs (writtenBack i (r .board)) → Undoes (r .machine .lines) (epochOf (writtenBack i (r .board))) xs (r .board .cache) → Stage (r .machine .lines) (moved (r .board) (writtenBack i (r .board)) place) (remade (r .machine) xs steps) → Inv (backRun r i place xs steps crashed)
   inv-back i h xs k u stage =
@@ -29,10 +33,10 @@ module _ (r : Run) (s : RunningRun r) (place steps : ℕ) (agree : r .board .sta
       (record { limits = z .limits; memory = sized-back (r .board .memory) (r .board .cache) (z .memory) (z .cache) i h; cache = z .cache; entries = z .entries })
       (spare-back (r .board .memory) (r .board .cache) (z .memory) (z .cache) i h (s .inv .spare) (s .running .spare))
       k
-      (running-moved (s .running) (writtenBack i (r .board)) place xs steps agree u stage)
+      (running-moved (s .running) (writtenBack i (r .board)) place xs steps (sizes i h) agree u stage)
 
   -- A write-back that leaves memory's epoch: recovery gives what it gave.
-  pub quiet-back : (i : ℕ) → i ≤ r .machine .lines → (i ≡ 0 → epochOf (r .board .cache) ≡ epochOf (r .board .memory)) → (xs : ℕ → ℕ) → ((c : ℕ) → c < cells (r .machine .lines) → r .machine .checkpointed c ≡ xs c) → Stage (r .machine .lines) (moved (r .board) (writtenBack i (r .board)) place) (remade (r .machine) xs steps) → Carried r (backRun r i place xs steps crashed)
+  pub quiet-back : (i : ℕ) → i ≤ r .machine .lines → (i ≡ 0 → epochOf (r .board .cache) ≡ epochOf (r .board .memory)) → (xs : ℕ → ℕ) → ((c : ℕ) → c < cells (r .machine .lines) → r .machine .checkpointed c ≡ xs c) → Stage (r .machine .lines) (moved (r .board) (writtenBack i (r .board)) place) (remade (r .machine) xs steps) → Carried false r (backRun r i place xs steps crashed)
   quiet-back i h e xs same stage =
       let z = s .inv .sizes in
       let epoch : epochOf (writtenBack i (r .board)) ≡ epochOf (r .board .memory) = epoch-back (r .board .memory) (r .board .cache) (z .memory) (z .cache) i h e in
@@ -44,11 +48,11 @@ module _ (r : Run) (s : RunningRun r) (place steps : ℕ) (agree : r .board .sta
             (subst (λ (n : ℕ). Undoes (r .machine .lines) n xs (r .board .cache)) (sym epoch)
             (undoes-same (r .machine .lines) (r .machine .checkpointed) xs (r .board .cache) same (s .running .undoes)))
             stage;
-        completion = inl (record { epoch = epoch; values = λ c p. sym (same c p) });
+        completion = inl (record { board = record { lines = refl; header = sizes i h }; epoch = epoch; values = λ c p. sym (same c p) });
       }
 
   -- Line 0's write-back after the epoch's store completes the checkpoint, and done again changes nothing.
-  pub header-back : r .board .state .requested ≡ true → r .board .state .listed + 1 ≤ r .board .state .place → r .board .state .listed + 1 ≤ place → place ≤ r .board .state .listed + 2 → Stage (r .machine .lines) (r .board) (r .machine) → Carried r (backRun r 0 place (r .machine .current) steps crashed)
+  pub header-back : r .board .state .requested ≡ true → r .board .state .listed + 1 ≤ r .board .state .place → r .board .state .listed + 1 ≤ place → place ≤ r .board .state .listed + 2 → Stage (r .machine .lines) (r .board) (r .machine) → Carried false r (backRun r 0 place (r .machine .current) steps crashed)
   header-back on past low high (early e) =
       absurd (omega (arith, e .within, chosen (r .board .state .requested) (r .board .state .place) 0 on))
   header-back on past low high (gap g) =
@@ -62,7 +66,7 @@ module _ (r : Run) (s : RunningRun r) (place steps : ℕ) (agree : r .board .sta
             (undoes-next (r .board .memory) (r .board .cache) (z .memory) (z .cache) (r .machine .checkpointed) (r .machine .current) (g .epochs) (v .undoes) (v .current))
             (late (late-back (r .board) z 0 (omega arith) (r .machine) place (r .machine .current) steps on low high epoch (g .same) (g .waiting) (λ c p. refl)
             (λ c p q. omega (arith, v .undoes c p .bounded, q, g .epochs))));
-        completion = inr (record { epoch = epoch ∙ g .epochs; values = λ c p. refl });
+        completion = inr (record { board = record { lines = refl; header = sizes 0 (omega arith) }; epoch = epoch ∙ g .epochs; values = λ c p. refl; current = λ c p. refl });
       }
   header-back on past low high (late e) =
       let z = s .inv .sizes in

@@ -21,7 +21,7 @@ use Rattle.board.specs.Causes.{causes, placePast, badRows, checkpointing
 use Rattle.board.specs.Effects.{writtenBack, stated, Act, writeLine, storeEpoch, writeHeader, release, actAt, performAct}
 use Rattle.board.specs.Next.{next, Taken}
 use Rattle.board.specs.Machine.{Machine, countUnder}
-use Rattle.board.specs.Sequence.{Run, Reached}
+use Rattle.board.specs.Sequence.{Run}
 use Rattle.board.specs.Statements.{stepsFrom, AllTaken, EndsIn, CheckpointEnds}
 use Rattle.board.proofs.Laws.Bools.{or-none, and-right, and-off-right, and-if, not-on}
 use Rattle.board.proofs.Laws.View.{Sized, cell-line, sized-back}

@@ -1,19 +1,36 @@
 -- A run whose board is running: the invariant taken apart and put together, and what a call leaves of it.
-use mathlib.Core.Path.{_≡_, refl, sym, subst}
-use mathlib.Core.Logic.{_⊎_}
-use mathlib.Core.Bool.{true, false, true≢false}
+use Prim.Native.Nat.{ℕ}
+use mathlib.Core.Path.{_≡_, refl, sym, ap, subst}
+use mathlib.Core.Logic.{inl}
+use mathlib.Core.List.{List}
+use lib.ListN.{getD}
+use mathlib.Core.Bool.{Bool, true, false, true≢false}
 use Rattle.board.specs.declared.Phase.{Phase}
 use Rattle.board.specs.declared.Phase.the-variants.{Off, Formatting, Recovering, Running}
+use Rattle.board.specs.Board.{epochOf}
 use Rattle.board.specs.State.{isRunning}
 use Rattle.board.specs.Sequence.{Run}
-use Rattle.board.specs.Statements.{Spare, Unchanged, Completed}
+use Rattle.board.specs.Statements.{Spare, Unchanged, Completes}
 use Rattle.board.proofs.Laws.Bools.{clash}
 use Rattle.board.proofs.Invariant.{Kept, Sizes, RunningInv, InPhase, Inv}
 
--- A call from run `r` to run `r′` carries the invariant over, and leaves the last checkpoint as it was or completes the next.
-pub record Carried (r r′ : Run) : Type 0 where
+-- What leads from run `r` to run `r′`, a format's step or not, carries the invariant over, and does to the last checkpoint what is claimed of it.
+pub record Carried (format : Bool) (r r′ : Run) : Type 0 where
   pub keeps : Inv r′
-  pub completion : Unchanged r r′ ⊎ Completed r r′
+  pub completion : Completes format r r′
+
+-- What leaves memory and the machine's checkpointed values and L changes nothing of the last checkpoint.
+pub quiet : (r r′ : Run) → r′ .board .memory ≡ r .board .memory → r′ .machine .lines ≡ r .machine .lines → ((c : ℕ) → r′ .machine .checkpointed c ≡ r .machine .checkpointed c) → Unchanged r r′
+quiet r r′ m l v =
+    record {
+      board = record { lines = l; header = λ k p q. ap (λ (row : List ℕ). getD row k 0) m };
+      epoch = ap epochOf m;
+      values = λ c h. v c;
+    }
+
+-- The invariant is kept, and nothing of the last checkpoint changes.
+pub quietly : {r r′ : Run} → Inv r′ → r′ .board .memory ≡ r .board .memory → r′ .machine .lines ≡ r .machine .lines → ((c : ℕ) → r′ .machine .checkpointed c ≡ r .machine .checkpointed c) → Carried false r r′
+quietly {r} {r′} i m l v = record { keeps = i; completion = inl (quiet r r′ m l v) }
 
 -- The only phase in which the board runs.
 pub is-running : (p : Phase) → isRunning p ≡ true → p ≡ Running

@@ -1,6 +1,6 @@
 -- The stages of a checkpoint after a line's write-back, by a call or by a step.
 use Prim.Native.Nat.{ℕ, _+_, _≤_, _<_}
-use mathlib.Core.Path.{_≡_, sym, ap, subst, _∙_}
+use mathlib.Core.Path.{_≡_, refl, sym, ap, subst, _∙_}
 use mathlib.Core.List.{List}
 use mathlib.Core.Bool.{true}
 use native.Mathlib.Omega.{arith}
@@ -13,7 +13,8 @@ use Rattle.board.specs.Effects.{writtenBack}
 use Rattle.board.specs.Machine.{Machine}
 use Rattle.board.proofs.Laws.Bools.{chosen}
 use Rattle.board.proofs.Laws.View.{view}
-use Rattle.board.proofs.Invariant.{Sizes, Undoes, progress, AllWait, SameRecords, Early, Gap, Late, Stage, early, gap, late, RunningInv}
+use Rattle.board.proofs.Invariant.{Sizes, SameSizes, Undoes, progress, AllWait, SameRecords, Early, Gap, Late, Stage, early, gap, late, RunningInv}
+use Rattle.board.proofs.Laws.Rows.{own-same, sizes-same}
 use Rattle.board.proofs.Checkpoint.Memory.{value-back, epoch-back}
 
 -- The board with another memory and another place.
@@ -33,13 +34,14 @@ place-high on (gap g) = omega (arith, g .place)
 place-high on (late e) = e .high
 
 -- A running board whose memory, place and checkpointed values change.
-pub running-moved : {l : ℕ} {b : Board} {m : Machine} → RunningInv l b m → (memory : List ℕ) (place : ℕ) (xs : ℕ → ℕ) (steps : ℕ) → (b .state .requested ≡ true → steps ≡ place) → Undoes l (epochOf memory) xs (b .cache) → Stage l (moved b memory place) (remade m xs steps) → RunningInv l (moved b memory place) (remade m xs steps)
-running-moved v memory place xs steps agree undoes stage =
+pub running-moved : {l : ℕ} {b : Board} {m : Machine} → RunningInv l b m → (memory : List ℕ) (place : ℕ) (xs : ℕ → ℕ) (steps : ℕ) → SameSizes (b .memory) memory → (b .state .requested ≡ true → steps ≡ place) → Undoes l (epochOf memory) xs (b .cache) → Stage l (moved b memory place) (remade m xs steps) → RunningInv l (moved b memory place) (remade m xs steps)
+running-moved {b = b} v memory place xs steps sizes agree undoes stage =
     record {
       lines = v .lines;
       workers = v .workers;
       request = v .request;
       eight = v .eight;
+      own = own-same b (moved b memory place) refl sizes (sizes-same (b .cache)) (v .own);
       header = v .header;
       undoes = undoes;
       current = v .current;

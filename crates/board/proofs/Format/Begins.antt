@@ -15,8 +15,9 @@ use Rattle.board.specs.Next.{Taken, Kind, startsFormat, startsRecovery, 
 use Rattle.board.specs.Machine.{Machine, formatSteps}
 use Rattle.board.specs.Sequence.{Takes, finished, steps, between, Begins, formatted, opening}
 use Rattle.board.proofs.Laws.Bools.{clash}
+use Rattle.board.proofs.Laws.Takes.{takes-none}
 use Rattle.board.proofs.Invariant.{Inv}
-use Rattle.board.proofs.Laws.Taken.{phaseBars, phase-passed, taken-next, refused-next}
+use Rattle.board.proofs.Laws.Taken.{phaseBars, phase-passed, performed-taken, performed-refused}
 use Rattle.board.proofs.Format.Board.{Formats, Fresh, format-begins, erasing-step, format-erases, finishing-step, format-finishes}
 use Rattle.board.proofs.Keeps.FormatStep.{fresh-inv}
 
@@ -44,34 +45,28 @@ format-refuses k b p o t = barred (kind k) o (phase-passed k b t)
 
 -- ---- a format taken to its end
 
--- No more steps to take: the board is the last.
-takes-none : {n : ℕ} {b : Board} {ks : List Call} {b′ : Board} → Takes n b ks b′ → n ≡ 0 → b ≡ b′
-takes-none finished e = refl
-takes-none (steps t rest) e = absurd (omega arith)
-takes-none (between o rest) e = absurd (omega arith)
-
 -- A format ends once the steps left to it are taken, whatever else is called between.
-pub format-taken : (l : ℕ) {n : ℕ} {b : Board} {ks : List Call} {b′ : Board} → Takes n b ks b′ → Formats l b → b .state .place + n ≡ l + 2 → Fresh l b′
+pub format-taken : (l : ℕ) {n : ℕ} {b b′ : Board} → Takes n b b′ → Formats l b → b .state .place + n ≡ l + 2 → Fresh l b′
 format-taken l (finished {b = b}) f e = absurd (omega (arith, f .format .within))
-format-taken l (steps {n = n} {b = b} t rest) f e =
+format-taken l (steps {n = n} {b = b} p rest) f e =
     elim (decLe (b .state .place) l) [
       | yes h ↦
-          let same = taken-next Step b t ∙ erasing-step l b f h in
+          let same = performed-taken Step b p refl .1 ∙ erasing-step l b f h in
           let after = format-erases l b f h in
           format-taken l rest (subst (λ (d : Board). Formats l d) (sym same) (after .formats)) (ap (λ (d : Board). d .state .place + n) same ∙ omega arith)
       | no h ↦
           let last : b .state .place ≡ l + 1 = omega (arith, f .format .within) in
-          subst (λ (d : Board). Fresh l d) (sym (taken-next Step b t ∙ finishing-step l b f last) ∙ takes-none rest (omega arith)) (format-finishes l b f last)
+          subst (λ (d : Board). Fresh l d) (sym (performed-taken Step b p refl .1 ∙ finishing-step l b f last) ∙ takes-none rest (omega arith)) (format-finishes l b f last)
     ]
-format-taken l (between {n = n} {k = k} {b = b} o rest) f e =
-    let same = refused-next k b (λ t. format-refuses k b (f .phase) (o t) t) in
+format-taken l (between {n = n} {number = number} k {b = b} p o rest) f e =
+    let same = performed-refused k b p (λ z. format-refuses k b (f .phase) (o z) (performed-taken k b p z .0)) in
     format-taken l rest (subst (λ (d : Board). Formats l d) (sym same) f) (ap (λ (d : Board). d .state .place + suc n) same ∙ e)
 
--- The invariant holds where a sequence begins.
+-- The invariant holds where a history begins.
 pub begins-inv : (b : Board) (m : Machine) → Begins b m → Inv (opening b m)
-begins-inv b m (formatted l w d ks b′ t takes) =
+begins-inv b m (formatted l w value d d′ b′ p takes) =
+    let (t, same) = performed-taken (FormatStart l w) d p refl in
     let begun = format-begins l w d t in
-    let same = taken-next (FormatStart l w) d t in
     fresh-inv l b′ false
     (format-taken l takes (subst (λ (x : Board). Formats l x) (sym same) (begun .0))
     (ap (λ (x : Board). x .state .place + formatSteps l) same ∙ omega (arith, begun .1)))

@@ -13,7 +13,7 @@ use Rattle.board.specs.declared.Condition.the-variants.{Free}
 use Rattle.board.specs.declared.Phase.{Phase}
 use Rattle.board.specs.declared.Phase.the-variants.{Formatting, Running}
 use Rattle.board.specs.declared.Call.the-variants.{FormatStart, Step}
-use Rattle.board.specs.Board.{Board, cells, rowWords, listWords, linesOutside, workersOutside, epochOf, headerWords, zeroWords}
+use Rattle.board.specs.Board.{Board, cells, rowWords, listWords, linesOutside, workersOutside, epochOf, workersOf, headerWords, zeroWords}
 use Rattle.board.specs.State.{allFree, conditionOf, placed, opened}
 use Rattle.board.specs.Causes.{causes, badRows}
 use Rattle.board.specs.Effects.{effect, step, formatStep, inBoth}
@@ -21,11 +21,11 @@ use Rattle.board.specs.Machine.{none, beginning}
 use Rattle.board.specs.Statements.{Spare}
 use Rattle.board.proofs.Laws.Bools.{chosen, passedOver, or-left, or-right, not-off, clash}
 use Rattle.board.proofs.Laws.View.{View, view, Sized}
-use Rattle.board.proofs.Invariant.{Header, Kept, Zeroed, Sizes, Undoes, FormatInv, WorkerInv, Touches, progress, early, RunningInv}
+use Rattle.board.proofs.Invariant.{Header, SameSizes, Kept, Zeroed, Sizes, Undoes, FormatInv, WorkerInv, Touches, progress, early, RunningInv}
 use Rattle.board.proofs.Laws.Taken.{standsAt, passed, workers-in}
 use Rattle.board.proofs.Laws.Idle.{free-condition}
 use Rattle.board.proofs.Laws.Count.{count-none}
-use Rattle.board.proofs.Format.Rows.{zeros, zeroed-none, sized-erased, spare-erase, zeroed-erase, epoch-erase, sized-fresh, epoch-fresh, header-fresh, view-fresh, spare-fresh, undoes-fresh, kept-fresh}
+use Rattle.board.proofs.Format.Rows.{zeros, zeroed-none, sized-erased, spare-erase, zeroed-erase, epoch-erase, word-header, sized-fresh, epoch-fresh, header-fresh, view-fresh, spare-fresh, undoes-fresh, kept-fresh}
 use Rattle.board.specs.Next.{Taken}
 
 -- A board in a format of `l` lines.
@@ -148,6 +148,7 @@ pub record Fresh (l : ℕ) (b : Board) : Type 0 where
   pub sizes : Sizes l b
   pub spare : Spare l (b .memory)
   pub kept : Kept l (λ c. 0) (b .memory)
+  pub epoch : epochOf (b .memory) ≡ 1
   pub running : RunningInv l b (beginning l)
   pub phase : b .state .phase ≡ Running
 
@@ -161,19 +162,21 @@ pub record Opened (l : ℕ) (memory cache : List ℕ) : Type 0 where
   pub memoryEpoch : epochOf memory ≡ 1
   pub cacheEpoch : epochOf cache ≡ 1
   pub header : Header l cache
+  pub sizes : SameSizes memory cache
   pub undoes : Undoes l 1 (λ c. 0) cache
   pub spare : Spare l cache
   pub memoryZeros : (c : ℕ) → c < cells l → view memory c ≡ zeros
   pub cacheZeros : (c : ℕ) → c < cells l → view cache c ≡ zeros
 
 -- A board so opened, with no request and no worker at work, runs as the machine begins.
-pub opened-running : (l : ℕ) (b : Board) → Opened l (b .memory) (b .cache) → b .state .lines ≡ l → workersOutside l (b .state .workers) ≡ false → b .state .requested ≡ false → b .state .worker ≡ allFree → b .state .listed ≡ 0 → RunningInv l b (beginning l)
-opened-running l b o lines workers quiet free empty =
+pub opened-running : (l : ℕ) (b : Board) → Opened l (b .memory) (b .cache) → b .state .lines ≡ l → workersOutside l (b .state .workers) ≡ false → b .state .workers ≡ workersOf (b .memory) → b .state .requested ≡ false → b .state .worker ≡ allFree → b .state .listed ≡ 0 → RunningInv l b (beginning l)
+opened-running l b o lines workers own quiet free empty =
     record {
       lines = lines;
       workers = workers;
       request = sym quiet;
       eight = ap length free;
+      own = record { header = o .sizes; workers = own };
       header = o .header;
       undoes = subst (λ (e : ℕ). Undoes l e (λ c. 0) (b .cache)) (sym (o .memoryEpoch)) (o .undoes);
       current = λ c h. ap (λ (v : View). v .value) (o .cacheZeros c h);
@@ -211,6 +214,7 @@ opened-rows l w memory cache zm zc fm fc o =
       memoryEpoch = epoch-fresh memory w zm;
       cacheEpoch = epoch-fresh cache w zc;
       header = header-fresh cache w zc o;
+      sizes = λ k p q. word-header cache w zc k q ∙ sym (word-header memory w zm k q);
       undoes = undoes-fresh cache w zc fc;
       spare = spare-fresh cache w zc fc;
       memoryZeros = view-fresh memory w zm fm;
@@ -236,7 +240,8 @@ own-finishes b f e =
           };
       spare = spare-fresh (b .memory) w zm fm;
       kept = kept-fresh (b .memory) w zm fm (f .format .workers);
-      running = opened-running l (finishing b) (opened-rows l w (b .memory) (b .cache) zm zc fm fc (f .format .workers)) refl (f .format .workers) (f .format .request) refl refl;
+      epoch = epoch-fresh (b .memory) w zm;
+      running = opened-running l (finishing b) (opened-rows l w (b .memory) (b .cache) zm zc fm fc (f .format .workers)) refl (f .format .workers) (sym (word-header (b .memory) w zm 2 (omega arith))) (f .format .request) refl refl;
       phase = refl;
     }
 

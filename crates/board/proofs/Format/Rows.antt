@@ -69,7 +69,7 @@ module _ {l : ℕ} (row : List ℕ) (p : ℕ) (z : Sized l row) (h : p ≤ l) wh
 
 module _ {l : ℕ} (row : List ℕ) (w : ℕ) (z : Sized l row) where
   -- The words of line 0 are the header's.
-  word-header : (k : ℕ) → k < 8 → getD (withLine row 0 (headerWords 1 l w)) k 0 ≡ getD (headerWords 1 l w) k 0
+  pub word-header : (k : ℕ) → k < 8 → getD (withLine row 0 (headerWords 1 l w)) k 0 ≡ getD (headerWords 1 l w) k 0
   word-header k b =
       let a : lineStart 0 + k ≡ k = omega arith in
       subst (λ (i : ℕ). getD (withLine row 0 (headerWords 1 l w)) i 0 ≡ getD (headerWords 1 l w) k 0) a

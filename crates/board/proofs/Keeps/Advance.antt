@@ -1,5 +1,5 @@
 -- Each store of an unfinished update keeps the invariant.
-use Prim.Native.Nat.{ℕ, _+_, _-_, _<_}
+use Prim.Native.Nat.{ℕ, zero, suc, _+_, _-_, _<_}
 use mathlib.Core.Path.{_≡_, refl, sym, subst, subst₂, _∙_}
 use mathlib.Core.List.{List}
 use mathlib.Core.Bool.{Bool, true, false, not, _&&_, true≢false}
@@ -15,11 +15,11 @@ use Rattle.board.specs.declared.Condition.the-variants.{Free, Waiting, U
 use Rattle.board.specs.declared.Store.{Store}
 use Rattle.board.specs.declared.Store.the-variants.{Backup, Mark, Record}
 use Rattle.board.specs.declared.Call.the-variants.{Advance}
-use Rattle.board.specs.Board.{cells, epochOf}
+use Rattle.board.specs.Board.{Board, cells, epochOf}
 use Rattle.board.specs.State.{conditionOf, isUpdating}
 use Rattle.board.specs.Causes.{causes}
 use Rattle.board.specs.Effects.{recorded, afterLast, advance, advanceOf, effect}
-use Rattle.board.specs.Machine.{Unfinished, none, update, changed, fewer, advanced, feed}
+use Rattle.board.specs.Machine.{Unfinished, none, update, Machine, changed, fewer, advanced, feed}
 use Rattle.board.specs.Sequence.{Run}
 use Rattle.board.proofs.Laws.Bools.{on}
 use Rattle.board.proofs.Laws.View.{View, view, put, view-value, view-store}
@@ -27,6 +27,7 @@ use Rattle.board.proofs.Invariant.{BeforeStore, storesLeft, WorkerInv, 
 use Rattle.board.proofs.Laws.Taken.{standsAt, passed, afterTaken}
 use Rattle.board.proofs.Laws.Rows.{epoch-store}
 use Rattle.board.proofs.Laws.Count.{changed-at, changed-other}
+use Rattle.board.proofs.Checkpoint.Run.{Carried, quietly}
 use Rattle.board.proofs.Keeps.OneCell.{CellInv, ListInv, cell-inv, list-inv, list-more, only-store, Change, changedRun, Ready, ready, one-cell}
 use Rattle.board.specs.Next.{Taken}
 
@@ -143,7 +144,7 @@ keeps-store r w c v Record crashed inv turn =
 -- ---- the call
 
 -- A taken advance.
-pub keeps-advance : (r : Run) (w : ℕ) → Inv r → r .crashed ≡ false → Taken (Advance w) (r .board) → Inv (afterTaken (Advance w) r)
+keeps-advance : (r : Run) (w : ℕ) → Inv r → r .crashed ≡ false → Taken (Advance w) (r .board) → Inv (afterTaken (Advance w) r)
 unfolding standsAt causes effect feed advanceOf advanced
 keeps-advance r w inv crashed t = go (conditionOf s w) refl (pass 8) (now .run .worker w (now .under))
   where
@@ -164,3 +165,37 @@ keeps-advance r w inv crashed t = go (conditionOf s w) refl (pass 8) (now .run .
         (sym e) (sym (worker .0))
         (keeps-store r w c v next (r .crashed && true) inv
         (record { now = now; here = e; cell = worker .1; before = subst (λ (n : ℕ). BeforeStore next n (view (r .board .cache) c)) (now .stage .epochs) (worker .2) }))
+
+-- ---- the last checkpoint
+
+-- An advance leaves memory.
+advance-memory : (k : Condition) (w : ℕ) (s : State) (b : Board) → advanceOf k w s b .memory ≡ b .memory
+unfolding advanceOf advance
+advance-memory Free w s b = refl
+advance-memory Waiting w s b = refl
+advance-memory (Updating Backup c v) w s b = refl
+advance-memory (Updating Mark c v) w s b = refl
+advance-memory (Updating Record c v) w s b = refl
+
+-- An advance leaves the machine's L and checkpointed values.
+record SameValues (m m′ : Machine) : Type 0 where
+  lines : m′ .lines ≡ m .lines
+  values : (c : ℕ) → m′ .checkpointed c ≡ m .checkpointed c
+
+fewer-same : (left w d v : ℕ) (m : Machine) → SameValues m (fewer left w d v m)
+unfolding fewer
+fewer-same zero w d v m = record { lines = refl; values = λ c. refl }
+fewer-same (suc zero) w d v m = record { lines = refl; values = λ c. refl }
+fewer-same (suc (suc n)) w d v m = record { lines = refl; values = λ c. refl }
+
+advanced-same : (u : Unfinished) (w : ℕ) (m : Machine) → SameValues m (advanced u w m)
+unfolding advanced
+advanced-same none w m = record { lines = refl; values = λ c. refl }
+advanced-same (update d v left) w m = fewer-same (left - 1) w d v m
+
+-- A taken advance changes nothing of the last checkpoint.
+pub carried-advance : (r : Run) (w : ℕ) → Inv r → r .crashed ≡ false → Taken (Advance w) (r .board) → Carried false r (afterTaken (Advance w) r)
+unfolding effect feed
+carried-advance r w inv crashed t =
+    let same = advanced-same (r .machine .unfinished w) w (r .machine) in
+    quietly (keeps-advance r w inv crashed t) (advance-memory (conditionOf (r .board .state) w) w (r .board .state) (r .board)) (same .lines) (same .values)

@@ -22,11 +22,11 @@ use Rattle.board.specs.Sequence.{Run}
 use Rattle.board.proofs.Laws.Bools.{chosen, passedOver}
 use Rattle.board.proofs.Laws.View.{View, view, Sized, cell-line, view-backed, view-header}
 use Rattle.board.proofs.Invariant.{Undo, WorkerInv, Touches, AllWait, SameRecords, Early, Late, Stage, early, gap, late, RunningInv, Inv}
-use Rattle.board.proofs.Laws.Rows.{epoch-set, sized-set, header-set, spare-set}
+use Rattle.board.proofs.Laws.Rows.{epoch-set, sized-set, header-set, spare-set, own-same, sizes-same, sizes-set}
 use Rattle.board.proofs.Laws.Taken.{workers-in, afterTaken}
 use Rattle.board.proofs.Laws.Idle.{free-condition}
 use Rattle.board.proofs.Laws.Count.{count-none}
-use Rattle.board.proofs.Checkpoint.Run.{Carried, RunningRun, running-run, inv-running}
+use Rattle.board.proofs.Checkpoint.Run.{Carried, quietly, RunningRun, running-run, inv-running}
 use Rattle.board.proofs.Checkpoint.Stages.{moved, early-placed, early-back}
 use Rattle.board.proofs.Checkpoint.Back.{quiet-back, header-back}
 use Rattle.board.proofs.Checkpoint.Acts.{act-line, act-epoch, act-header, act-release, machine-counts, machine-completes, machine-drops, acted, step-acts, step-ready}
@@ -61,6 +61,7 @@ running-epoch {l} b m z on end wait e v =
       workers = v .workers;
       request = v .request;
       eight = v .eight;
+      own = own-same b (cached (set (b .cache) 0 (epochOf (b .cache) + 1)) (placed (b .state) (b .state .place + 1) (b .state .undo)) b) refl (sizes-same (b .memory)) (sizes-set (b .cache) (epochOf (b .cache) + 1)) (v .own);
       header = header-set (b .cache) (epochOf (b .cache) + 1) z (omega arith) (v .header);
       undoes = λ c h. subst (Undo (epochOf (b .memory)) (m .checkpointed c)) (sym (same c)) (v .undoes c h);
       current = λ c h. ap (λ (k : View). k .value) (same c) ∙ v .current c h;
@@ -93,6 +94,7 @@ running-release {l} b m e v =
       workers = v .workers;
       request = refl;
       eight = length-replicate 8 freeWorker;
+      own = own-same b (stated (released (b .state)) b) refl (sizes-same (b .memory)) (sizes-same (b .cache)) (v .own);
       header = v .header;
       undoes = v .undoes;
       current = v .current;
@@ -126,12 +128,12 @@ module _ (r : Run) (s : RunningRun r) (on : r .board .state .requested ≡ true)
   placed-steps q = ap (λ (n : ℕ). n + 1) (s .running .steps q)
 
   -- A step, from its act with what the machine sees of it.
-  by-act : (act : Act) (m : Machine) → actAt (r .board .state .listed) (r .board .state .place) ≡ act → checkpointStep (r .machine) ≡ m → Carried r (acted r act m) → Carried r (afterTaken Step r)
+  by-act : (act : Act) (m : Machine) → actAt (r .board .state .listed) (r .board .state .place) ≡ act → checkpointStep (r .machine) ≡ m → Carried false r (acted r act m) → Carried false r (afterTaken Step r)
   by-act act m p q o =
-      subst (Carried r) (sym (step-acts r (s .phase) (s .running .request ∙ on) ∙ (λ i. acted r (p i) (q i)))) o
+      subst (Carried false r) (sym (step-acts r (s .phase) (s .running .request ∙ on) ∙ (λ i. acted r (p i) (q i)))) o
 
   -- An entry's line written back.
-  line-carried : r .board .state .place < r .board .state .listed → Early (r .machine .lines) (r .board) (r .machine) → Carried r (acted r writeLine (counted (r .machine)))
+  line-carried : r .board .state .place < r .board .state .listed → Early (r .machine .lines) (r .board) (r .machine) → Carried false r (acted r writeLine (counted (r .machine)))
   unfolding performAct
   line-carried h e =
       let b = r .board in
@@ -147,46 +149,38 @@ module _ (r : Run) (s : RunningRun r) (on : r .board .state .requested ≡ true)
       (ap (λ (k : View). k .value) (view-backed (b .memory) (b .cache) (z .memory) (z .cache) i c p refl))))
 
   -- The epoch stored.
-  epoch-carried : r .board .state .place ≡ r .board .state .listed → Early (r .machine .lines) (r .board) (r .machine) → Carried r (acted r storeEpoch (counted (r .machine)))
+  epoch-carried : r .board .state .place ≡ r .board .state .listed → Early (r .machine .lines) (r .board) (r .machine) → Carried false r (acted r storeEpoch (counted (r .machine)))
   unfolding performAct
   epoch-carried end e =
       let b = r .board in
       let z = s .inv .sizes in
-      record {
-        keeps =
-            inv-running (acted r storeEpoch (counted (r .machine))) (s .on) (s .phase)
-            (record { limits = z .limits; memory = z .memory; cache = sized-set (b .cache) (epochOf (b .cache) + 1) (z .cache); entries = z .entries })
-            (s .inv .spare) (s .inv .kept (s .on)) (running-epoch b (r .machine) (z .cache) on end wait e (s .running));
-        completion = inl (record { epoch = refl; values = λ c h. refl });
-      }
+      quietly (inv-running (acted r storeEpoch (counted (r .machine))) (s .on) (s .phase)
+      (record { limits = z .limits; memory = z .memory; cache = sized-set (b .cache) (epochOf (b .cache) + 1) (z .cache); entries = z .entries })
+      (s .inv .spare) (s .inv .kept (s .on)) (running-epoch b (r .machine) (z .cache) on end wait e (s .running))) refl refl (λ c. refl)
 
   -- Line 0 written back.
-  header-carried : r .board .state .place ≡ r .board .state .listed + 1 → Carried r (acted r writeHeader (completed (counted (r .machine))))
+  header-carried : r .board .state .place ≡ r .board .state .listed + 1 → Carried false r (acted r writeHeader (completed (counted (r .machine))))
   unfolding performAct
   header-carried e =
       header-back r s (r .board .state .place + 1) (r .machine .steps + 1) placed-steps (r .crashed && true) on (omega arith) (omega arith) (omega arith) (s .running .stage)
 
   -- The workers released.
-  release-carried : Late (r .machine .lines) (r .board) (r .machine) → Carried r (acted r release (dropped (counted (r .machine))))
+  release-carried : Late (r .machine .lines) (r .board) (r .machine) → Carried false r (acted r release (dropped (counted (r .machine))))
   unfolding performAct
   release-carried e =
       let z = s .inv .sizes in
-      record {
-        keeps =
-            inv-running (acted r release (dropped (counted (r .machine)))) (s .on) (s .phase)
-            (record { limits = z .limits; memory = z .memory; cache = z .cache; entries = z .entries })
-            (s .inv .spare) (s .inv .kept (s .on)) (running-release (r .board) (r .machine) e (s .running));
-        completion = inl (record { epoch = refl; values = λ c h. refl });
-      }
+      quietly (inv-running (acted r release (dropped (counted (r .machine)))) (s .on) (s .phase)
+      (record { limits = z .limits; memory = z .memory; cache = z .cache; entries = z .entries })
+      (s .inv .spare) (s .inv .kept (s .on)) (running-release (r .board) (r .machine) e (s .running))) refl refl (λ c. refl)
 
   -- A step at line 0's write-back.
-  header-step : r .board .state .place ≡ r .board .state .listed + 1 → Carried r (afterTaken Step r)
+  header-step : r .board .state .place ≡ r .board .state .listed + 1 → Carried false r (afterTaken Step r)
   header-step e =
       by-act writeHeader (completed (counted (r .machine))) (act-header (r .board .state .listed) (r .board .state .place) e)
       (machine-completes (r .machine) (omega (arith, s .running .count, s .running .steps on))) (header-carried e)
 
   -- A step in each stage.
-  stage-step : Stage (r .machine .lines) (r .board) (r .machine) → Carried r (afterTaken Step r)
+  stage-step : Stage (r .machine .lines) (r .board) (r .machine) → Carried false r (afterTaken Step r)
   stage-step (early e) =
       let n = r .board .state .listed in
       let place = r .board .state .place in
@@ -208,12 +202,8 @@ module _ (r : Run) (s : RunningRun r) (on : r .board .state .requested ≡ true)
       ]
 
 -- What a taken step of a running board leaves.
-pub carried-checkpoint-step : (r : Run) → Inv r → r .crashed ≡ false → r .board .state .phase ≡ Running → Taken Step (r .board) → Carried r (afterTaken Step r)
+pub carried-checkpoint-step : (r : Run) → Inv r → r .crashed ≡ false → r .board .state .phase ≡ Running → Taken Step (r .board) → Carried false r (afterTaken Step r)
 carried-checkpoint-step r inv d e t =
     let s = running-run r inv d e in
     let ready = step-ready (r .board) e (workers-in (r .machine .lines) (r .board .state .workers) (s .running .workers) .1) t in
     stage-step r s (ready .0) (ready .1) (s .running .stage)
-
--- A taken step of a running board keeps the invariant.
-pub keeps-checkpoint-step : (r : Run) → Inv r → r .crashed ≡ false → r .board .state .phase ≡ Running → Taken Step (r .board) → Inv (afterTaken Step r)
-keeps-checkpoint-step r inv d e t = carried-checkpoint-step r inv d e t .keeps

@@ -1,6 +1,7 @@
 -- A format's step keeps the invariant: it erases a line, or it stores the header and the machine begins anew.
 use Prim.Native.Nat.{ℕ, _+_, _≤_}
 use mathlib.Core.Path.{_≡_, refl, sym, ap, subst, subst₃, _∙_}
+use mathlib.Core.Logic.{inl, inr}
 use mathlib.Core.Bool.{Bool, true, false, cond, not, _&&_, true≢false, false≢true}
 use native.Mathlib.Omega.{arith}
 use native.Mathlib.Decide.{decLe}
@@ -17,6 +18,7 @@ use Rattle.board.specs.Statements.{Spare}
 use Rattle.board.proofs.Laws.Bools.{chosen, passedOver, and-both, and-off-right}
 use Rattle.board.proofs.Invariant.{FormatMachine, InPhase, Inv}
 use Rattle.board.proofs.Laws.Taken.{afterTaken}
+use Rattle.board.proofs.Checkpoint.Run.{Carried}
 use Rattle.board.proofs.Format.Board.{Formats, Erased, Fresh, erasing, erasing-step, format-erases, finishing, finishing-step, format-finishes}
 use Rattle.board.specs.Next.{Taken}
 
@@ -35,10 +37,10 @@ erases m e q f =
 
 -- ---- the run
 
--- The invariant of a run whose board, machine and erasure are given by equations.
-pub inv-of : (d : Bool) {b b′ : Board} {m m′ : Machine} {e e′ : Bool} → b ≡ b′ → m ≡ m′ → e ≡ e′ → Inv (record { board = b′; machine = m′; crashed = d; erased = e′ }) → Inv (record { board = b; machine = m; crashed = d; erased = e })
-inv-of d p q s inv =
-    subst₃ (λ (b : Board) (m : Machine) (e : Bool). Inv (record { board = b; machine = m; crashed = d; erased = e })) (sym p) (sym q) (sym s) inv
+-- A run whose board, machine and erasure are given by equations.
+carried-of : (r : Run) (d : Bool) {b b′ : Board} {m m′ : Machine} {e e′ : Bool} → b ≡ b′ → m ≡ m′ → e ≡ e′ → Carried true r (record { board = b′; machine = m′; crashed = d; erased = e′ }) → Carried true r (record { board = b; machine = m; crashed = d; erased = e })
+carried-of r d p q s =
+    subst₃ (λ (b : Board) (m : Machine) (e : Bool). Carried true r (record { board = b; machine = m; crashed = d; erased = e })) (sym p) (sym q) (sym s)
 
 -- A finished format beside the machine at its beginning.
 pub fresh-inv : (l : ℕ) (b : Board) (d : Bool) → Fresh l b → Inv (record { board = b; machine = beginning l; crashed = d; erased = false })
@@ -63,9 +65,9 @@ erased-inv b b′ m d s spare f q n =
           (s .formats .format, record { formatting = f; request = q; steps = omega (arith, s .place); erased = λ h. refl });
     }
 
--- A format's step keeps the invariant.
-pub keeps-format-step : (r : Run) → Inv r → r .crashed ≡ false → r .board .state .phase ≡ Formatting → Taken Step (r .board) → Inv (afterTaken Step r)
-keeps-format-step r inv d p t =
+-- A format's step keeps the invariant; memory says that there is no board here until the last one, which leaves all values 0.
+pub carried-format-step : (r : Run) → Inv r → r .crashed ≡ false → r .board .state .phase ≡ Formatting → Carried true r (afterTaken Step r)
+carried-format-step r inv d p =
     elim (decLe (r .board .state .place) (r .machine .lines)) [
       | yes h ↦ erased h
       | no h ↦ finished (omega (arith, formats .format .within))
@@ -81,25 +83,33 @@ keeps-format-step r inv d p t =
     beside = at .1
 
     -- the machine and the erasure, by whether the step finishes the format
-    kept : {last : Bool} (b : Board) → finishesFormat (r .machine) ≡ last → effect Step (r .board) ≡ b → Inv (record { board = b; machine = cond last (beginning (r .machine .lines)) (counted (r .machine)); crashed = r .crashed && true; erased = not last }) → Inv (afterTaken Step r)
-    kept b e s next =
-        inv-of (r .crashed && true) s
+    carried : {last : Bool} (b : Board) → finishesFormat (r .machine) ≡ last → effect Step (r .board) ≡ b → Carried true r (record { board = b; machine = cond last (beginning (r .machine .lines)) (counted (r .machine)); crashed = r .crashed && true; erased = not last }) → Carried true r (afterTaken Step r)
+    carried b e s next =
+        carried-of r (r .crashed && true) s
         (unrequested (r .machine) (beside .request) ∙ ap (λ (k : Bool). cond k (beginning (r .machine .lines)) (counted (r .machine))) e)
         (erases (r .machine) (r .erased) (beside .request) (beside .formatting) ∙ ap not e)
         next
 
-    erased : r .board .state .place ≤ r .machine .lines → Inv (afterTaken Step r)
+    erased : r .board .state .place ≤ r .machine .lines → Carried true r (afterTaken Step r)
     erased h =
-        kept (erasing (r .board))
+        let after = format-erases (r .machine .lines) (r .board) formats h in
+        carried (erasing (r .board))
         (and-off-right (r .machine .formatting) (eqb (r .machine .steps + 1) (formatSteps (r .machine .lines)))
         (ne-eqb (r .machine .steps + 1) (formatSteps (r .machine .lines)) (λ e. omega (arith, beside .steps))))
         (erasing-step (r .machine .lines) (r .board) formats h)
-        (erased-inv (r .board) (erasing (r .board)) (r .machine) (r .crashed && true) (format-erases (r .machine .lines) (r .board) formats h) (inv .spare) (beside .formatting) (beside .request) (beside .steps))
+        (record {
+          keeps = erased-inv (r .board) (erasing (r .board)) (r .machine) (r .crashed && true) after (inv .spare) (beside .formatting) (beside .request) (beside .steps);
+          completion = inl (record { lines = refl; epoch = after .epoch; values = λ c b. refl });
+        })
 
-    finished : r .board .state .place ≡ r .machine .lines + 1 → Inv (afterTaken Step r)
+    finished : r .board .state .place ≡ r .machine .lines + 1 → Carried true r (afterTaken Step r)
     finished e =
-        kept (finishing (r .board))
+        let after = format-finishes (r .machine .lines) (r .board) formats e in
+        carried (finishing (r .board))
         (and-both (r .machine .formatting) (eqb (r .machine .steps + 1) (formatSteps (r .machine .lines))) (beside .formatting)
         (eq-eqb (r .machine .steps + 1) (formatSteps (r .machine .lines)) (omega (arith, beside .steps))))
         (finishing-step (r .machine .lines) (r .board) formats e)
-        (fresh-inv (r .machine .lines) (finishing (r .board)) (r .crashed && true) (format-finishes (r .machine .lines) (r .board) formats e))
+        (record {
+          keeps = fresh-inv (r .machine .lines) (finishing (r .board)) (r .crashed && true) after;
+          completion = inr (record { lines = refl; before = at .0 .epoch (omega arith); epoch = after .epoch; values = λ c. refl; current = λ c. refl });
+        })

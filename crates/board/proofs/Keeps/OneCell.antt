@@ -29,7 +29,7 @@ use Rattle.board.proofs.Laws.Bools.{clash, not-off}
 use Rattle.board.proofs.Laws.View.{View, view, view-other}
 use Rattle.board.proofs.Invariant.{Undo, WorkerInv, BeforeStore, Touches, progress, Early, Stage, early, gap, late, RunningInv, InPhase, Inv}
 use Rattle.board.proofs.Laws.Taken.{workers-in}
-use Rattle.board.proofs.Laws.Rows.{header-same}
+use Rattle.board.proofs.Laws.Rows.{header-same, own-same, sizes-same}
 use Rattle.board.proofs.Laws.Count.{changed-at, changed-other, at-each, count-most, count-more}
 
 -- ---- one cell, and the list
@@ -200,7 +200,7 @@ ready r w test unlike inv crashed on worker holds = go (r .board .state .phase) 
 -- ---- the workers after a change
 
 -- The worker has its new condition.
-condition-at : (s : State) (w : ℕ) (condition : Condition) → w < length (s .worker) → conditionOf (conditioned s w condition) w ≡ condition
+pub condition-at : (s : State) (w : ℕ) (condition : Condition) → w < length (s .worker) → conditionOf (conditioned s w condition) w ≡ condition
 condition-at s w condition h = ap (λ (x : Worker). x .condition) (getD-set-same (s .worker) w (record { condition = condition }) freeWorker h)
 
 -- Every other worker has its old one.
@@ -303,6 +303,7 @@ module _ (b : Board) (m : Machine) (ch : Change) (run : RunningInv (m .lines) b 
         workers = run .workers;
         request = run .request;
         eight = length-set (b .state .worker) (ch .worker) (record { condition = ch .condition }) ∙ run .eight;
+        own = own-same b (changedBoard ch b) refl (sizes-same (b .memory)) (λ k p q. fits .only .header k q) (run .own);
         header = header-same (b .cache) (ch .cache) (fits .only .header) (run .header);
         undoes = λ c h. each-cell c h .undo;
         current = λ c h. each-cell c h .current;

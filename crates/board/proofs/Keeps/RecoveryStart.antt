@@ -32,6 +32,7 @@ started-recovery r inv t =
       request = refl;
       free = refl;
       within = some-cell (r .machine .lines) (inv .sizes .limits);
+      own = record { header = λ i p q. refl; workers = refl };
       header = k .header;
       epochs = refl;
       undoes = k .undoes;

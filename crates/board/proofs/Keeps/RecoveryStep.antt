@@ -1,6 +1,7 @@
 -- A taken step of a recovery keeps the invariant; the last one leaves a running board.
 use Prim.Native.Nat.{ℕ, zero, suc, _+_, _<_}
 use mathlib.Core.Path.{_≡_, refl, sym, ap, subst, _∙_}
+use mathlib.Core.Logic.{inl}
 use mathlib.Core.List.{List}
 use mathlib.Core.Bool.{Bool, true, false, _&&_}
 use native.Mathlib.Omega.{arith}
@@ -23,10 +24,13 @@ use Rattle.board.specs.Machine.{Machine, countUnder, counted, stepped, f
 use Rattle.board.specs.Sequence.{Run, erasedBy}
 use Rattle.board.proofs.Laws.Bools.{passedOver, clash, and-off}
 use Rattle.board.proofs.Laws.View.{View, view, view-mark, view-backup, view-store, view-backed, cell-line}
-use Rattle.board.proofs.Invariant.{Sizes, AtPlace, RecoveryInv, RecoveryMachine, WorkerInv, Touches, progress, Early, early, RunningInv, InPhase, Inv}
+use Rattle.board.proofs.Invariant.{Sizes, SameSizes, Own, AtPlace, RecoveryInv, RecoveryMachine, WorkerInv, Touches, progress, Early, early, RunningInv, InPhase, Inv}
 use Rattle.board.proofs.Laws.Taken.{afterTaken}
 use Rattle.board.proofs.Recovery.Board.{recovery-cases, past-cases, Underway, underway-placed, underway-opened, all-free}
 use Rattle.board.proofs.Laws.Count.{count-none}
+use Rattle.board.proofs.Laws.Rows.{epoch-back-other, own-same, sizes-same, sizes-store, sizes-back}
+use Rattle.board.specs.Statements.{Unchanged}
+use Rattle.board.proofs.Checkpoint.Run.{Carried, quiet}
 use Rattle.board.proofs.Recovery.Rows.{whole-epoch, whole-kept, Restoring, restoring-own, restoring-store, restoring-back, restoring-past}
 use Rattle.board.specs.Next.{Taken}
 
@@ -56,9 +60,9 @@ after-step r m =
 -- ---- the two kinds of board that a step leaves
 
 -- A recovering board, of its parts.
-recovering : {l : ℕ} {xs : ℕ → ℕ} (b : Board) → Underway l (b .state) → Restoring l (epochOf (b .memory)) xs (b .state .place) (b .memory) (b .cache) →
+recovering : {l : ℕ} {xs : ℕ → ℕ} (b : Board) → Underway l (b .state) → Own b → Restoring l (epochOf (b .memory)) xs (b .state .place) (b .memory) (b .cache) →
     AtPlace (b .state .undo) (epochOf (b .memory)) (xs (b .state .place)) (view (b .memory) (b .state .place)) (view (b .cache) (b .state .place)) → RecoveryInv l xs b
-recovering b u k here =
+recovering b u own k here =
     record {
       lines = u .lines;
       workers = u .workers;
@@ -66,6 +70,7 @@ recovering b u k here =
       request = u .request;
       free = u .free;
       within = u .within;
+      own = own;
       header = k .cache .header;
       epochs = k .cache .epoch;
       undoes = k .cache .undoes;
@@ -94,13 +99,14 @@ passed-early b m v u k =
     still = passedOver (b .state .requested) (b .state .place) 0 (u .request)
 
 -- Where a recovery has passed every cell, the board can run.
-running : {l : ℕ} (b : Board) (m : Machine) → RecoveryMachine m → Underway l (b .state) → Restoring l (epochOf (b .memory)) (m .checkpointed) (cells l) (b .memory) (b .cache) → RunningInv l b m
-running {l} b m v u k =
+running : {l : ℕ} (b : Board) (m : Machine) → RecoveryMachine m → Underway l (b .state) → Own b → Restoring l (epochOf (b .memory)) (m .checkpointed) (cells l) (b .memory) (b .cache) → RunningInv l b m
+running {l} b m v u own k =
     record {
       lines = u .lines;
       workers = u .workers;
       request = v .request ∙ sym (u .request);
       eight = ap length (u .free);
+      own = own;
       header = k .cache .header;
       undoes = k .cache .undoes;
       current = λ c h. k .cache .undoes c h .plain (k .marks .passedCache c h) ∙ sym (v .current c);
@@ -115,7 +121,7 @@ running {l} b m v u k =
 
 -- ---- the steps
 
-module _ (r : Run) (m : RecoveryMachine (r .machine)) (off : r .erased ≡ false) (on : r .board .state .phase ≡ Recovering) (sizes : Sizes (r .machine .lines) (r .board)) (u : Underway (r .machine .lines) (r .board .state)) where
+module _ (r : Run) (m : RecoveryMachine (r .machine)) (off : r .erased ≡ false) (on : r .board .state .phase ≡ Recovering) (sizes : Sizes (r .machine .lines) (r .board)) (u : Underway (r .machine .lines) (r .board .state)) (own : Own (r .board)) where
   -- The board with other rows and another state record.
   abbrev left : State → List ℕ → List ℕ → Board
   left s memory cache = record { state = s; memory = memory; cache = cache; entries = r .board .entries }
@@ -136,31 +142,31 @@ module _ (r : Run) (m : RecoveryMachine (r .machine)) (off : r .erased ≡ false
   counting = record { request = m .request; formatting = m .formatting; current = m .current; marked = m .marked; unfinished = m .unfinished }
 
   -- A step after which the recovery goes on.
-  goes-on : {e : ℕ} (place : ℕ) (undo : UndoStep) (memory cache : List ℕ) → place < cells (r .machine .lines) → Restoring (r .machine .lines) e (r .machine .checkpointed) place memory cache →
+  goes-on : {e : ℕ} (place : ℕ) (undo : UndoStep) (memory cache : List ℕ) → SameSizes (r .board .memory) memory → SameSizes (r .board .cache) cache → place < cells (r .machine .lines) → Restoring (r .machine .lines) e (r .machine .checkpointed) place memory cache →
       AtPlace undo e (r .machine .checkpointed place) (view memory place) (view cache place) → Inv (stepRun r (left (placed (r .board .state) place undo) memory cache))
-  goes-on place undo memory cache h k here =
+  goes-on place undo memory cache sm sc h k here =
       every-phase (placed (r .board .state) place undo) memory cache k
       (subst (λ (p : Phase). InPhase p (stepRun r (left (placed (r .board .state) place undo) memory cache))) (sym on) (
-        recovering (left (placed (r .board .state) place undo) memory cache) (underway-placed place undo h u) (restoring-own k)
+        recovering (left (placed (r .board .state) place undo) memory cache) (underway-placed place undo h u) (own-same (r .board) (left (placed (r .board .state) place undo) memory cache) refl sm sc own) (restoring-own k)
             (subst (λ (n : ℕ). AtPlace undo n (r .machine .checkpointed place) (view memory place) (view cache place)) (sym (k .memory .epoch)) here),
         counting,
         off,
       ))
 
   -- The step that ends the recovery.
-  ends : {e : ℕ} (memory cache : List ℕ) → Restoring (r .machine .lines) e (r .machine .checkpointed) (cells (r .machine .lines)) memory cache → Inv (stepRun r (left (opened (r .board .state) (r .board .state .listed)) memory cache))
-  ends memory cache k =
+  ends : {e : ℕ} (memory cache : List ℕ) → SameSizes (r .board .memory) memory → SameSizes (r .board .cache) cache → Restoring (r .machine .lines) e (r .machine .checkpointed) (cells (r .machine .lines)) memory cache → Inv (stepRun r (left (opened (r .board .state) (r .board .state .listed)) memory cache))
+  ends memory cache sm sc k =
       let s = opened (r .board .state) (r .board .state .listed) in
       every-phase s memory cache k
-      (running (left s memory cache) (counted (r .machine)) counting (underway-opened (omega (arith, u .within)) u) (restoring-own k), off)
+      (running (left s memory cache) (counted (r .machine)) counting (underway-opened (omega (arith, u .within)) u) (own-same (r .board) (left s memory cache) refl sm sc own) (restoring-own k), off)
 
   -- A step past the cell at the place.
-  goes-past : {e : ℕ} (memory cache : List ℕ) → Restoring (r .machine .lines) e (r .machine .checkpointed) (r .board .state .place) memory cache →
+  goes-past : {e : ℕ} (memory cache : List ℕ) → SameSizes (r .board .memory) memory → SameSizes (r .board .cache) cache → Restoring (r .machine .lines) e (r .machine .checkpointed) (r .board .state .place) memory cache →
       (view cache (r .board .state .place) .mark ≡ e → ⊥) → (view memory (r .board .state .place) .mark ≡ e → ⊥) → Inv (stepRun r (left (pastCell (r .board .state)) memory cache))
-  goes-past {e} memory cache k oc om =
+  goes-past {e} memory cache sm sc k oc om =
       past-cases (λ (s : State). Inv (stepRun r (left s memory cache))) (r .board .state)
-      (λ h. goes-on (r .board .state .place + 1) Restore memory cache (omega (arith, u .lines)) (restoring-past k oc om) (k .marks .ahead (r .board .state .place + 1) (omega (arith, u .lines)) (omega arith)))
-      (λ h. ends memory cache
+      (λ h. goes-on (r .board .state .place + 1) Restore memory cache sm sc (omega (arith, u .lines)) (restoring-past k oc om) (k .marks .ahead (r .board .state .place + 1) (omega (arith, u .lines)) (omega arith)))
+      (λ h. ends memory cache sm sc
       (let q : r .board .state .place + 1 ≡ cells (r .machine .lines) = omega (arith, u .lines, u .within) in
       subst (λ (n : ℕ). Restoring (r .machine .lines) e (r .machine .checkpointed) n memory cache) q (restoring-past k oc om)))
 
@@ -214,8 +220,8 @@ here-at {l} {xs} {b} undo i q =
     subst (λ (y : UndoStep). AtPlace y (epochOf (b .memory)) (xs (b .state .place)) (view (b .memory) (b .state .place)) (view (b .cache) (b .state .place))) q (i .here)
 
 -- A taken step of a recovery keeps the invariant.
-pub keeps-recovery-step : (r : Run) → Inv r → r .crashed ≡ false → r .board .state .phase ≡ Recovering → Taken Step (r .board) → Inv (afterTaken Step r)
-keeps-recovery-step r inv lit phase t =
+keeps-recovery-step : (r : Run) → Inv r → r .crashed ≡ false → r .board .state .phase ≡ Recovering → Inv (afterTaken Step r)
+keeps-recovery-step r inv lit phase =
     let s = r .board .state in
     let p = subst (λ (p : Phase). InPhase p r) phase (inv .phase lit) in
     let i = p .0 in
@@ -226,13 +232,39 @@ keeps-recovery-step r inv lit phase t =
     (recovery-cases (λ (b : Board). Inv (stepRun r b)) (r .board) phase
     (λ q y.
     let a = restore-step k h (logged-mark (r .board .cache) (s .place) (i .epochs) y) in
-    goes-on r (p .1) (p .2) phase (inv .sizes) u (s .place) Unmark (r .board .memory) (restored (r .board .cache) (s .place)) h (a .0) (a .1))
+    goes-on r (p .1) (p .2) phase (inv .sizes) u (i .own) (s .place) Unmark (r .board .memory) (restored (r .board .cache) (s .place)) (sizes-same (r .board .memory)) (sizes-store (r .board .cache) (s .place) Field.Record _) h (a .0) (a .1))
     (λ q y.
     let o = unlogged-mark (r .board .cache) (s .place) (i .epochs) y in
-    goes-past r (p .1) (p .2) phase (inv .sizes) u (r .board .memory) (r .board .cache) k o (λ z. o (here-at Restore i q z)))
+    goes-past r (p .1) (p .2) phase (inv .sizes) u (i .own) (r .board .memory) (r .board .cache) (sizes-same (r .board .memory)) (sizes-same (r .board .cache)) k o (λ z. o (here-at Restore i q z)))
     (λ q.
     let a = unmark-step k h (here-at Unmark i q) in
-    goes-on r (p .1) (p .2) phase (inv .sizes) u (s .place) WriteLine (r .board .memory) (unmarked (r .board .cache) (s .place)) h (a .0) (a .1))
+    goes-on r (p .1) (p .2) phase (inv .sizes) u (i .own) (s .place) WriteLine (r .board .memory) (unmarked (r .board .cache) (s .place)) (sizes-same (r .board .memory)) (sizes-store (r .board .cache) (s .place) Field.Mark 0) h (a .0) (a .1))
     (λ q.
     let a = write-step k h (here-at WriteLine i q) in
-    goes-past r (p .1) (p .2) phase (inv .sizes) u (writtenBack (cellLine (s .place)) (r .board)) (r .board .cache) (a .0) (here-at WriteLine i q) (a .1)))
+    goes-past r (p .1) (p .2) phase (inv .sizes) u (i .own) (writtenBack (cellLine (s .place)) (r .board)) (r .board .cache) (sizes-back (r .board .memory) (r .board .cache) (inv .sizes .memory) (inv .sizes .cache) (cellLine (s .place)) (cell-line (r .machine .lines) (s .place) h) (i .own .header)) (sizes-same (r .board .cache)) (a .0) (here-at WriteLine i q) (a .1)))
+
+-- The run after a recovery's step has the last checkpoint and the sizes of the run before it.
+recovery-unchanged : (r : Run) → Inv r → r .crashed ≡ false → r .board .state .phase ≡ Recovering → Unchanged r (stepRun r (effect Step (r .board)))
+recovery-unchanged r inv lit phase =
+    let i = subst (λ (p : Phase). InPhase p r) phase (inv .phase lit) .0 in
+    let b = r .board in
+    let z = inv .sizes in
+    let line = cell-line (r .machine .lines) (b .state .place) (i .within) in
+    recovery-cases (λ (d : Board). Unchanged r (stepRun r d)) b phase
+    (λ q y. quiet r (stepRun r _) refl refl (λ c. refl))
+    (λ q y. quiet r (stepRun r _) refl refl (λ c. refl))
+    (λ q. quiet r (stepRun r _) refl refl (λ c. refl))
+    (λ q. record {
+      board = record { lines = refl; header = sizes-back (b .memory) (b .cache) (z .memory) (z .cache) (cellLine (b .state .place)) line (i .own .header) };
+      epoch = epoch-back-other (b .memory) (b .cache) (z .memory) (z .cache) (cellLine (b .state .place)) (omega arith) line;
+      values = λ c h. refl;
+    })
+
+-- A taken step of a recovery keeps the invariant and changes nothing of the last checkpoint.
+pub carried-recovery-step : (r : Run) → Inv r → r .crashed ≡ false → r .board .state .phase ≡ Recovering → Carried false r (afterTaken Step r)
+carried-recovery-step r inv lit phase =
+    record {
+      keeps = keeps-recovery-step r inv lit phase;
+      completion =
+          inl (subst (Unchanged r) (after-step r (subst (λ (p : Phase). InPhase p r) phase (inv .phase lit) .1)) (recovery-unchanged r inv lit phase));
+    }

@@ -33,6 +33,7 @@ running-request b m off room v =
       workers = v .workers;
       request = refl;
       eight = v .eight;
+      own = record { header = v .own .header; workers = v .own .workers };
       header = v .header;
       undoes = v .undoes;
       current = v .current;

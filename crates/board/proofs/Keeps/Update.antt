@@ -58,12 +58,15 @@ abbrev starting : ℕ → ℕ → ℕ → Board → Machine → Change
 starting w c v b m =
     record { worker = w; cell = c; condition = Updating (firstStore (b .cache) c) c v; listed = b .state .listed; cache = b .cache; entries = b .entries; current = m .current; marked = m .marked; unfinished = update c v (cond (m .marked c) 1 3) }
 
+-- A cell is marked in the machine where it is logged in the cache.
+pub marked-logged : (r : Run) {w : ℕ} → Ready r w → (c : ℕ) → c < cells (r .machine .lines) → r .machine .marked c ≡ logged (r .board .cache) c
+marked-logged r now c h = now .stage .marks c h ∙ ap₂ eqb (sym (view-mark (r .board .cache) c)) (sym (now .stage .epochs))
+
 -- The start of an update of a cell that no other worker updates.
 start : (r : Run) (w c v : ℕ) (crashed : Bool) → Inv r → Ready r w → c < cells (r .machine .lines) → othersUpdate (r .board .state) w c ≡ false → Inv (changedRun (starting w c v (r .board) (r .machine)) crashed r)
 start r w c v crashed inv now h e =
     let b = r .board in
     let m = r .machine in
-    let same : m .marked c ≡ logged (b .cache) c = now .stage .marks c h ∙ ap₂ eqb (sym (view-mark (b .cache) c)) (sym (now .stage .epochs)) in
     one-cell r (starting w c v b m) crashed inv now
     (record {
       only = only-none c (b .cache);
@@ -72,26 +75,35 @@ start r w c v crashed inv now h e =
       here = cell-inv (now .run) (now .stage) c h;
       list = list-inv (now .run) (now .stage);
       size = refl;
-      worker = started-worker (m .lines) c v (b .cache) (m .marked c) h same;
+      worker = started-worker (m .lines) c v (b .cache) (m .marked c) h (marked-logged r now c h);
       own = λ d t. t;
       alone = alone (b .state) w c (workers-in (m .lines) (b .state .workers) (now .run .workers) .1) e;
     })
+
+-- The cell of a taken update is one of the board's.
+pub update-cell : (r : Run) (w c v : ℕ) → Ready r w → Taken (Update w c v) (r .board) → c < cells (r .machine .lines)
+unfolding standsAt causes
+update-cell r w c v now t =
+    let s = r .board .state in
+    let inside : c < cells (s .lines) = leb-false (cells (s .lines)) c (or-right (ltb c (s .workers)) (leb (cells (s .lines)) c) (passed (Update w c v) (r .board) t 7)) in
+    subst (λ (l : ℕ). c < cells l) (now .run .lines) inside
+
+-- A worker's restart cell is one of the board's.
+pub restart-cell : (r : Run) (w : ℕ) → Ready r w → w < cells (r .machine .lines)
+restart-cell r w now = omega (arith, now .under, workers-in (r .machine .lines) (r .board .state .workers) (now .run .workers) .2)
 
 -- A taken start of an update.
 pub keeps-update : (r : Run) (w c v : ℕ) → Inv r → r .crashed ≡ false → Taken (Update w c v) (r .board) → Inv (afterTaken (Update w c v) r)
 unfolding standsAt causes effect feed
 keeps-update r w c v inv crashed t =
-    let s = r .board .state in
     let pass = passed (Update w c v) (r .board) t in
     let now = ready r w isFree refl inv crashed (pass 2) (pass 6) (pass 8) in
-    let inside : c < cells (s .lines) = leb-false (cells (s .lines)) c (or-right (ltb c (s .workers)) (leb (cells (s .lines)) c) (pass 7)) in
-    start r w c v _ inv now (subst (λ (l : ℕ). c < cells l) (now .run .lines) inside) (pass 9)
+    start r w c v _ inv now (update-cell r w c v now t) (pass 9)
 
 -- A taken start of a restart point.
 pub keeps-restart : (r : Run) (w v : ℕ) → Inv r → r .crashed ≡ false → Taken (RestartPoint w v) (r .board) → Inv (afterTaken (RestartPoint w v) r)
 unfolding standsAt causes effect feed
 keeps-restart r w v inv crashed t =
-    let s = r .board .state in
     let pass = passed (RestartPoint w v) (r .board) t in
     let now = ready r w isFree refl inv crashed (pass 2) (pass 6) (pass 8) in
-    start r w w v _ inv now (omega (arith, now .under, workers-in (r .machine .lines) (s .workers) (now .run .workers) .2)) (pass 9)
+    start r w w v _ inv now (restart-cell r w now) (pass 9)

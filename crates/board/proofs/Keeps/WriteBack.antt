@@ -20,7 +20,7 @@ use Rattle.board.specs.Sequence.{Run}
 use Rattle.board.proofs.Laws.Bools.{on, passedOver, clash, and-left, and-right, and-both, and-off, and-off-right}
 use Rattle.board.proofs.Laws.View.{View, view, sized-back}
 use Rattle.board.proofs.Invariant.{Undoes, Sizes, AtPlace, RecoveryInv, Stage, early, gap, late, RunningInv, InPhase, Inv}
-use Rattle.board.proofs.Laws.Rows.{spare-back}
+use Rattle.board.proofs.Laws.Rows.{spare-back, own-same, sizes-same, sizes-back}
 use Rattle.board.proofs.Laws.Taken.{standsAt, passed, afterTaken}
 use Rattle.board.proofs.Checkpoint.Run.{Carried, RunningRun, running-run}
 use Rattle.board.proofs.Checkpoint.Memory.{both-back, epoch-back, kept-back}
@@ -47,6 +47,7 @@ recovery-back {l} {xs} b z i h v =
       request = v .request;
       free = v .free;
       within = v .within;
+      own = own-same b (backed i (b .state) b) refl (sizes-back (b .memory) (b .cache) (z .memory) (z .cache) i h (v .own .header)) (sizes-same (b .cache)) (v .own);
       header = v .header;
       epochs = v .epochs ∙ sym epoch;
       undoes = subst (λ (e : ℕ). Undoes l e xs (b .cache)) (sym epoch) (v .undoes);
@@ -91,13 +92,13 @@ seen-none i m off =
     (and-off (eqb i 0 && m .requested) (leb (markedCount m + 1) (m .steps)) (and-off-right (eqb i 0) (m .requested) off))
 
 -- A write-back in recovery.
-carried-recovering : (r : Run) → Inv r → InPhase Recovering r → r .board .state .phase ≡ Recovering → (i : ℕ) → i ≤ r .machine .lines → Carried r (afterTaken (WriteBack i) r)
+carried-recovering : (r : Run) → Inv r → InPhase Recovering r → r .board .state .phase ≡ Recovering → (i : ℕ) → i ≤ r .machine .lines → Carried false r (afterTaken (WriteBack i) r)
 unfolding effect feed
 carried-recovering r inv v e i h =
     let z = inv .sizes in
     let b = r .board in
     let after : Machine → Run = λ m. record { board = backed i (b .state) b; machine = m; crashed = r .crashed && true; erased = r .erased } in
-    subst (λ (m : Machine). Carried r (after m)) (sym (seen-none i (r .machine) (v .1 .request)))
+    subst (λ (m : Machine). Carried false r (after m)) (sym (seen-none i (r .machine) (v .1 .request)))
     (record {
       keeps =
           record {
@@ -108,16 +109,16 @@ carried-recovering r inv v e i h =
             phase = λ d. subst (λ (p : Phase). InPhase p (after (r .machine))) (sym e) (recovery-back b z i h (v .0), v .1, v .2);
           };
       completion =
-          inl (record { epoch = epoch-back (b .memory) (b .cache) (z .memory) (z .cache) i h (λ k. v .0 .epochs); values = λ c p. refl });
+          inl (record { board = record { lines = refl; header = sizes-back (b .memory) (b .cache) (z .memory) (z .cache) i h (v .0 .own .header) }; epoch = epoch-back (b .memory) (b .cache) (z .memory) (z .cache) i h (λ k. v .0 .epochs); values = λ c p. refl });
     })
 
 -- ---- running
 
 -- A write-back while running.
-carried-running : (r : Run) → RunningRun r → (i : ℕ) → i ≤ r .machine .lines → Carried r (afterTaken (WriteBack i) r)
+carried-running : (r : Run) → RunningRun r → (i : ℕ) → i ≤ r .machine .lines → Carried false r (afterTaken (WriteBack i) r)
 unfolding effect feed writeBackSeen
 carried-running r s i h =
-    on (λ (n : Machine). Carried r (record { board = backed i (b .state) b; machine = n; crashed = r .crashed && true; erased = r .erased }))
+    on (λ (n : Machine). Carried false r (record { board = backed i (b .state) b; machine = n; crashed = r .crashed && true; erased = r .erased }))
     (completes i m) (completed m) m
     (λ t. header (completes-parts i m t))
     (λ f. other f (v .stage))
@@ -134,17 +135,17 @@ carried-running r s i h =
     after : ℕ → (ℕ → ℕ) → Run
     after j xs = backRun r j (b .state .place) xs (m .steps) (r .crashed && true)
 
-    header : (i ≡ 0) × (m .requested ≡ true) × (markedCount m + 1 ≤ m .steps) → Carried r (after i (m .current))
+    header : (i ≡ 0) × (m .requested ≡ true) × (markedCount m + 1 ≤ m .steps) → Carried false r (after i (m .current))
     header p =
         let on : b .state .requested ≡ true = sym (v .request) ∙ p .1 in
         let past : b .state .listed + 1 ≤ b .state .place = omega (arith, v .count, v .steps on, p .2) in
-        subst (λ (j : ℕ). Carried r (after j (m .current))) (sym (p .0))
+        subst (λ (j : ℕ). Carried false r (after j (m .current))) (sym (p .0))
         (header-back r s (b .state .place) (m .steps) (v .steps) (r .crashed && true) on past past (place-high on (v .stage)) (v .stage))
 
-    quiet : (i ≡ 0 → epochOf (b .cache) ≡ epochOf (b .memory)) → Stage (m .lines) (backed i (b .state) b) m → Carried r (after i (m .checkpointed))
+    quiet : (i ≡ 0 → epochOf (b .cache) ≡ epochOf (b .memory)) → Stage (m .lines) (backed i (b .state) b) m → Carried false r (after i (m .checkpointed))
     quiet e stage = quiet-back r s (b .state .place) (m .steps) (v .steps) (r .crashed && true) i h e (m .checkpointed) (λ c p. refl) stage
 
-    other : completes i m ≡ false → Stage (m .lines) b m → Carried r (after i (m .checkpointed))
+    other : completes i m ≡ false → Stage (m .lines) b m → Carried false r (after i (m .checkpointed))
     other f (early e) = quiet (λ q. e .epochs) (early (early-back b (s .inv .sizes) i h (v .listed) e))
     other f (gap g) =
         let o : i ≡ 0 → ⊥ = completes-not i m f (v .request ∙ g .request) (omega (arith, v .count, v .steps (g .request), g .place)) in
@@ -158,7 +159,7 @@ carried-running r s i h =
 -- ---- every phase that takes it
 
 -- What a taken write-back leaves.
-pub carried-write-back : (r : Run) (i : ℕ) → Inv r → r .crashed ≡ false → Taken (WriteBack i) (r .board) → Carried r (afterTaken (WriteBack i) r)
+pub carried-write-back : (r : Run) (i : ℕ) → Inv r → r .crashed ≡ false → Taken (WriteBack i) (r .board) → Carried false r (afterTaken (WriteBack i) r)
 unfolding standsAt causes
 carried-write-back r i inv d t = go (r .board .state .phase) refl
   where
@@ -168,7 +169,7 @@ carried-write-back r i inv d t = go (r .board .state .phase) refl
     line : i ≤ r .board .state .lines
     line = ltb-false (r .board .state .lines) i (passed (WriteBack i) (r .board) t 7)
 
-    go : (p : Phase) → r .board .state .phase ≡ p → Carried r (afterTaken (WriteBack i) r)
+    go : (p : Phase) → r .board .state .phase ≡ p → Carried false r (afterTaken (WriteBack i) r)
     go Off e = absurd (true≢false (subst (λ (p : Phase). isOff p || isFormatting p ≡ false) e allowed))
     go Formatting e = absurd (true≢false (subst (λ (p : Phase). isOff p || isFormatting p ≡ false) e allowed))
     go Recovering e =
@@ -177,7 +178,3 @@ carried-write-back r i inv d t = go (r .board .state .phase) refl
     go Running e =
         let s = running-run r inv d e in
         carried-running r s i (omega (arith, line, s .running .lines))
-
--- A taken write-back keeps the invariant.
-pub keeps-write-back : (r : Run) (i : ℕ) → Inv r → r .crashed ≡ false → Taken (WriteBack i) (r .board) → Inv (afterTaken (WriteBack i) r)
-keeps-write-back r i inv d t = carried-write-back r i inv d t .keeps

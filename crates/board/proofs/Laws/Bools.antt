@@ -23,6 +23,11 @@ pub passedOver {ℓ} : {A : Type ℓ} (t : Bool) (x y : A) → t ≡ false → c
 passedOver true x y e = absurd (true≢false e)
 passedOver false x y e = refl
 
+-- What is to be shown of a test, by its two cases.
+pub decide {ℓ} : (P : Bool → Type ℓ) (t : Bool) → (t ≡ true → P true) → (t ≡ false → P false) → P t
+decide P true f g = f refl
+decide P false f g = g refl
+
 -- Two cases of a test.
 pub split {ℓ} : {A : Type ℓ} (t : Bool) → (t ≡ true → A) → (t ≡ false → A) → A
 split true f g = f refl

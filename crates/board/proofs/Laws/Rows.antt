@@ -13,16 +13,12 @@ use Rattle.line.specs.declared.Field.{Field}
 use Rattle.line.specs.Line.{lineStart, lineOf, withLine}
 use Rattle.line.specs.Cell.{withField}
 use Rattle.line.proofs.Laws.{length-lineOf, getD-lineOf, getD-withLine-in, getD-withLine-out, header-withField, header-withLine, spare-withField}
-use Rattle.board.specs.Board.{workersOutside, epochOf, linesOf, workersOf, restNotZero}
+use Rattle.board.specs.Board.{Board, workersOutside, epochOf, linesOf, workersOf, restNotZero}
 use Rattle.board.specs.Statements.{Spare}
 use Rattle.board.proofs.Laws.View.{Sized, line-in}
-use Rattle.board.proofs.Invariant.{Header}
+use Rattle.board.proofs.Invariant.{Header, SameSizes, Own}
 
 -- ---- the header
-
--- The header's words after the epoch are the same in two rows.
-abbrev pub SameSizes : List ℕ → List ℕ → Type 0
-SameSizes row row′ = (k : ℕ) → 0 < k → k < 8 → getD row′ k 0 ≡ getD row k 0
 
 -- A header with the same sizes and another epoch.
 pub header-epoch : {l : ℕ} (row row′ : List ℕ) → SameSizes row row′ → 0 < epochOf row′ → Header l row → Header l row′
@@ -81,6 +77,14 @@ module _ {l : ℕ} (memory cache : List ℕ) (zm : Sized l memory) (zc : Sized l
         | no o ↦ header-same memory (withLine memory i (lineOf cache i)) (λ k b. word-back-other i k (omega arith) h b) hm
       ]
 
+  -- The sizes in memory stay, where the cache has them too.
+  pub sizes-back : (i : ℕ) → i ≤ l → SameSizes memory cache → SameSizes memory (withLine memory i (lineOf cache i))
+  sizes-back i h same k p b =
+      elim (ℕ-discrete 0 i) [
+        | yes e ↦ subst (λ (j : ℕ). getD (withLine memory j (lineOf cache j)) k 0 ≡ getD memory k 0) e (word-back-header k b ∙ same k p b)
+        | no o ↦ word-back-other i k (omega arith) h b
+      ]
+
   -- Words 6 and 7 after a write-back.
   pub spare-back : (i : ℕ) → i ≤ l → Spare l memory → Spare l cache → Spare l (withLine memory i (lineOf cache i))
   spare-back i h sm sc j k a b c d =
@@ -90,6 +94,25 @@ module _ {l : ℕ} (memory cache : List ℕ) (zm : Sized l memory) (zc : Sized l
             (getD-withLine-in memory i (lineOf cache i) k (line-in memory i zm h) n d ∙ getD-lineOf cache i k d ∙ sc i k (omega arith) h c d)
         | no o ↦ getD-withLine-out memory i (lineOf cache i) (lineStart j + k) (line-in memory i zm h) n (λ e. o (omega arith)) ∙ sm j k a b c d
       ]
+
+-- The sizes stay memory's where neither row's change and the record's W stays.
+pub own-same : (b b′ : Board) → b′ .state .workers ≡ b .state .workers → SameSizes (b .memory) (b′ .memory) → SameSizes (b .cache) (b′ .cache) → Own b → Own b′
+own-same b b′ w m c o =
+    record {
+      header = λ k p q. c k p q ∙ o .header k p q ∙ sym (m k p q);
+      workers = w ∙ o .workers ∙ sym (m 2 (omega arith) (omega arith));
+    }
+
+-- A row keeps its own sizes.
+pub sizes-same : (row : List ℕ) → SameSizes row row
+sizes-same row k p q = refl
+
+-- So it does after a cell's store, and after the epoch's.
+pub sizes-store : (row : List ℕ) (c : ℕ) (f : Field) (v : ℕ) → SameSizes row (withField row c f v)
+sizes-store row c f v k p q = header-withField row c f v k q
+
+pub sizes-set : (row : List ℕ) (e : ℕ) → SameSizes row (set row 0 e)
+sizes-set row e k p q = getD-set-other row 0 k e 0 (λ n. omega arith)
 
 -- A cell's store leaves words 6 and 7.
 pub spare-store : {l : ℕ} (row : List ℕ) (c : ℕ) (f : Field) (v : ℕ) → Spare l row → Spare l (withField row c f v)
@@ -106,7 +129,7 @@ sized-set row e z = record { size = length-set row 0 e ∙ z .size }
 
 pub header-set : {l : ℕ} (row : List ℕ) (e : ℕ) → Sized l row → 0 < e → Header l row → Header l (set row 0 e)
 header-set row e z p h =
-    header-epoch row (set row 0 e) (λ k a b. getD-set-other row 0 k e 0 (λ q. omega arith)) (subst (λ (n : ℕ). 0 < n) (sym (epoch-set row e z)) p) h
+    header-epoch row (set row 0 e) (sizes-set row e) (subst (λ (n : ℕ). 0 < n) (sym (epoch-set row e z)) p) h
 
 pub spare-set : {l : ℕ} (row : List ℕ) (e : ℕ) → Spare l row → Spare l (set row 0 e)
 spare-set row e s i k a b p q = getD-set-other row 0 (lineStart i + k) e 0 (λ n. omega arith) ∙ s i k a b p q

@@ -15,9 +15,8 @@ use Rattle.board.specs.Board.{Board, cells, rowWords, listWords, linesOu
 use Rattle.board.specs.State.{conditionOf, updates, anyUnder, anyWorker}
 use Rattle.board.specs.Causes.{Cause, causes, firstStanding, cause, badRecord, badRows, placePast, notOn, notRecoveringOrRunning, notRunning}
 use Rattle.board.specs.Effects.{effect}
-use Rattle.board.specs.Machine.{Machine, feed}
-use Rattle.board.specs.Sequence.{Run, erasedBy}
-use Rattle.board.specs.Next.{Taken, taken, next, Kind, startsFormat, startsRecovery, stepping, writing, other, reading, kind, isStart}
+use Rattle.board.specs.Sequence.{Run, takenCall}
+use Rattle.board.specs.Next.{Taken, taken, next, Kind, startsFormat, startsRecovery, stepping, writing, other, reading, kind, valueOf, Outcome, Performed}
 use Rattle.board.proofs.Laws.Bools.{split, chosen, passedOver, or-left, or-right, or-none, and-left, and-right, and-both, and-if, not-off, not-on, under-none}
 use Rattle.board.proofs.Laws.View.{Sized}
 use Rattle.board.proofs.Invariant.{Sizes}
@@ -137,8 +136,32 @@ refused-next k b o = passedOver (taken k b) (effect k b) b (ne-eqb (cause k b) 0
 
 -- The run after a call that is taken.
 abbrev pub afterTaken : Call → Run → Run
-afterTaken k r =
-    record { board = effect k (r .board); machine = feed k (r .machine); crashed = r .crashed && not (isStart (kind k)); erased = erasedBy k (r .machine) (r .erased) }
+afterTaken k r = takenCall k (effect k (r .board)) r
+
+-- ---- what a contract says
+
+module _ (k : Call) (b : Board) {b′ : Board} {number value : ℕ} (p : Performed k b number value b′) where
+  -- The number given back.
+  pub performed-number : number ≡ cause k b
+  performed-number = ap (λ (o : Outcome). o .number) p
+
+  -- The value given back.
+  pub performed-value : value ≡ valueOf k b
+  performed-value = ap (λ (o : Outcome). o .value) p
+
+  -- The board left where the number is 0.
+  pub performed-taken : number ≡ 0 → Taken k b × (b′ ≡ effect k b)
+  performed-taken z =
+      let t : Taken k b = sym performed-number ∙ z in
+      (t, ap (λ (o : Outcome). o .board) p ∙ taken-next k b t)
+
+  -- The board left where it is not.
+  pub performed-refused : (number ≡ 0 → ⊥) → b′ ≡ b
+  performed-refused o = ap (λ (o : Outcome). o .board) p ∙ refused-next k b (λ t. o (performed-number ∙ t))
+
+-- A call is performed where its outcome is the one it must have.
+pub performing : (k : Call) (b : Board) → Taken k b → {value : ℕ} {b′ : Board} → value ≡ valueOf k b → b′ ≡ next k b → Performed k b 0 value b′
+performing k b t v e = λ i. record { number = sym t i; value = v i; board = e i }
 
 -- ---- the tests of limits, record and rows
 

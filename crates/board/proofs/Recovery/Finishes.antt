@@ -7,49 +7,60 @@ use mathlib.Core.Bool.{Bool, true, false, cond, not, _&&_, _||_, true≢false}
 use native.Mathlib.Omega.{arith}
 use native.Mathlib.Numerals.{add-one}
 use lib.Dec.{leb, eqb}
+use borrow.Author.Tests.{eqb-true, eqb-false}
 use Rattle.board.specs.declared.Phase.{Phase}
 use Rattle.board.specs.declared.Phase.the-variants.{Recovering, Running}
 use Rattle.board.specs.declared.Call.{Call}
 use Rattle.board.specs.declared.Call.the-variants.{RecoveryStart, Step, WriteBack, Read}
-use Rattle.board.specs.Board.{Board, cells}
+use Rattle.board.specs.Board.{Board, cells, workersOf}
 use Rattle.board.specs.State.{isRunning}
 use Rattle.board.specs.Effects.{effect}
-use Rattle.board.specs.Next.{Taken, next, valueRead, Kind, startsFormat, startsRecovery, stepping, writing, other, reading, kind, isStart, isStep}
+use Rattle.board.specs.Next.{Taken, valueRead, Kind, startsFormat, startsRecovery, stepping, writing, other, reading, kind, isStart, isStep}
 use Rattle.board.specs.Machine.{Machine, feed, stepped, finishesFormat, beginning, counted, completed, checkpointStep, writeBackSeen, markedCount}
-use Rattle.board.specs.Sequence.{Event, call, Run, after, Allowed, Takes, finished, steps, between, recoverySteps}
-use Rattle.board.specs.Statements.{ReadsCheckpointed, Recovered}
-use Rattle.board.proofs.Laws.Bools.{on, clash, and-off, and-off-right, passedOver}
+use Rattle.board.specs.Sequence.{Run, Takes, finished, steps, between, recoverySteps}
+use Rattle.board.specs.Statements.{Recovered, SameBoard, Completes}
+use Rattle.board.proofs.Laws.Bools.{on, split, clash, and-off, and-off-right, passedOver}
+use Rattle.board.proofs.Laws.Takes.{takes-none}
 use Rattle.board.proofs.Invariant.{Inv, RecoveryInv, RecoveryMachine}
-use Rattle.board.proofs.Laws.Taken.{phaseBars, phase-passed, of-kind, taken-next, refused-next, afterTaken}
-use Rattle.board.proofs.Keeps.Every.{by-answer}
+use Rattle.board.proofs.Laws.Taken.{phaseBars, phase-passed, of-kind, performed-taken, performed-refused, afterTaken}
+use Rattle.board.proofs.Checkpoint.Run.{Carried}
 use Rattle.board.proofs.Laws.Reading.{in-phase, read-taken, read-current}
 use Rattle.board.proofs.Recovery.Count.{remaining, remaining-start, remaining-step, remaining-positive}
 use Rattle.board.proofs.Keeps.RecoveryStart.{keeps-recovery-start}
-use Rattle.board.proofs.Keeps.RecoveryStep.{keeps-recovery-step}
-use Rattle.board.proofs.Keeps.WriteBack.{keeps-write-back}
+use Rattle.board.proofs.Keeps.RecoveryStep.{carried-recovery-step}
+use Rattle.board.proofs.Keeps.WriteBack.{carried-write-back}
 
--- A run in the middle of a recovery that has `n` steps left and was started for the values `xs` of `l` lines.
-pub record Underway (n l : ℕ) (xs : ℕ → ℕ) (r : Run) : Type 0 where
+-- A run in the middle of a recovery that has `n` steps left and was started for the values `xs` on a header of `l` lines and `w` workers.
+pub record Underway (n l w : ℕ) (xs : ℕ → ℕ) (r : Run) : Type 0 where
   pub inv : Inv r
   pub uncut : r .crashed ≡ false
   pub phase : r .board .state .phase ≡ Recovering
   pub left : remaining (r .board) ≡ n
   pub lines : r .machine .lines ≡ l
+  pub workers : workersOf (r .board .memory) ≡ w
   pub values : (c : ℕ) → r .machine .current c ≡ xs c
 
--- What is to be shown of the board after the last step.
-abbrev Done : ℕ → (ℕ → ℕ) → Board → Type 0
-Done l xs b = (c : ℕ) → c < cells l → Taken (Read c) b × (valueRead c b ≡ xs c)
+-- What is shown of the board after the last step.
+pub record Done (l w : ℕ) (xs : ℕ → ℕ) (b : Board) : Type 0 where
+  pub lines : b .state .lines ≡ l
+  pub workers : b .state .workers ≡ w
+  pub reads : (c : ℕ) → c < cells l → Taken (Read c) b × (valueRead c b ≡ xs c)
 
 -- A running run with those values is done.
-done : (l : ℕ) (xs : ℕ → ℕ) (r : Run) → Inv r → r .crashed ≡ false → r .board .state .phase ≡ Running → r .machine .lines ≡ l → ((c : ℕ) → r .machine .current c ≡ xs c) → Done l xs (r .board)
-done l xs r i d p e v c h =
-    let k : c < cells (r .machine .lines) = omega (arith, e) in
-    (read-taken r i d p c k, read-current r i d p c k ∙ v c)
+done : (l w : ℕ) (xs : ℕ → ℕ) (r : Run) → Inv r → r .crashed ≡ false → r .board .state .phase ≡ Running → r .machine .lines ≡ l → workersOf (r .board .memory) ≡ w → ((c : ℕ) → r .machine .current c ≡ xs c) → Done l w xs (r .board)
+done l w xs r i d p e n v =
+    let running = in-phase r i d Running p .0 in
+    record {
+      lines = running .lines ∙ e;
+      workers = running .own .workers ∙ n;
+      reads = λ c h.
+          let k : c < cells (r .machine .lines) = omega (arith, e) in
+          (read-taken r i d p c k, read-current r i d p c k ∙ v c);
+    }
 
--- No steps, no change.
-takes-none : {b b′ : Board} {ks : List Call} → Takes zero b ks b′ → b ≡ b′
-takes-none finished = refl
+-- Whatever is no step of a format leaves the board's size.
+same-board : {r r′ : Run} → Completes false r r′ → SameBoard r r′
+same-board c = ⊎-elim (λ u. u .board) (λ u. u .board) c
 
 -- A recovery's step in the machine only counts.
 pub step-counts : (m : Machine) → m .requested ≡ false → m .formatting ≡ false → feed Step m ≡ counted m
@@ -58,16 +69,11 @@ step-counts m q f =
     passedOver (m .requested) (checkpointStep m) (cond (finishesFormat m) (beginning (m .lines)) (counted m)) q
     ∙ passedOver (finishesFormat m) (beginning (m .lines)) (counted m) (and-off (m .formatting) (eqb (m .steps + 1) (m .lines + 2)) f)
 
--- A write-back leaves the machine's current values and its lines.
+-- A write-back leaves the machine's current values.
 back-current : (i : ℕ) (m : Machine) (c : ℕ) → feed (WriteBack i) m .current c ≡ m .current c
 unfolding feed writeBackSeen
 back-current i m c =
     on (λ (n : Machine). n .current c ≡ m .current c) (eqb i 0 && m .requested && leb (markedCount m + 1) (m .steps)) (completed m) m (λ t. refl) (λ t. refl)
-
-back-lines : (i : ℕ) (m : Machine) → feed (WriteBack i) m .lines ≡ m .lines
-unfolding feed writeBackSeen
-back-lines i m =
-    on (λ (n : Machine). n .lines ≡ m .lines) (eqb i 0 && m .requested && leb (markedCount m + 1) (m .steps)) (completed m) m (λ t. refl) (λ t. refl)
 
 -- A write-back leaves what a recovery goes by.
 remaining-back : (i : ℕ) (b : Board) → remaining (effect (WriteBack i) b) ≡ remaining b
@@ -85,7 +91,7 @@ place-within r i d p =
     omega (arith, v .within, v .lines)
 
 -- A recovery has a step left, so none is not all of it.
-some-left : {l : ℕ} {xs : ℕ → ℕ} (r : Run) → Underway zero l xs r → ⊥
+some-left : {l w : ℕ} {xs : ℕ → ℕ} (r : Run) → Underway zero l w xs r → ⊥
 some-left r u =
     omega (arith, remaining-positive (r .board) (place-within r (u .inv) (u .uncut) (u .phase)), u .left)
 
@@ -93,95 +99,101 @@ some-left r u =
 not-running : (b : Board) → b .state .phase ≡ Recovering → not (isRunning (b .state .phase)) ≡ false → ⊥
 not-running b p e = clash (ap (λ (q : Phase). not (isRunning q)) p) e
 
-module _ (l : ℕ) (xs : ℕ → ℕ) where
+module _ (l w : ℕ) (xs : ℕ → ℕ) where
   -- After a taken step of the recovery one step fewer is left, or it was the last and the board is done.
-  stepped-on : (n : ℕ) (r : Run) → Underway (suc n) l xs r → Taken Step (r .board) → Underway n l xs (afterTaken Step r) ⊎ ((n ≡ 0) × Done l xs (effect Step (r .board)))
-  stepped-on n r u t = go (remaining-step (r .board) (u .phase) (place-within r (u .inv) (u .uncut) (u .phase)))
+  stepped-on : (n : ℕ) (r : Run) → Underway (suc n) l w xs r → Underway n l w xs (afterTaken Step r) ⊎ ((n ≡ 0) × Done l w xs (effect Step (r .board)))
+  stepped-on n r u = go (remaining-step (r .board) (u .phase) (place-within r (u .inv) (u .uncut) (u .phase)))
     where
       known : RecoveryInv (r .machine .lines) (r .machine .checkpointed) (r .board) × RecoveryMachine (r .machine) × (r .erased ≡ false)
       known = in-phase r (u .inv) (u .uncut) Recovering (u .phase)
 
-      machine : feed Step (r .machine) ≡ counted (r .machine)
-      machine = step-counts (r .machine) (known .1 .request) (known .1 .formatting)
+      carried : Carried false r (afterTaken Step r)
+      carried = carried-recovery-step r (u .inv) (u .uncut) (u .phase)
 
-      inv : Inv (afterTaken Step r)
-      inv = keeps-recovery-step r (u .inv) (u .uncut) (u .phase) t
+      size : SameBoard r (afterTaken Step r)
+      size = same-board (carried .completion)
 
       uncut : afterTaken Step r .crashed ≡ false
       uncut = and-off (r .crashed) true (u .uncut)
 
-      lines : afterTaken Step r .machine .lines ≡ l
-      lines = ap (λ (m : Machine). m .lines) machine ∙ u .lines
+      workers : workersOf (effect Step (r .board) .memory) ≡ w
+      workers = size .header 2 (omega arith) (omega arith) ∙ u .workers
 
       values : (c : ℕ) → afterTaken Step r .machine .current c ≡ xs c
-      values c = ap (λ (m : Machine). m .current c) machine ∙ u .values c
+      values c = ap (λ (m : Machine). m .current c) (step-counts (r .machine) (known .1 .request) (known .1 .formatting)) ∙ u .values c
 
-      go : ((effect Step (r .board) .state .phase ≡ Recovering) × (remaining (effect Step (r .board)) + 1 ≡ remaining (r .board))) ⊎ ((effect Step (r .board) .state .phase ≡ Running) × (remaining (r .board) ≡ 1)) → Underway n l xs (afterTaken Step r) ⊎ ((n ≡ 0) × Done l xs (effect Step (r .board)))
+      go : ((effect Step (r .board) .state .phase ≡ Recovering) × (remaining (effect Step (r .board)) + 1 ≡ remaining (r .board))) ⊎ ((effect Step (r .board) .state .phase ≡ Running) × (remaining (r .board) ≡ 1)) → Underway n l w xs (afterTaken Step r) ⊎ ((n ≡ 0) × Done l w xs (effect Step (r .board)))
       go (inl x) =
-          inl (record { inv = inv; uncut = uncut; phase = x .0; left = omega (arith, x .1, u .left); lines = lines; values = values })
+          inl (record { inv = carried .keeps; uncut = uncut; phase = x .0; left = omega (arith, x .1, u .left); lines = size .lines ∙ u .lines; workers = workers; values = values })
       go (inr x) =
-          inr (omega (arith, x .1, u .left), done l xs (afterTaken Step r) inv uncut (x .0) lines values)
+          inr (omega (arith, x .1, u .left), done l w xs (afterTaken Step r) (carried .keeps) uncut (x .0) (size .lines ∙ u .lines) workers values)
 
   -- A write-back leaves the recovery underway.
-  written-back : (n i : ℕ) (r : Run) → Underway n l xs r → Taken (WriteBack i) (r .board) → Underway n l xs (afterTaken (WriteBack i) r)
+  written-back : (n i : ℕ) (r : Run) → Underway n l w xs r → Taken (WriteBack i) (r .board) → Underway n l w xs (afterTaken (WriteBack i) r)
   written-back n i r u t =
+      let carried = carried-write-back r i (u .inv) (u .uncut) t in
+      let size = same-board (carried .completion) in
       record {
-        inv = keeps-write-back r i (u .inv) (u .uncut) t;
+        inv = carried .keeps;
         uncut = and-off (r .crashed) true (u .uncut);
         phase = phase-back i (r .board) ∙ u .phase;
         left = remaining-back i (r .board) ∙ u .left;
-        lines = back-lines i (r .machine) ∙ u .lines;
+        lines = size .lines ∙ u .lines;
+        workers = size .header 2 (omega arith) (omega arith) ∙ u .workers;
         values = λ c. back-current i (r .machine) c ∙ u .values c;
       }
 
   -- A call other than a start or step that is taken in a recovery is a write-back.
-  goes-on : (n : ℕ) (k : Call) (r : Run) → Underway n l xs r → Taken k (r .board) → isStart (kind k) || isStep (kind k) ≡ false → Underway n l xs (afterTaken k r)
+  goes-on : (n : ℕ) (k : Call) (r : Run) → Underway n l w xs r → Taken k (r .board) → isStart (kind k) || isStep (kind k) ≡ false → Underway n l w xs (afterTaken k r)
   goes-on n k r u t e = by-kind (kind k) refl e (phase-passed k (r .board) t)
     where
-      by-kind : (d : Kind) → kind k ≡ d → isStart d || isStep d ≡ false → phaseBars d (r .board) ≡ false → Underway n l xs (afterTaken k r)
+      by-kind : (d : Kind) → kind k ≡ d → isStart d || isStep d ≡ false → phaseBars d (r .board) ≡ false → Underway n l w xs (afterTaken k r)
       by-kind startsFormat q o p = absurd (true≢false o)
       by-kind startsRecovery q o p = absurd (true≢false o)
       by-kind stepping q o p = absurd (true≢false o)
       by-kind writing q o p =
           let (i, same) = of-kind k writing q in
-          subst (λ (x : Call). Underway n l xs (afterTaken x r)) (sym same) (written-back n i r u (subst (λ (x : Call). Taken x (r .board)) same t))
+          subst (λ (x : Call). Underway n l w xs (afterTaken x r)) (sym same) (written-back n i r u (subst (λ (x : Call). Taken x (r .board)) same t))
       by-kind other q o p = absurd (not-running (r .board) (u .phase) p)
       by-kind (reading c) q o p = absurd (not-running (r .board) (u .phase) p)
 
   -- To the last step, and the board is done.
-  to-the-end : {n : ℕ} {ks : List Call} {b b′ : Board} → Takes n b ks b′ → (r : Run) → r .board ≡ b → Underway n l xs r → Done l xs b′
+  to-the-end : {n : ℕ} {b b′ : Board} → Takes n b b′ → (r : Run) → r .board ≡ b → Underway n l w xs r → Done l w xs b′
   to-the-end finished r e u = absurd (some-left r u)
-  to-the-end (steps {n = n} {b = b} {ks = ks} {b′ = b′} t rest) r e u =
+  to-the-end (steps {n = n} {b = b} p rest) r e u =
+      let now : effect Step (r .board) ≡ _ = ap (effect Step) e ∙ sym (performed-taken Step b p refl .1) in
       ⊎-elim
       (λ v. to-the-end rest (afterTaken Step r) now v)
-      (λ v. subst (Done l xs) (now ∙ takes-none (subst (λ (j : ℕ). Takes j (next Step b) ks b′) (v .0) rest)) (v .1))
-      (stepped-on n r u (subst (Taken Step) (sym e) t))
-    where
-      now : effect Step (r .board) ≡ next Step b
-      now = ap (effect Step) e ∙ sym (taken-next Step b t)
-  to-the-end (between {n = n} {k = k} {b = b} f rest) r e u =
-      by-answer k b
-      (λ t. to-the-end rest (afterTaken k r) (ap (effect k) e ∙ sym (taken-next k b t)) (goes-on (suc n) k r u (subst (Taken k) (sym e) t) (f t)))
-      (λ o. to-the-end rest r (e ∙ sym (refused-next k b o)) u)
+      (λ v. subst (Done l w xs) (now ∙ takes-none rest (v .0)) (v .1))
+      (stepped-on n r u)
+  to-the-end (between {n = n} {number = number} k {b = b} p f rest) r e u =
+      split (eqb number 0)
+      (λ t.
+      let z = eqb-true number 0 t in
+      let taken = performed-taken k b p z in
+      to-the-end rest (afterTaken k r) (ap (effect k) e ∙ sym (taken .1)) (goes-on (suc n) k r u (subst (Taken k) (sym e) (taken .0)) (f z)))
+      (λ t. to-the-end rest r (e ∙ sym (performed-refused k b p (eqb-false number 0 t))) u)
 
 phase-start : (b : Board) → effect RecoveryStart b .state .phase ≡ Recovering
 unfolding effect
 phase-start b = refl
 
 -- A recovery's start leaves it underway, with all the steps that memory calls for.
-begun : (r : Run) → Inv r → Taken RecoveryStart (r .board) → Underway (recoverySteps (r .board .memory)) (r .machine .lines) (r .machine .checkpointed) (afterTaken RecoveryStart r)
-unfolding feed
-begun r i t =
+started : (r : Run) → Inv r → Taken RecoveryStart (r .board) → Underway (recoverySteps (r .board .memory)) (r .machine .lines) (workersOf (r .board .memory)) (r .machine .checkpointed) (afterTaken RecoveryStart r)
+unfolding feed effect
+started r i t =
     record {
       inv = keeps-recovery-start r i t;
       uncut = and-off-right (r .crashed) false refl;
       phase = phase-start (r .board);
       left = remaining-start (r .board);
       lines = refl;
+      workers = refl;
       values = λ c. refl;
     }
 
--- After a finished recovery every cell reads the value checkpointed at its start.
-pub recovers : (r : Run) → Inv r → (b : Board) → Recovered r b → ReadsCheckpointed (r .machine) b
+-- After a finished recovery every cell reads the value checkpointed at its start, and L and W are the header's.
+pub recovers : (r : Run) → Inv r → (b : Board) → Recovered r b → Done (r .machine .lines) (workersOf (r .board .memory)) (r .machine .checkpointed) b
 recovers r i b e =
-    to-the-end (r .machine .lines) (r .machine .checkpointed) (e .ended) (afterTaken RecoveryStart r) (sym (taken-next RecoveryStart (r .board) (e .begun))) (begun r i (e .begun))
+    let (t, same) = performed-taken RecoveryStart (r .board) (e .begun) refl in
+    to-the-end (r .machine .lines) (workersOf (r .board .memory)) (r .machine .checkpointed) (e .ended) (afterTaken RecoveryStart r) (sym same) (started r i t)

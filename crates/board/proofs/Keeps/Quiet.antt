@@ -1,0 +1,99 @@
+-- A call that changes neither rows nor what the machine knows, and of the state record at most the workers' conditions: one law for all of them.
+use Prim.Native.Nat.{ℕ, _+_, _<_}
+use mathlib.Core.Path.{_≡_, refl, subst, sym, _∙_}
+use mathlib.Core.List.{List}
+use mathlib.Core.Bool.{Bool, true, false, not}
+use native.Mathlib.Omega.{arith}
+use lib.ListN.{length, getD}
+use Rattle.board.specs.declared.State.{State}
+use Rattle.board.specs.declared.Worker.{Worker}
+use Rattle.board.specs.declared.Phase.{Phase}
+use Rattle.board.specs.declared.Phase.the-variants.{Running}
+use Rattle.board.specs.declared.Call.the-variants.{Read}
+use Rattle.board.specs.Board.{Board}
+use Rattle.board.specs.State.{freeWorker, conditionOf, isRunning}
+use Rattle.board.specs.Causes.{causes}
+use Rattle.board.specs.Effects.{stated, effect}
+use Rattle.board.specs.Next.{Taken}
+use Rattle.board.specs.Machine.{Machine, Unfinished, feed}
+use Rattle.board.specs.Sequence.{Run}
+use Rattle.board.proofs.Laws.Bools.{chosen, not-off}
+use Rattle.board.proofs.Laws.Taken.{standsAt, passed, afterTaken}
+use Rattle.board.proofs.Invariant.{WorkerInv, Touches, progress, AllWait, Early, Stage, early, gap, late, RunningInv, Inv}
+use Rattle.board.proofs.Checkpoint.Run.{Carried, quietly, is-running, running-run, inv-running}
+
+-- The record with other workers.
+abbrev pub manned : State → List Worker → State
+manned s workers =
+    record { phase = s .phase; lines = s .lines; workers = s .workers; listed = s .listed; place = s .place; undo = s .undo; requested = s .requested; worker = workers }
+
+-- The workers `ws` have the unfinished updates of the record's own, and no fewer of them wait once a checkpoint has taken a step.
+pub record Alike (s : State) (ws : List Worker) : Type 0 where
+  pub eight : length ws ≡ length (s .worker)
+  pub work : (w : ℕ) → w < s .workers → (l : ℕ) (cache : List ℕ) (u : Unfinished) → WorkerInv l cache (conditionOf s w) u → WorkerInv l cache (getD ws w freeWorker .condition) u
+  pub touches : (w d : ℕ) → w < s .workers → Touches (getD ws w freeWorker .condition) d → Touches (conditionOf s w) d
+  pub waits : 0 < progress s → AllWait s → AllWait (manned s ws)
+
+module _ {l : ℕ} (b : Board) (m : Machine) (ws : List Worker) (alike : Alike (b .state) ws) where
+  -- The stage of a checkpoint stays.
+  stage-manned : Stage l b m → Stage l (stated (manned (b .state) ws) b) m
+  stage-manned (early e) =
+      early (record { epochs = e .epochs; marks = e .marks; clean = e .clean; listing = e .listing; written = e .written; within = e .within; waiting = λ h. alike .waits h (e .waiting h); room = e .room })
+  stage-manned (gap g) =
+      gap (record {
+        request = g .request;
+        place = g .place;
+        epochs = g .epochs;
+        same = g .same;
+        waiting = alike .waits (omega (arith, chosen (b .state .requested) (b .state .place) 0 (g .request), g .place)) (g .waiting);
+      })
+  stage-manned (late e) =
+      late (record {
+        request = e .request;
+        low = e .low;
+        high = e .high;
+        epochs = e .epochs;
+        same = e .same;
+        waiting = alike .waits (omega (arith, chosen (b .state .requested) (b .state .place) 0 (e .request), e .low)) (e .waiting);
+        complete = e .complete;
+        unlogged = e .unlogged;
+      })
+
+  -- A running board stays one.
+  running-manned : RunningInv l b m → RunningInv l (stated (manned (b .state) ws) b) m
+  running-manned v =
+      record {
+        lines = v .lines;
+        workers = v .workers;
+        request = v .request;
+        eight = alike .eight ∙ v .eight;
+        own = record { header = v .own .header; workers = v .own .workers };
+        header = v .header;
+        undoes = v .undoes;
+        current = v .current;
+        spare = v .spare;
+        count = v .count;
+        listed = v .listed;
+        steps = v .steps;
+        stage = stage-manned (v .stage);
+        worker = λ w h. alike .work w h l (b .cache) (m .unfinished w) (v .worker w h);
+        apart = λ w w′ d h h′ t t′. v .apart w w′ d h h′ (alike .touches w d h t) (alike .touches w′ d h′ t′);
+      }
+
+-- A running board with other workers that have the same unfinished updates.
+pub carried-workers : (r : Run) (ws : List Worker) (crashed : Bool) → Inv r → r .crashed ≡ false → r .board .state .phase ≡ Running → Alike (r .board .state) ws →
+    Carried false r (record { board = stated (manned (r .board .state) ws) (r .board); machine = r .machine; crashed = crashed; erased = r .erased })
+carried-workers r ws crashed inv d p alike =
+    let s = running-run r inv d p in
+    let z = inv .sizes in
+    quietly
+    (inv-running _ (s .on) p (record { limits = z .limits; memory = z .memory; cache = z .cache; entries = z .entries }) (inv .spare) (inv .kept (s .on))
+    (running-manned (r .board) (r .machine) ws alike (s .running)))
+    refl refl (λ c. refl)
+
+-- A taken read.
+pub carried-read : (r : Run) (c : ℕ) → Inv r → r .crashed ≡ false → Taken (Read c) (r .board) → Carried false r (afterTaken (Read c) r)
+unfolding standsAt causes effect feed
+carried-read r c inv d t =
+    carried-workers r (r .board .state .worker) _ inv d (is-running (r .board .state .phase) (not-off (isRunning (r .board .state .phase)) (passed (Read c) (r .board) t 2)))
+    (record { eight = refl; work = λ w h l cache u i. i; touches = λ w n h t. t; waits = λ h a. a })
