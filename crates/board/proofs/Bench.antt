@@ -9,7 +9,7 @@ use Rattle.board.specs.State.{anyUnder}
 use Rattle.board.specs.Causes.{badRecord, causes, firstStanding, cause}
 use Rattle.board.specs.Effects.{formatStep, recoveryStep, actAt, performAct, step, advance, advanceOf, effect}
 use Rattle.board.specs.Next.{next, valueRead}
-use Rattle.board.specs.Bench.{Case, same, allTaken, afterCalls, runsIn, sees, allSeen, holds, table, Each, BenchHolds}
+use Rattle.board.specs.Bench.{Case, same, allTakenIn, afterEvents, runsIn, sees, allSeen, holds, table, Each, BenchHolds}
 
 allHold : List Case → Bool
 allHold [] = true
@@ -25,7 +25,7 @@ each [] e = tt
 each (k ∷ ks) e = (both (holds k) (allHold ks) e .0, each ks (both (holds k) (allHold ks) e .1))
 
 tested : allHold table ≡ true
-unfolding allHold table holds same allTaken afterCalls runsIn sees allSeen next valueRead cause causes firstStanding badRecord anyUnder effect step formatStep recoveryStep actAt performAct advance advanceOf lineOf withLine fieldIndex fieldOf withField
+unfolding allHold table holds same allTakenIn afterEvents runsIn sees allSeen next valueRead cause causes firstStanding badRecord anyUnder effect step formatStep recoveryStep actAt performAct advance advanceOf lineOf withLine fieldIndex fieldOf withField
 tested = refl
 
 -- K1 to K11 hold of the definitions.
