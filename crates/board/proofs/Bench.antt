@@ -11,7 +11,8 @@ use Rattle.board.specs.Effects.{formatStep, recoveryStep, actAt, perform
 use Rattle.board.specs.Next.{next, valueRead}
 use Rattle.board.specs.Bench.{Case, same, allTakenIn, afterEvents, runsIn, sees, allSeen, holds, table, Each, BenchHolds}
 
-allHold : List Case → Bool
+-- Every case of a table holds, as a test.
+unfoldable pub allHold : List Case → Bool
 allHold [] = true
 allHold (k ∷ ks) = holds k && allHold ks
 
@@ -19,7 +20,8 @@ both : (a b : Bool) → a && b ≡ true → (a ≡ true) × (b ≡ true)
 both true b e = (refl, e)
 both false b e = absurd (false≢true e)
 
-each : (ks : List Case) → allHold ks ≡ true → Each ks
+-- A table that passes the test holds.
+pub each : (ks : List Case) → allHold ks ≡ true → Each ks
 unfolding allHold Each
 each [] e = tt
 each (k ∷ ks) e = (both (holds k) (allHold ks) e .0, each ks (both (holds k) (allHold ks) e .1))

@@ -26,6 +26,7 @@ pub data Seen : Type 0 where
   cacheLine : ℕ → List ℕ → Seen
   listed : List ℕ → Seen
   reads : ℕ → ℕ → Seen
+  valued : ℕ → ℕ → Seen
   endsIn : Call → ℕ → Seen
 
 -- A bench case: a board, calls that are all taken with cuts among them, and what is then seen.
@@ -73,6 +74,7 @@ sees (memoryLine l words) b = same (lineOf (b .memory) l) words
 sees (cacheLine l words) b = same (lineOf (b .cache) l) words
 sees (listed cs) b = same (take (b .state .listed) (b .entries)) cs
 sees (reads c v) b = taken (Read c) b && eqb (valueRead c b) v
+sees (valued c v) b = eqb (valueRead c b) v
 sees (endsIn k n) b = taken k b && runsIn n (next k b)
 
 -- All of the things are seen.

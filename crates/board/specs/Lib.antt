@@ -8,3 +8,4 @@ pub mod Machine
 pub mod Sequence
 pub mod Statements
 pub mod Bench
+pub mod Refusals
