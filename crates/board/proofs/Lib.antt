@@ -8,5 +8,6 @@ pub mod Recovery
 pub mod Checkpoint
 pub mod Keeps
 pub mod Stores
+pub mod Steps
 pub mod Theorems
 pub mod Example

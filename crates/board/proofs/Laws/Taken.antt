@@ -41,7 +41,7 @@ Clear [] = Unit {0}
 Clear (k ∷ ks) = (k .stands ≡ false) × Clear ks
 
 -- Where no cause is given, no row stands.
-first-clear : (ks : List Cause) → numbered ks ≡ true → firstStanding ks ≡ 0 → Clear ks
+pub first-clear : (ks : List Cause) → numbered ks ≡ true → firstStanding ks ≡ 0 → Clear ks
 unfolding numbered firstStanding Clear
 first-clear [] p e = tt
 first-clear (k ∷ ks) p e =
@@ -68,7 +68,7 @@ clear-at (k ∷ ks) c n =
     (λ f. passedOver (eqb (k .number) n) (k .stands) (standsAt n ks) f ∙ clear-at ks (c .1) n)
 
 -- Every row of every call has a number other than 0.
-table-numbered : (k : Call) (b : Board) → numbered (causes k b) ≡ true
+pub table-numbered : (k : Call) (b : Board) → numbered (causes k b) ≡ true
 unfolding numbered causes
 table-numbered (FormatStart l w) b = refl
 table-numbered RecoveryStart b = refl

@@ -1,0 +1,6 @@
+-- The proofs of `specs/Steps.antt`: what single calls do on any board. Start at `Theorems`.
+pub mod Format
+pub mod Recovery
+pub mod Workers
+pub mod Table
+pub mod Theorems
