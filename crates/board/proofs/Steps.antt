@@ -3,4 +3,5 @@ pub mod Format
 pub mod Recovery
 pub mod Workers
 pub mod Table
+pub mod Starts
 pub mod Theorems

@@ -10,9 +10,11 @@ use Rattle.line.specs.Line.{lineStart}
 use Rattle.line.specs.Cell.{cellLine, fieldIndex}
 use Rattle.board.specs.declared.Condition.the-variants.{Free, Waiting, Updating}
 use Rattle.board.specs.declared.Store.{Store}
-use Rattle.board.specs.declared.Phase.the-variants.{Recovering, Running}
+use Rattle.board.specs.declared.Phase.{Phase}
+use Rattle.board.specs.declared.Phase.the-variants.{Formatting, Recovering, Running}
+use Rattle.board.specs.declared.UndoStep.the-variants.{Restore}
 use Rattle.board.specs.declared.Call.{Call}
-use Rattle.board.specs.declared.Call.the-variants.{FormatStart, Step, Advance}
+use Rattle.board.specs.declared.Call.the-variants.{FormatStart, RecoveryStart, Step, Advance}
 use Rattle.board.specs.Board.{Board, headerWords, zeroWords}
 use Rattle.board.specs.State.{conditionOf}
 use Rattle.board.specs.Causes.{Cause, causes, cause}
@@ -28,10 +30,11 @@ pub record OnlyLine (line : ℕ) (given row row′ : List ℕ) : Type 0 where
   pub size : length row′ ≡ length row
   pub words : (k : ℕ) → k < 8 → getD row′ (lineStart line + k) 0 ≡ getD given k 0
 
--- "in both": memory and cache differ in that line alone.
+-- "in both": memory and cache differ in that line alone, and the list not at all.
 pub record OnlyLineInBoth (line : ℕ) (given : List ℕ) (b b′ : Board) : Type 0 where
   pub memory : OnlyLine line given (b .memory) (b′ .memory)
   pub cache : OnlyLine line given (b .cache) (b′ .cache)
+  pub entries : b′ .entries ≡ b .entries
 
 -- The board `i` steps after a format's start.
 abbrev pub formatAfter : ℕ → ℕ → Board → ℕ → Board
@@ -52,6 +55,7 @@ pub record OnlyCell (c : ℕ) (b b′ : Board) : Type 0 where
   pub cacheSize : length (b′ .cache) ≡ length (b .cache)
   pub memory : (i : ℕ) → (i / 8 ≡ cellLine c → ⊥) → getD (b′ .memory) i 0 ≡ getD (b .memory) i 0
   pub memorySize : length (b′ .memory) ≡ length (b .memory)
+  pub entries : b′ .entries ≡ b .entries
   pub place : b′ .state .phase ≡ Recovering → (b′ .state .place ≡ c) ⊎ (b′ .state .place ≡ c + 1)
 
 -- "cells from 0 up: a cell whose mark equals the epoch takes three steps (record := backup; mark := 0; its line written back), any other one step that stores nothing": no step goes beyond the cell at its place.
@@ -60,7 +64,7 @@ RecoveryWrites = (b : Board) → b .state .phase ≡ Recovering → Taken Step b
 
 -- ---- 3. release
 
--- All eight workers are free, the list is empty, no request stands, the place is 0, and neither row has changed.
+-- All eight workers are free, the list is empty, no request stands, the place is 0, and no row has changed.
 pub record Released (b b′ : Board) : Type 0 where
   pub eight : length (b′ .state .worker) ≡ 8
   pub free : (w : ℕ) → conditionOf (b′ .state) w ≡ Free
@@ -69,6 +73,7 @@ pub record Released (b b′ : Board) : Type 0 where
   pub place : b′ .state .place ≡ 0
   pub memory : b′ .memory ≡ b .memory
   pub cache : b′ .cache ≡ b .cache
+  pub entries : b′ .entries ≡ b .entries
 
 -- "release, with all eight workers free, list empty, request gone": the last of a checkpoint's n+3 steps.
 abbrev pub Releases : Type 0
@@ -120,3 +125,29 @@ abbrev pub FormatStarts : Type 0
 FormatStarts =
     (l w : ℕ) (b : Board) → 1 ≤ l → l ≤ 511 → 1 ≤ w → w ≤ 8 → w < 2 * l →
     length (b .memory) ≡ 8 * (l + 1) → length (b .cache) ≡ 8 * (l + 1) → 2 * l ≤ length (b .entries) → Taken (FormatStart l w) b
+
+-- ---- 6. the two starts
+
+-- "Each of the two starts sets every field of the state record": the phase, L and W given; memory and the list are as they were, and the cache is the one given.
+pub record Begun (phase : Phase) (l w : ℕ) (cache : List ℕ) (b b′ : Board) : Type 0 where
+  pub inPhase : b′ .state .phase ≡ phase
+  pub lines : b′ .state .lines ≡ l
+  pub workers : b′ .state .workers ≡ w
+  pub empty : b′ .state .listed ≡ 0
+  pub place : b′ .state .place ≡ 0
+  pub undo : b′ .state .undo ≡ Restore
+  pub request : b′ .state .requested ≡ false
+  pub eight : length (b′ .state .worker) ≡ 8
+  pub free : (i : ℕ) → conditionOf (b′ .state) i ≡ Free
+  pub memory : b′ .memory ≡ b .memory
+  pub current : b′ .cache ≡ cache
+  pub entries : b′ .entries ≡ b .entries
+
+-- "Format. The start changes no row."
+abbrev pub FormatBegins : Type 0
+FormatBegins = (l w : ℕ) (b : Board) → Taken (FormatStart l w) b → Begun Formatting l w (b .cache) b (next (FormatStart l w) b)
+
+-- "Recovery. The start copies memory to cache", with L and W "from the header", words 1 and 2.
+abbrev pub RecoveryBegins : Type 0
+RecoveryBegins =
+    (b : Board) → Taken RecoveryStart b → Begun Recovering (getD (b .memory) 1 0) (getD (b .memory) 2 0) (b .memory) b (next RecoveryStart b)

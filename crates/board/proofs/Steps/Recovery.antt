@@ -71,13 +71,14 @@ stores-cell b f v other s e =
       cacheSize = length-withField (b .cache) (b .state .place) f v;
       memory = λ i o. refl;
       memorySize = refl;
+      entries = refl;
       place = λ p. inl e;
     }
 
 -- A step that stores nothing.
 stores-none : (b : Board) → OnlyCell (b .state .place) b (stated (pastCell (b .state)) b)
 stores-none b =
-    record { cache = λ i r m. refl; cacheSize = refl; memory = λ i o. refl; memorySize = refl; place = past-place (b .state) }
+    record { cache = λ i r m. refl; cacheSize = refl; memory = λ i o. refl; memorySize = refl; entries = refl; place = past-place (b .state) }
 
 -- The line of the cell at the place written back.
 stores-line : (b : Board) → Sizes (b .state .lines) b → b .state .place < cells (b .state .lines) → OnlyCell (b .state .place) b (backed (cellLine (b .state .place)) (pastCell (b .state)) b)
@@ -90,6 +91,7 @@ stores-line b z h =
       cacheSize = refl;
       memory = λ i o. getD-withLine-out (b .memory) l (lineOf (b .cache) l) i inside eight o;
       memorySize = length-withLine (b .memory) l (lineOf (b .cache) l) inside eight;
+      entries = refl;
       place = past-place (b .state);
     }
 

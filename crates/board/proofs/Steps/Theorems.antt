@@ -1,9 +1,10 @@
 -- THE THEOREMS about single calls: every statement of `specs/Steps.antt`, proved.
-use Rattle.board.specs.Steps.{FormatWrites, RecoveryWrites, Releases, LastStore, TableBothWays, FormatStarts}
+use Rattle.board.specs.Steps.{FormatWrites, RecoveryWrites, Releases, LastStore, TableBothWays, FormatStarts, FormatBegins, RecoveryBegins}
 use Rattle.board.proofs.Steps.Format
 use Rattle.board.proofs.Steps.Recovery
 use Rattle.board.proofs.Steps.Workers
 use Rattle.board.proofs.Steps.Table
+use Rattle.board.proofs.Steps.Starts
 
 -- 1. Each step of a format writes its own line in both rows, and no other.
 pub format-writes : FormatWrites
@@ -27,3 +28,10 @@ table-both-ways = Table.table-both-ways
 
 pub format-starts : FormatStarts
 format-starts = Table.format-starts
+
+-- 6. The two starts set every field; a format's changes no row, a recovery's copies memory to cache.
+pub format-begins : FormatBegins
+format-begins = Starts.format-begins
+
+pub recovery-begins : RecoveryBegins
+recovery-begins = Starts.recovery-begins

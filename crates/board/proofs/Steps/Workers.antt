@@ -40,7 +40,7 @@ step-releases b e t p =
 pub releases : Releases
 releases b e t p =
     subst (Released b) (sym (step-releases b e t p))
-    (record { eight = refl; free = λ w. free-condition (released (b .state)) w refl; empty = refl; request = refl; place = refl; memory = refl; cache = refl })
+    (record { eight = refl; free = λ w. free-condition (released (b .state)) w refl; empty = refl; request = refl; place = refl; memory = refl; cache = refl; entries = refl })
 
 -- ---- the last store
 

@@ -151,9 +151,13 @@ edges =
     ∷ updating 1 2 (sound Running 1 1)
     ∷ []
 
--- The same with a request: place n+2, n being 0 and 2.
+-- The same with a request: place n+2, n being 0 and 2; and with epoch 2^64 − 1.
 abbrev pub requestedEdges : List Board
-requestedEdges = placedAt 2 (requested (sound Running 1 1)) ∷ listing 2 (placedAt 4 (requested (sound Running 1 1))) ∷ []
+requestedEdges =
+    placedAt 2 (requested (sound Running 1 1))
+    ∷ listing 2 (placedAt 4 (requested (sound Running 1 1)))
+    ∷ spent (requested (sound Running 1 1))
+    ∷ []
 
 -- The phases that do not run, of a board on which causes 3 and 4 stand too.
 abbrev pub notRunningOf : Board → List Board

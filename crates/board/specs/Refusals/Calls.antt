@@ -53,7 +53,7 @@ updateShared =
     ∷ []
 
 -- Taken: cell W and cell 2L − 1, worker W − 1; another worker at another cell; a worker from W on at the same cell or at cell 2L; list length 2L, a longer list, L 511,
--- place n+2 of a request and a place past everything without one.
+-- place n+2 of a request and a place past everything without one, epoch 2^64 − 1.
 abbrev pub updateTaken : List Case
 updateTaken =
     gives 0 (Update 0 2 7) (sound Running 2 2)
@@ -69,6 +69,7 @@ updateTaken =
     ∷ entered (replicate 9 0) (sound Running 1 1)
     ∷ placedAt 2 (requested (sound Running 1 1))
     ∷ placedAt 600 (sound Running 1 1)
+    ∷ spent (sound Running 1 1)
     ∷ []
     )
 
@@ -150,6 +151,7 @@ advanceTaken =
     ∷ placedAt 2 (requested (updating 0 1 (sound Running 1 1)))
     ∷ placedAt 600 (updating 0 1 (sound Running 1 1))
     ∷ updating 1 2 (updating 0 1 (sound Running 1 1))
+    ∷ spent (updating 0 1 (sound Running 1 1))
     ∷ []
     )
 
@@ -194,13 +196,14 @@ backRows = givesOn 4 (WriteBack 2) (misfits (sound Running 1 1) ++ misfits (soun
 abbrev pub backLine : List Case
 backLine = gives 7 (WriteBack 2) (sound Running 1 1) ∷ gives 7 (WriteBack 2) (sound Recovering 1 1) ∷ gives 7 (WriteBack (2 ^ 64 - 1)) (sound Running 1 1) ∷ []
 
--- Taken: line L in both phases, and at cell 2L − 1 of a recovery; line 511; line 0 in a recovery and on the records just within.
+-- Taken: line L in both phases, and at cell 2L − 1 of a recovery; line 511; a line with a cell in an update; line 0 in a recovery and on the records just within.
 abbrev pub backTaken : List Case
 backTaken =
     gives 0 (WriteBack 1) (sound Running 1 1)
     ∷ gives 0 (WriteBack 1) (sound Recovering 1 1)
     ∷ gives 0 (WriteBack 1) (placedAt 1 (sound Recovering 1 1))
     ∷ gives 0 (WriteBack 511) (sound Running 511 8)
+    ∷ gives 0 (WriteBack 2) (updating 1 3 (sound Running 2 2))
     ∷ givesOn 0 (WriteBack 0) (sound Recovering 1 1 ∷ full ∷ edges ++ requestedEdges)
 
 -- ---- read
@@ -222,9 +225,10 @@ readValue =
     valuedOn : ℕ → Board → Case
     valuedOn v b = fromEvents v b [] (valued 0 v ∷ [])
 
--- Taken: cells 0 and 2L − 1, cell 1,021, and on the records just within.
+-- Taken: cells 0 and 2L − 1, cell 1,021, a cell in an update, and on the records just within.
 abbrev pub readTaken : List Case
 readTaken =
     gives 0 (Read 1) (sound Running 1 1)
     ∷ gives 0 (Read 1021) (sound Running 511 8)
+    ∷ gives 0 (Read 3) (updating 1 3 (sound Running 2 2))
     ∷ givesOn 0 (Read 0) (full ∷ edges ++ requestedEdges)
