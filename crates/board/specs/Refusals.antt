@@ -8,10 +8,9 @@ use Rattle.board.specs.Bench.{Case, Each}
 use Rattle.board.specs.Refusals.Starts.{formatLimits, formatRows, formatTaken, recoveryRows, recoveryHeader, recoveryTaken, stepPhase, stepRecord, stepRecordInFormat, stepRecordInRecovery, stepRecordTaken, stepPlaceOfPhase, stepRows, stepEntry, stepEntryTaken, stepReady, stepReadyTaken, stepEpoch, stepEpochTaken}
 use Rattle.board.specs.Refusals.Calls.{updateFirst, updateWorker, updateCell, updateBusy, updateShared, updateTaken, restartFirst, restartWorker, restartBusy, restartShared, restartTaken, advanceFirst, advanceFull, advanceWorker, advanceIdle, advanceTaken, requestFirst, requestLast, requestTaken, backPhase, backRecord, backRows, backLine, backTaken, readFirst, readCell, readValue, readTaken}
 
--- The rows, by call in the order of 01.
-unfoldable pub refusals : List Case
-refusals =
-    flatten (
+-- The groups of rows, by call in the order of 01.
+abbrev pub groups : List (List Case)
+groups =
     formatLimits ∷ formatRows ∷ formatTaken
     ∷ recoveryRows ∷ recoveryHeader ∷ recoveryTaken
     ∷ stepPhase ∷ stepRecord ∷ stepRecordInFormat ∷ stepRecordInRecovery ∷ stepRecordTaken ∷ stepPlaceOfPhase ∷ stepRows ∷ stepEntry ∷ stepEntryTaken ∷ stepReady ∷ stepReadyTaken ∷ stepEpoch ∷ stepEpochTaken
@@ -22,7 +21,10 @@ refusals =
     ∷ backPhase ∷ backRecord ∷ backRows ∷ backLine ∷ backTaken
     ∷ readFirst ∷ readCell ∷ readValue ∷ readTaken
     ∷ []
-    )
+
+-- The table.
+unfoldable pub refusals : List Case
+refusals = flatten groups
 
 -- Every row of the table holds.
 abbrev pub RefusalsHold : Type 0

@@ -3,9 +3,7 @@ use Prim.Native.Nat.{ℕ, _+_, _<_}
 use mathlib.Core.Path.{_≡_, refl, sym, ap, subst}
 use mathlib.Core.Logic.{_⊎_, inl, inr}
 use mathlib.Core.Bool.{false, _||_, false≢true}
-use native.Mathlib.Omega.{arith}
 use lib.Dec.{leb, ltb}
-use lib.ListN.{length}
 use borrow.Author.Tests.{leb-false}
 use Rattle.line.specs.declared.Field.{Field}
 use Rattle.line.specs.Line.{lineOf}
@@ -14,12 +12,12 @@ use Rattle.line.proofs.Laws.{length-lineOf, length-withLine, length-withField, 
 use Rattle.board.specs.declared.State.{State}
 use Rattle.board.specs.declared.Phase.{Phase}
 use Rattle.board.specs.declared.Phase.the-variants.{Recovering}
-use Rattle.board.specs.declared.UndoStep.the-variants.{Restore, Unmark, WriteLine}
+use Rattle.board.specs.declared.UndoStep.the-variants.{Unmark, WriteLine}
 use Rattle.board.specs.declared.Call.the-variants.{Step}
 use Rattle.board.specs.Board.{Board, cells, linesOutside, workersOutside, outside}
-use Rattle.board.specs.State.{placed, opened, isRecovering, updates, anyWorker}
+use Rattle.board.specs.State.{placed, isRecovering, updates, anyWorker}
 use Rattle.board.specs.Causes.{causes, badRecord, placePast, badRows, badEntry}
-use Rattle.board.specs.Effects.{cached, stated, backed, restored, unmarked, pastCell}
+use Rattle.board.specs.Effects.{cached, stated, backed, pastCell}
 use Rattle.board.specs.Sequence.{Taken}
 use Rattle.board.specs.Steps.{OnlyCell, RecoveryWrites}
 use Rattle.board.proofs.Laws.Bools.{or-left, or-right}

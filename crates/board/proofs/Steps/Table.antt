@@ -1,21 +1,16 @@
 -- The cause table read both ways, and a format's start in plain numbers.
-use Prim.Native.Nat.{ℕ, _+_, _*_, _≤_, _<_}
+use Prim.Native.Nat.{ℕ, _≤_, _<_}
 use mathlib.Core.Path.{_≡_, refl, sym, ap, _∙_}
-use mathlib.Core.Logic.{_⊎_, inl, inr, ⊎-elim, _↔_}
-use mathlib.Core.List.{List, [], _∷_, _++_, List·Memᴰ, List·Memᴰ·head, List·Memᴰ·tail, List·Memᴰ·cases-cons, List·Memᴰ·not-nil}
-use mathlib.Core.Bool.{Bool, true, false, cond, not, _&&_}
-use native.Mathlib.Omega.{arith}
+use mathlib.Core.Logic.{_⊎_, inl, inr, ⊎-elim}
+use mathlib.Core.List.{List, [], _∷_, List·Memᴰ·head, List·Memᴰ·tail, List·Memᴰ·cases-cons, List·Memᴰ·not-nil}
+use mathlib.Core.Bool.{false, cond, _&&_}
 use lib.Dec.{leb, ltb}
-use lib.ListN.{length}
-use borrow.Author.Tests.{le-leb, lt-ltb, eq-eqb}
-use Rattle.board.specs.declared.Call.{Call}
+use borrow.Author.Tests.{le-leb, lt-ltb}
 use Rattle.board.specs.declared.Call.the-variants.{FormatStart}
-use Rattle.board.specs.Board.{Board, cells, linesOutside, workersOutside}
+use Rattle.board.specs.Board.{cells, linesOutside, workersOutside}
 use Rattle.board.specs.Causes.{Cause, causes, firstStanding, cause}
-use Rattle.board.specs.Sequence.{Taken}
-use Rattle.board.specs.Steps.{NoneStands, StandsFirst, ReadBothWays, TableBothWays, FormatStarts}
+use Rattle.board.specs.Steps.{NoneStands, StandsFirst, TableBothWays, FormatStarts}
 use Rattle.board.proofs.Laws.Bools.{split, chosen, passedOver, or-none, and-both, not-on}
-use Rattle.board.proofs.Laws.View.{Sized}
 use Rattle.board.proofs.Invariant.{Sizes}
 use Rattle.board.proofs.Laws.Taken.{Clear, first-clear, table-numbered, take, refused-next, rows-fine}
 

@@ -1,13 +1,12 @@
 -- What becomes of the workers at a checkpoint's release and at the last store of an update.
-use Prim.Native.Nat.{ℕ, _+_, _≤_, _<_}
+use Prim.Native.Nat.{ℕ, _+_, _<_}
 use mathlib.Core.Path.{_≡_, refl, sym, ap, subst, _∙_}
 use mathlib.Core.Logic.{_↔_}
-use mathlib.Core.List.{List}
-use mathlib.Core.Bool.{Bool, true, false, cond, _&&_, true≢false, false≢true}
+use mathlib.Core.Bool.{true, false, _&&_, false≢true}
 use native.Mathlib.Omega.{arith}
 use native.Mathlib.Decide.{decLt}
 use lib.Dec.{ltb}
-use lib.ListN.{length, getD, set, List·getD-eq-default}
+use lib.ListN.{length, List·getD-eq-default}
 use lib.Seq.{getD-set-same}
 use borrow.Author.Tests.{ltb-true, lt-ltb}
 use Rattle.board.specs.declared.State.{State}
@@ -19,10 +18,10 @@ use Rattle.board.specs.declared.Phase.the-variants.{Running}
 use Rattle.board.specs.declared.Call.the-variants.{Step, Advance}
 use Rattle.board.specs.Board.{Board}
 use Rattle.board.specs.State.{freeWorker, released, conditionOf, isUpdating, isWaiting}
-use Rattle.board.specs.Effects.{Act, release, performAct, stated, afterLast, advance, advanceOf, effect}
+use Rattle.board.specs.Effects.{Act, performAct, stated, afterLast, advance, advanceOf, effect}
 use Rattle.board.specs.Next.{next}
 use Rattle.board.specs.Sequence.{Taken}
-use Rattle.board.specs.Steps.{Released, Releases, MustWait, Ended, LastStore}
+use Rattle.board.specs.Steps.{Released, Releases, MustWait, LastStore}
 use Rattle.board.proofs.Laws.Bools.{split, chosen, passedOver, and-left, and-right, and-both, clash}
 use Rattle.board.proofs.Laws.Taken.{taken-next}
 use Rattle.board.proofs.Laws.Idle.{free-condition}

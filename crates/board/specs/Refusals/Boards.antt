@@ -1,13 +1,11 @@
 -- The table of refusals: what a row of it is, and the small boards that its rows speak of.
 use Prim.Native.Nat.{ℕ, _+_, _-_, _*_, _^_}
 use mathlib.Core.List.{List, [], _∷_, _++_, map}
-use mathlib.Core.Bool.{Bool, true, false}
+use mathlib.Core.Bool.{true}
 use lib.ListN.{length, take, set, replicate}
-use Rattle.board.specs.declared.State.{State}
-use Rattle.board.specs.declared.Worker.{Worker}
 use Rattle.board.specs.declared.Condition.{Condition}
-use Rattle.board.specs.declared.Condition.the-variants.{Free, Waiting, Updating}
-use Rattle.board.specs.declared.Store.the-variants.{Backup, Mark, Record}
+use Rattle.board.specs.declared.Condition.the-variants.{Waiting, Updating}
+use Rattle.board.specs.declared.Store.the-variants.{Backup}
 use Rattle.board.specs.declared.Phase.{Phase}
 use Rattle.board.specs.declared.Phase.the-variants.{Off, Formatting, Recovering, Running}
 use Rattle.board.specs.declared.Call.{Call}
@@ -137,27 +135,27 @@ badRecords =
     let b = shortCache (sound Running 1 1) in
     listing 3 b ∷ placedAt 3 (requested b) ∷ listing 2 (placedAt 5 (requested b)) ∷ updating 0 2 b ∷ outsides b
 
--- Running records just within, with no request: L 1 and W = 2L − 1; L 511 and W 8; W = 2L − 1 = 3; list length 2L; cell 2L − 1 in an update; a longer list;
--- a place past everything; a worker from W on with an update of cell 2L.
-abbrev pub edges : List Board
-edges =
+-- Running boards (1, 1) with a record just within and no request: W = 2L − 1; list length 2L; a longer list; a place past everything; worker 1, from W on, with an update of cell 2L.
+abbrev pub quietEdges : List Board
+quietEdges =
     sound Running 1 1
-    ∷ sound Running 511 8
-    ∷ sound Running 2 3
     ∷ listing 2 (sound Running 1 1)
-    ∷ updating 1 3 (sound Running 2 2)
     ∷ entered (replicate 9 0) (sound Running 1 1)
     ∷ placedAt 600 (sound Running 1 1)
     ∷ updating 1 2 (sound Running 1 1)
     ∷ []
 
--- The same with a request: place n+2, n being 0 and 2; and with epoch 2^64 − 1.
+-- The same with a request: place n+2, n being 0 and 2; and epoch 2^64 − 1.
 abbrev pub requestedEdges : List Board
 requestedEdges =
     placedAt 2 (requested (sound Running 1 1))
     ∷ listing 2 (placedAt 4 (requested (sound Running 1 1)))
     ∷ spent (requested (sound Running 1 1))
     ∷ []
+
+-- Larger running boards: L 511 and W 8; W 8 with L 5; W = 2L − 1 = 3; cell 2L − 1 in an update by worker W − 1.
+abbrev pub largeEdges : List Board
+largeEdges = sound Running 511 8 ∷ sound Running 5 8 ∷ sound Running 2 3 ∷ updating 1 3 (sound Running 2 2) ∷ []
 
 -- The phases that do not run, of a board on which causes 3 and 4 stand too.
 abbrev pub notRunningOf : Board → List Board

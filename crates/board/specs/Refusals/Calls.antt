@@ -1,17 +1,15 @@
 -- The table of refusals: the calls that need a board that runs, and write-back.
 use Prim.Native.Nat.{ℕ, _-_, _^_}
-use mathlib.Core.List.{List, [], _∷_, _++_}
+use mathlib.Core.List.{List, [], _∷_, _++_, map}
 use lib.ListN.{set, replicate}
-use Rattle.board.specs.declared.Condition.the-variants.{Free, Waiting, Updating}
-use Rattle.board.specs.declared.Store.the-variants.{Backup, Mark, Record}
-use Rattle.board.specs.declared.Phase.{Phase}
+use Rattle.board.specs.declared.Condition.the-variants.{Waiting, Updating}
+use Rattle.board.specs.declared.Store.the-variants.{Mark, Record}
 use Rattle.board.specs.declared.Phase.the-variants.{Off, Formatting, Recovering, Running}
-use Rattle.board.specs.declared.Call.{Call}
 use Rattle.board.specs.declared.Call.the-variants.{Update, RestartPoint, Advance, Request, WriteBack, Read}
 use Rattle.board.specs.Board.{Board}
 use Rattle.board.specs.Effects.{cached}
-use Rattle.board.specs.Bench.{Case, Seen, fromEvents, valued}
-use Rattle.board.specs.Refusals.Boards.{gives, givesOn, rowFor, sound, inPhase, requested, listing, placedAt, worker, updating, entered, remembered, epoch, spent, shortCache, misfits, badRecords, edges, requestedEdges, firstThree}
+use Rattle.board.specs.Bench.{Case, fromEvents, valued}
+use Rattle.board.specs.Refusals.Boards.{gives, givesOn, rowFor, sound, inPhase, requested, listing, placedAt, worker, updating, entered, remembered, epoch, spent, shortCache, misfits, badRecords, quietEdges, requestedEdges, largeEdges, firstThree}
 
 -- ---- update
 
@@ -52,8 +50,7 @@ updateShared =
     ∷ gives 9 (Update 0 9 7) (updating 7 9 (sound Running 5 8))
     ∷ []
 
--- Taken: cell W and cell 2L − 1, worker W − 1; another worker at another cell; a worker from W on at the same cell or at cell 2L; list length 2L, a longer list, L 511,
--- place n+2 of a request and a place past everything without one, epoch 2^64 − 1.
+-- Taken: cell W and cell 2L − 1, worker W − 1; another worker at another cell; a worker from W on at the same cell or at cell 2L; on the records just within.
 abbrev pub updateTaken : List Case
 updateTaken =
     gives 0 (Update 0 2 7) (sound Running 2 2)
@@ -64,14 +61,7 @@ updateTaken =
     ∷ gives 0 (Update 1 2 7) (updating 0 3 (sound Running 2 2))
     ∷ gives 0 (Update 1 2 7) (updating 2 2 (sound Running 2 2))
     ∷ gives 0 (Update 1 2 7) (updating 2 4 (sound Running 2 2))
-    ∷ givesOn 0 (Update 0 1 7) (
-    listing 2 (sound Running 1 1)
-    ∷ entered (replicate 9 0) (sound Running 1 1)
-    ∷ placedAt 2 (requested (sound Running 1 1))
-    ∷ placedAt 600 (sound Running 1 1)
-    ∷ spent (sound Running 1 1)
-    ∷ []
-    )
+    ∷ givesOn 0 (Update 0 1 7) (quietEdges ++ requestedEdges)
 
 -- ---- restart point
 
@@ -108,7 +98,7 @@ restartTaken =
     gives 0 (RestartPoint 7 3) (sound Running 5 8)
     ∷ gives 0 (RestartPoint 1 3) (updating 0 2 (sound Running 2 2))
     ∷ gives 0 (RestartPoint 1 3) (updating 2 1 (sound Running 2 2))
-    ∷ givesOn 0 (RestartPoint 0 3) (edges ++ requestedEdges)
+    ∷ givesOn 0 (RestartPoint 0 3) (quietEdges ++ (requestedEdges ++ largeEdges))
 
 -- ---- advance
 
@@ -137,7 +127,7 @@ advanceWorker =
 abbrev pub advanceIdle : List Case
 advanceIdle = gives 8 (Advance 0) (sound Running 1 1) ∷ gives 8 (Advance 0) (worker 0 Waiting (sound Running 1 1)) ∷ []
 
--- Taken: length 2L − 1 where it adds; length 2L where it adds nothing; worker W − 1; cell 2L − 1; on records just within.
+-- Taken: length 2L − 1 where it adds; length 2L where it adds nothing; worker W − 1; cell 2L − 1; on the records just within.
 abbrev pub advanceTaken : List Case
 advanceTaken =
     gives 0 (Advance 0) (listing 3 full)
@@ -145,15 +135,7 @@ advanceTaken =
     ∷ gives 0 (Advance 0) (updating 0 2 full)
     ∷ gives 0 (Advance 7) (updating 7 9 (sound Running 5 8))
     ∷ gives 0 (Advance 0) (updating 0 1021 (sound Running 511 8))
-    ∷ givesOn 0 (Advance 0) (
-    updating 0 1 (sound Running 1 1)
-    ∷ entered (replicate 9 0) (updating 0 1 (sound Running 1 1))
-    ∷ placedAt 2 (requested (updating 0 1 (sound Running 1 1)))
-    ∷ placedAt 600 (updating 0 1 (sound Running 1 1))
-    ∷ updating 1 2 (updating 0 1 (sound Running 1 1))
-    ∷ spent (updating 0 1 (sound Running 1 1))
-    ∷ []
-    )
+    ∷ givesOn 0 (Advance 0) (map (updating 0 1) (quietEdges ++ requestedEdges))
 
 -- ---- request
 
@@ -172,7 +154,7 @@ requestTaken =
     ∷ gives 0 Request (remembered (set (rowFor 1 1) 0 (2 ^ 64 - 1)) (sound Running 1 1))
     ∷ gives 0 Request (worker 0 Waiting (updating 1 2 (sound Running 2 2)))
     ∷ gives 0 Request full
-    ∷ givesOn 0 Request edges
+    ∷ givesOn 0 Request (quietEdges ++ largeEdges)
 
 -- ---- write-back
 
@@ -204,7 +186,7 @@ backTaken =
     ∷ gives 0 (WriteBack 1) (placedAt 1 (sound Recovering 1 1))
     ∷ gives 0 (WriteBack 511) (sound Running 511 8)
     ∷ gives 0 (WriteBack 2) (updating 1 3 (sound Running 2 2))
-    ∷ givesOn 0 (WriteBack 0) (sound Recovering 1 1 ∷ full ∷ edges ++ requestedEdges)
+    ∷ givesOn 0 (WriteBack 0) (sound Recovering 1 1 ∷ full ∷ quietEdges ++ (requestedEdges ++ largeEdges))
 
 -- ---- read
 
@@ -231,4 +213,4 @@ readTaken =
     gives 0 (Read 1) (sound Running 1 1)
     ∷ gives 0 (Read 1021) (sound Running 511 8)
     ∷ gives 0 (Read 3) (updating 1 3 (sound Running 2 2))
-    ∷ givesOn 0 (Read 0) (full ∷ edges ++ requestedEdges)
+    ∷ givesOn 0 (Read 0) (full ∷ quietEdges ++ (requestedEdges ++ largeEdges))

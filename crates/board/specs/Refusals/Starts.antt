@@ -2,11 +2,8 @@
 use Prim.Native.Nat.{ℕ, _+_, _-_, _*_, _^_}
 use mathlib.Core.List.{List, [], _∷_, _++_}
 use lib.ListN.{set, replicate}
-use Rattle.board.specs.declared.Condition.the-variants.{Free, Waiting, Updating}
-use Rattle.board.specs.declared.Store.the-variants.{Backup, Mark, Record}
-use Rattle.board.specs.declared.Phase.{Phase}
+use Rattle.board.specs.declared.Condition.the-variants.{Free, Waiting}
 use Rattle.board.specs.declared.Phase.the-variants.{Off, Formatting, Recovering, Running}
-use Rattle.board.specs.declared.Call.{Call}
 use Rattle.board.specs.declared.Call.the-variants.{FormatStart, RecoveryStart, Step}
 use Rattle.board.specs.Board.{Board, headerWords}
 use Rattle.board.specs.Bench.{Case, blank}
@@ -119,19 +116,17 @@ stepRecordInRecovery =
 -- Taken: place L + 1 in a format, cell 2L − 1 in a recovery, place n+2 when running with a request (n 0 and 2); list length 2L; cell 2L − 1 in an update.
 abbrev pub stepRecordTaken : List Case
 stepRecordTaken =
-    givesOn 0 Step (
-    placedAt 2 (sound Formatting 1 1)
-    ∷ placedAt 512 (sound Formatting 511 8)
-    ∷ listing 2 (sound Formatting 1 1)
-    ∷ updating 0 1 (sound Formatting 1 1)
-    ∷ placedAt 1 (sound Recovering 1 1)
-    ∷ placedAt 1021 (sound Recovering 511 8)
-    ∷ listing 2 (sound Recovering 1 1)
-    ∷ updating 0 1 (sound Recovering 1 1)
-    ∷ placedAt 2 (ready 1 1)
-    ∷ listing 2 (placedAt 4 (ready 1 1))
+    gives 0 Step (placedAt 2 (sound Formatting 1 1))
+    ∷ gives 0 Step (placedAt 512 (sound Formatting 511 8))
+    ∷ gives 0 Step (listing 2 (sound Formatting 1 1))
+    ∷ gives 0 Step (updating 0 1 (sound Formatting 1 1))
+    ∷ gives 0 Step (placedAt 1 (sound Recovering 1 1))
+    ∷ gives 0 Step (placedAt 1021 (sound Recovering 511 8))
+    ∷ gives 0 Step (listing 2 (sound Recovering 1 1))
+    ∷ gives 0 Step (updating 0 1 (sound Recovering 1 1))
+    ∷ gives 0 Step (placedAt 2 (ready 1 1))
+    ∷ gives 0 Step (listing 2 (placedAt 4 (ready 1 1)))
     ∷ []
-    )
 
 -- Past n+2 with a request a format or a recovery is not at fault, nor is a running board without one past everything: it is cause 10 that answers there.
 abbrev pub stepPlaceOfPhase : List Case
