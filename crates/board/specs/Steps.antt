@@ -4,7 +4,7 @@ use mathlib.Core.Path.{_≡_}
 use mathlib.Core.Logic.{_⊎_, _↔_}
 use mathlib.Core.List.{List, _∷_, _++_, List·Memᴰ}
 use mathlib.Core.Bool.{true, false}
-use lib.ListN.{length, getD}
+use lib.ListN.{length, getD, replicate}
 use Rattle.line.specs.declared.Field.{Field}
 use Rattle.line.specs.Line.{lineStart}
 use Rattle.line.specs.Cell.{cellLine, fieldIndex}
@@ -15,7 +15,7 @@ use Rattle.board.specs.declared.Phase.the-variants.{Formatting, Recoveri
 use Rattle.board.specs.declared.UndoStep.the-variants.{Restore}
 use Rattle.board.specs.declared.Call.{Call}
 use Rattle.board.specs.declared.Call.the-variants.{FormatStart, RecoveryStart, Step, Advance}
-use Rattle.board.specs.Board.{Board, headerWords, zeroWords}
+use Rattle.board.specs.Board.{Board}
 use Rattle.board.specs.State.{conditionOf}
 use Rattle.board.specs.Causes.{Cause, causes, cause}
 use Rattle.board.specs.Next.{next}
@@ -44,8 +44,8 @@ formatAfter l w b i = stepsFrom i (next (FormatStart l w) b)
 abbrev pub FormatWrites : Type 0
 FormatWrites =
     (l w : ℕ) (b : Board) → Taken (FormatStart l w) b →
-    ((i : ℕ) → i ≤ l → OnlyLineInBoth i zeroWords (formatAfter l w b i) (formatAfter l w b (suc i)))
-    × OnlyLineInBoth 0 (headerWords 1 l w) (formatAfter l w b (l + 1)) (formatAfter l w b (suc (l + 1)))
+    ((i : ℕ) → i ≤ l → OnlyLineInBoth i (replicate 8 0) (formatAfter l w b i) (formatAfter l w b (suc i)))
+    × OnlyLineInBoth 0 (1 ∷ l ∷ w ∷ replicate 5 0) (formatAfter l w b (l + 1)) (formatAfter l w b (suc (l + 1)))
 
 -- ---- 2. recovery
 
@@ -64,13 +64,17 @@ RecoveryWrites = (b : Board) → b .state .phase ≡ Recovering → Taken Step b
 
 -- ---- 3. release
 
--- All eight workers are free, the list is empty, no request stands, the place is 0, and no row has changed.
+-- All eight workers are free, the list is empty, no request stands, the place is 0 with a recovery's first step; phase, L, W and the rows are as they were.
 pub record Released (b b′ : Board) : Type 0 where
   pub eight : length (b′ .state .worker) ≡ 8
   pub free : (w : ℕ) → conditionOf (b′ .state) w ≡ Free
   pub empty : b′ .state .listed ≡ 0
   pub request : b′ .state .requested ≡ false
   pub place : b′ .state .place ≡ 0
+  pub undo : b′ .state .undo ≡ Restore
+  pub phase : b′ .state .phase ≡ b .state .phase
+  pub lines : b′ .state .lines ≡ b .state .lines
+  pub workers : b′ .state .workers ≡ b .state .workers
   pub memory : b′ .memory ≡ b .memory
   pub cache : b′ .cache ≡ b .cache
   pub entries : b′ .entries ≡ b .entries

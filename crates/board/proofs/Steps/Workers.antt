@@ -39,7 +39,20 @@ step-releases b e t p =
 pub releases : Releases
 releases b e t p =
     subst (Released b) (sym (step-releases b e t p))
-    (record { eight = refl; free = λ w. free-condition (released (b .state)) w refl; empty = refl; request = refl; place = refl; memory = refl; cache = refl; entries = refl })
+    (record {
+      eight = refl;
+      free = λ w. free-condition (released (b .state)) w refl;
+      empty = refl;
+      request = refl;
+      place = refl;
+      undo = refl;
+      phase = refl;
+      lines = refl;
+      workers = refl;
+      memory = refl;
+      cache = refl;
+      entries = refl;
+    })
 
 -- ---- the last store
 
