@@ -71,11 +71,12 @@ last-condition w c v b e t =
     ap (λ (x : Board). conditionOf (x .state) w) (taken-next (Advance w) b t ∙ ap (λ (k : Condition). advanceOf k w (b .state) b) e)
     ∙ ap (λ (k : Worker). k .condition) (getD-set-same (b .state .worker) w (record { condition = afterLast (b .state) c }) freeWorker (updating-within (b .state) w c v Store.Record e))
 
--- The test of the last store says where the worker must wait.
 module _ (b : Board) (c : ℕ) where
+  -- Where the test of the last store holds, the worker must wait.
   must : ltb c (b .state .workers) && b .state .requested ≡ true → MustWait c b
   must t = (ltb-true c (b .state .workers) (and-left (ltb c (b .state .workers)) (b .state .requested) t), and-right (ltb c (b .state .workers)) (b .state .requested) t)
 
+  -- Where the worker must wait, the test holds.
   must-test : MustWait c b → ltb c (b .state .workers) && b .state .requested ≡ true
   must-test m = and-both (ltb c (b .state .workers)) (b .state .requested) (lt-ltb c (b .state .workers) (m .0)) (m .1)
 
