@@ -9,9 +9,10 @@ use Rattle.board.specs.State.{anyUnder}
 use Rattle.board.specs.Causes.{badRecord, causes, firstStanding, cause}
 use Rattle.board.specs.Effects.{formatStep, recoveryStep, actAt, performAct, step, advance, advanceOf, effect}
 use Rattle.board.specs.Next.{next, valueRead}
-use Rattle.board.specs.Bench.{Case, same, allTaken, afterCalls, runsIn, sees, allSeen, holds, table, Each, BenchHolds}
+use Rattle.board.specs.Bench.{Case, same, allTakenIn, afterEvents, runsIn, sees, allSeen, holds, table, Each, BenchHolds}
 
-allHold : List Case → Bool
+-- Every case of a table holds, as a test.
+unfoldable pub allHold : List Case → Bool
 allHold [] = true
 allHold (k ∷ ks) = holds k && allHold ks
 
@@ -19,13 +20,14 @@ both : (a b : Bool) → a && b ≡ true → (a ≡ true) × (b ≡ true)
 both true b e = (refl, e)
 both false b e = absurd (false≢true e)
 
-each : (ks : List Case) → allHold ks ≡ true → Each ks
+-- A table that passes the test holds.
+pub each : (ks : List Case) → allHold ks ≡ true → Each ks
 unfolding allHold Each
 each [] e = tt
 each (k ∷ ks) e = (both (holds k) (allHold ks) e .0, each ks (both (holds k) (allHold ks) e .1))
 
 tested : allHold table ≡ true
-unfolding allHold table holds same allTaken afterCalls runsIn sees allSeen next valueRead cause causes firstStanding badRecord anyUnder effect step formatStep recoveryStep actAt performAct advance advanceOf lineOf withLine fieldIndex fieldOf withField
+unfolding allHold table holds same allTakenIn afterEvents runsIn sees allSeen next valueRead cause causes firstStanding badRecord anyUnder effect step formatStep recoveryStep actAt performAct advance advanceOf lineOf withLine fieldIndex fieldOf withField
 tested = refl
 
 -- K1 to K11 hold of the definitions.

@@ -1,5 +1,6 @@
 -- The proofs of the statements in `specs/`. Start at `Theorems`; `Invariant` is what they rest on.
 pub mod Bench
+pub mod Refusals
 pub mod Invariant
 pub mod Laws
 pub mod Format
@@ -8,5 +9,6 @@ pub mod Checkpoint
 pub mod Keeps
 pub mod Stores
 pub mod Updates
+pub mod Steps
 pub mod Theorems
 pub mod Example

@@ -1,7 +1,7 @@
 -- Document 01, "Bench cases": K1 to K11 as a table of cases, and the one statement that every case holds.
 use Prim.Native.Nat.{ℕ, zero, suc, _+_, _-_, _*_, _^_}
 use mathlib.Core.Path.{_≡_}
-use mathlib.Core.List.{List, [], _∷_, _++_}
+use mathlib.Core.List.{List, [], _∷_, _++_, map}
 use mathlib.Core.Bool.{Bool, true, false, cond, not, _&&_}
 use lib.Dec.{eqb}
 use lib.ListN.{length, getD, take, set, replicate}
@@ -12,11 +12,17 @@ use Rattle.board.specs.declared.Phase.the-variants.{Off, Formatting, Rec
 use Rattle.board.specs.declared.Call.{Call}
 use Rattle.board.specs.declared.Call.the-variants.{FormatStart, RecoveryStart, Step, Update, RestartPoint, Advance, Request, WriteBack, Read}
 use Rattle.board.specs.Board.{Board, rowWords, listWords}
-use Rattle.board.specs.State.{started, opened, isRunning}
+use Rattle.board.specs.State.{started, opened, requesting, isRunning}
 use Rattle.board.specs.Causes.{cause}
 use Rattle.board.specs.Next.{taken, next, valueRead}
+use Rattle.board.specs.Sequence.{cutBoard}
 
 -- ---- what a case is
+
+-- What is done in a case: a call, or a cut with what it leaves of record, cache and list.
+pub data Event : Type 0 where
+  call : Call → Event
+  cut : State → List ℕ → List ℕ → Event
 
 -- What is then seen.
 pub data Seen : Type 0 where
@@ -25,13 +31,14 @@ pub data Seen : Type 0 where
   cacheLine : ℕ → List ℕ → Seen
   listed : List ℕ → Seen
   reads : ℕ → ℕ → Seen
+  valued : ℕ → ℕ → Seen
   endsIn : Call → ℕ → Seen
 
--- A bench case: a board, calls that are all taken, and what is then seen.
+-- A bench case: a board, calls that are all taken with cuts among them, and what is then seen.
 pub record Case : Type 0 where
   pub name : ℕ
   pub board : Board
-  pub calls : List Call
+  pub events : List Event
   pub seen : List Seen
 
 -- ---- when a case holds
@@ -43,10 +50,17 @@ same [] (y ∷ ys) = false
 same (x ∷ xs) [] = false
 same (x ∷ xs) (y ∷ ys) = eqb x y && same xs ys
 
--- All of the calls are taken.
-unfoldable pub allTaken : List Call → Board → Bool
-allTaken [] b = true
-allTaken (k ∷ ks) b = taken k b && allTaken ks (next k b)
+-- All of the calls are taken, whatever cuts there are among them.
+unfoldable pub allTakenIn : List Event → Board → Bool
+allTakenIn [] b = true
+allTakenIn (call k ∷ es) b = taken k b && allTakenIn es (next k b)
+allTakenIn (cut s cache entries ∷ es) b = allTakenIn es (cutBoard s cache entries b)
+
+-- The board after the calls and cuts.
+unfoldable pub afterEvents : List Event → Board → Board
+afterEvents [] b = b
+afterEvents (call k ∷ es) b = afterEvents es (next k b)
+afterEvents (cut s cache entries ∷ es) b = afterEvents es (cutBoard s cache entries b)
 
 -- The board after the calls.
 unfoldable pub afterCalls : List Call → Board → Board
@@ -65,6 +79,7 @@ sees (memoryLine l words) b = same (lineOf (b .memory) l) words
 sees (cacheLine l words) b = same (lineOf (b .cache) l) words
 sees (listed cs) b = same (take (b .state .listed) (b .entries)) cs
 sees (reads c v) b = taken (Read c) b && eqb (valueRead c b) v
+sees (valued c v) b = eqb (valueRead c b) v
 sees (endsIn k n) b = taken k b && runsIn n (next k b)
 
 -- All of the things are seen.
@@ -74,7 +89,7 @@ allSeen (x ∷ xs) b = sees x b && allSeen xs b
 
 -- The case holds of the definitions.
 unfoldable pub holds : Case → Bool
-holds k = allTaken (k .calls) (k .board) && allSeen (k .seen) (afterCalls (k .calls) (k .board))
+holds k = allTakenIn (k .events) (k .board) && allSeen (k .seen) (afterEvents (k .events) (k .board))
 
 -- ---- the boards
 
@@ -122,11 +137,19 @@ calls8 n = calls5 ++ (Request ∷ RestartPoint 0 3 ∷ Advance 0 ∷ Advance 0 �
 abbrev pub recovery : ℕ → List Call
 recovery n = RecoveryStart ∷ replicate n Step
 
+-- A cut of a board (1, 1) that leaves words of no meaning in cache and list, and a running record with a request.
+abbrev pub cutWithGarbage : Event
+cutWithGarbage = cut (requesting (started Running 9 200)) (replicate 16 77) (5 ∷ 6 ∷ [])
+
 -- ---- the table
 
--- A row of the table.
+-- A row of the table, with cuts.
+abbrev pub fromEvents : ℕ → Board → List Event → List Seen → Case
+fromEvents name board events seen = record { name = name; board = board; events = events; seen = seen }
+
+-- A row of the table, of calls alone.
 abbrev pub from : ℕ → Board → List Call → List Seen → Case
-from name board calls seen = record { name = name; board = board; calls = calls; seen = seen }
+from name board calls seen = fromEvents name board (map call calls) seen
 
 -- K1 to K11, each part of each.
 unfoldable pub table : List Case
@@ -141,12 +164,12 @@ table =
     ∷ from 5 (blankFor 1) calls5 (cacheLine 1 (0 ∷ 0 ∷ 0 ∷ 7 ∷ 0 ∷ 1 ∷ 0 ∷ 0 ∷ []) ∷ memoryLine 1 (replicate 8 0) ∷ [])
     ∷ from 6 (blankFor 1) calls6 (endsIn RecoveryStart 4 ∷ [])
     ∷ from 6 (blankFor 1) (calls6 ++ recovery 4) (memoryLine 1 (replicate 8 0) ∷ [])
-    ∷ from 7 (blankFor 1) calls7 (cacheLine 1 (0 ∷ 0 ∷ 0 ∷ 9 ∷ 0 ∷ 1 ∷ 0 ∷ 0 ∷ []) ∷ [])
+    ∷ from 7 (blankFor 1) calls7 (cacheLine 1 (0 ∷ 0 ∷ 0 ∷ 9 ∷ 0 ∷ 1 ∷ 0 ∷ 0 ∷ []) ∷ answers (Advance 0) 8 ∷ [])
     ∷ from 8 (blankFor 1) (calls8 5) (memoryLine 0 (2 ∷ 1 ∷ 1 ∷ 0 ∷ 0 ∷ 0 ∷ 0 ∷ 0 ∷ []) ∷ memoryLine 1 (3 ∷ 0 ∷ 1 ∷ 7 ∷ 0 ∷ 1 ∷ 0 ∷ 0 ∷ []) ∷ answers Step 10 ∷ [])
     ∷ from 9 (blankFor 1) (calls8 5) (endsIn RecoveryStart 2 ∷ [])
     ∷ from 9 (blankFor 1) (calls8 5 ++ recovery 2) (reads 1 7 ∷ [])
-    ∷ from 10 (blankFor 1) (calls8 3 ++ recovery 6) (reads 0 0 ∷ reads 1 0 ∷ [])
-    ∷ from 10 (blankFor 1) (calls8 3 ++ (WriteBack 0 ∷ recovery 2)) (reads 1 7 ∷ [])
+    ∷ fromEvents 10 (blankFor 1) (map call (calls8 3) ++ (cutWithGarbage ∷ map call (recovery 6))) (reads 0 0 ∷ reads 1 0 ∷ [])
+    ∷ fromEvents 10 (blankFor 1) (map call (calls8 3 ++ (WriteBack 0 ∷ [])) ++ (cutWithGarbage ∷ map call (recovery 2))) (reads 1 7 ∷ [])
     ∷ from 11 (runningAt (2 ^ 64 - 1)) [] (answers Request 11 ∷ [])
     ∷ from 11 (runningAt (2 ^ 64 - 2)) [] (answers Request 0 ∷ [])
     ∷ []

@@ -7,4 +7,6 @@ pub mod Next
 pub mod Machine
 pub mod Sequence
 pub mod Statements
+pub mod Steps
 pub mod Bench
+pub mod Refusals

@@ -39,7 +39,7 @@ Clear [] = Unit {0}
 Clear (k ∷ ks) = (k .stands ≡ false) × Clear ks
 
 -- Where no cause is given, no row stands.
-first-clear : (ks : List Cause) → numbered ks ≡ true → firstStanding ks ≡ 0 → Clear ks
+pub first-clear : (ks : List Cause) → numbered ks ≡ true → firstStanding ks ≡ 0 → Clear ks
 unfolding numbered firstStanding Clear
 first-clear [] p e = tt
 first-clear (k ∷ ks) p e =
@@ -104,10 +104,14 @@ entered Request = record { numbers = λ b. refl; phase = λ b. refl; named = tt 
 entered (WriteBack l) = record { numbers = λ b. refl; phase = λ b. refl; named = (l, refl) }
 entered (Read c) = record { numbers = λ b. refl; phase = λ b. refl; named = refl }
 
+-- Every row of every call has a number other than 0.
+pub table-numbered : (k : Call) (b : Board) → numbered (causes k b) ≡ true
+table-numbered k = entered k .numbers
+
 -- A taken call passes the test of every number. (`unfolding standsAt causes` opens the test.)
 pub passed : (k : Call) (b : Board) → Taken k b → (n : ℕ) → standsAt n (causes k b) ≡ false
 unfolding cause
-passed k b t n = clear-at (causes k b) (first-clear (causes k b) (entered k .numbers b) t) n
+passed k b t n = clear-at (causes k b) (first-clear (causes k b) (table-numbered k b) t) n
 
 -- A taken call passes the phase's test of its kind.
 pub phase-passed : (k : Call) (b : Board) → Taken k b → phaseBars (kind k) b ≡ false

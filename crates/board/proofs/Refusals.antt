@@ -1,0 +1,19 @@
+-- The table of refusals: one computed test over all its rows.
+use mathlib.Core.Path.{_≡_, refl}
+use mathlib.Core.List.{flatten}
+use mathlib.Core.Bool.{true}
+use Rattle.line.specs.Cell.{fieldIndex, fieldOf}
+use Rattle.board.specs.State.{anyUnder}
+use Rattle.board.specs.Causes.{badRecord, causes, firstStanding, cause}
+use Rattle.board.specs.Next.{valueRead}
+use Rattle.board.specs.Bench.{allTakenIn, afterEvents, sees, allSeen, holds}
+use Rattle.board.specs.Refusals.{refusals, RefusalsHold}
+use Rattle.board.proofs.Bench.{allHold, each}
+
+tested : allHold refusals ≡ true
+unfolding flatten allHold refusals holds allTakenIn afterEvents sees allSeen valueRead cause causes firstStanding badRecord anyUnder fieldIndex fieldOf
+tested = refl
+
+-- Every call is turned down and taken as the table of refusals says.
+pub refusals-hold : RefusalsHold
+refusals-hold = each refusals tested

@@ -1,0 +1,7 @@
+-- The proofs of `specs/Steps.antt`: what single calls do on any board. Start at `Theorems`.
+pub mod Format
+pub mod Recovery
+pub mod Workers
+pub mod Table
+pub mod Starts
+pub mod Theorems

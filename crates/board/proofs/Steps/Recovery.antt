@@ -1,0 +1,104 @@
+-- A recovery's step on any board writes nothing but the cell at its place.
+use Prim.Native.Nat.{ℕ, _+_, _<_}
+use mathlib.Core.Path.{_≡_, refl, sym, ap, subst}
+use mathlib.Core.Logic.{_⊎_, inl, inr}
+use mathlib.Core.Bool.{false, _||_, false≢true}
+use lib.Dec.{leb, ltb}
+use borrow.Author.Tests.{leb-false}
+use Rattle.line.specs.declared.Field.{Field}
+use Rattle.line.specs.Line.{lineOf}
+use Rattle.line.specs.Cell.{cellLine, fieldIndex, fieldOf, withField}
+use Rattle.line.proofs.Laws.{length-lineOf, length-withLine, length-withField, getD-withField-other, getD-withLine-out}
+use Rattle.board.specs.declared.State.{State}
+use Rattle.board.specs.declared.Phase.{Phase}
+use Rattle.board.specs.declared.Phase.the-variants.{Recovering}
+use Rattle.board.specs.declared.UndoStep.the-variants.{Unmark, WriteLine}
+use Rattle.board.specs.declared.Call.the-variants.{Step}
+use Rattle.board.specs.Board.{Board, cells, linesOutside, workersOutside, outside}
+use Rattle.board.specs.State.{placed, isRecovering, updates, anyWorker}
+use Rattle.board.specs.Causes.{causes, badRecord, placePast, badRows, badEntry}
+use Rattle.board.specs.Effects.{cached, stated, backed, pastCell}
+use Rattle.board.specs.Steps.{OnlyCell, RecoveryWrites}
+use Rattle.board.proofs.Laws.Bools.{or-left, or-right}
+use Rattle.board.proofs.Laws.View.{cell-in}
+use Rattle.board.proofs.Invariant.{Sizes}
+use Rattle.board.proofs.Laws.Taken.{standsAt, passed, taken-next}
+use Rattle.board.proofs.Format.Board.{rows-sized}
+use Rattle.board.proofs.Recovery.Board.{recovery-cases, past-cases}
+use Rattle.board.specs.Next.{Taken}
+
+-- ---- what a taken step finds
+
+-- A state record that passes its test has L within the limits and its place within bounds.
+record-within : (s : State) → badRecord s ≡ false → (linesOutside (s .lines) ≡ false) × (placePast (s .phase) s ≡ false)
+unfolding badRecord
+record-within s e =
+    let limits = outside (s .lines) (s .workers) in
+    let long = ltb (cells (s .lines)) (s .listed) in
+    let past = placePast (s .phase) s in
+    let three : limits || long || past ≡ false = or-left (limits || long || past) (anyWorker s (updates (leb (cells (s .lines))))) e in
+    (or-left (linesOutside (s .lines)) (workersOutside (s .lines) (s .workers)) (or-left limits long (or-left (limits || long) past three)), or-right (limits || long) past three)
+
+-- A taken step finds rows of the lengths that the record's L asks.
+step-sizes : (b : Board) → Taken Step b → Sizes (b .state .lines) b
+unfolding standsAt causes
+step-sizes b t =
+    rows-sized (b .state .lines) b (record-within (b .state) (passed Step b t 3) .0) (or-left (badRows (b .state .lines) b) (badEntry b) (passed Step b t 4))
+
+-- A taken step of a recovery is at a cell of the board.
+step-cell : (b : Board) → b .state .phase ≡ Recovering → Taken Step b → b .state .place < cells (b .state .lines)
+unfolding standsAt causes
+step-cell b e t =
+    leb-false (cells (b .state .lines)) (b .state .place)
+    (subst (λ (p : Phase). placePast p (b .state) ≡ false) e (record-within (b .state) (passed Step b t 3) .1))
+
+-- ---- what it writes
+
+-- Past a cell a recovery that goes on is at the next one.
+past-place : (s : State) → pastCell s .phase ≡ Recovering → (pastCell s .place ≡ s .place) ⊎ (pastCell s .place ≡ s .place + 1)
+past-place s =
+    past-cases (λ (x : State). x .phase ≡ Recovering → (x .place ≡ s .place) ⊎ (x .place ≡ s .place + 1)) s
+    (λ h p. inr refl)
+    (λ h p. absurd (false≢true (ap isRecovering p)))
+
+-- A store in the record or the mark of the cell at the place.
+stores-cell : (b : Board) (f : Field) (v : ℕ) → ((i : ℕ) → (i ≡ fieldIndex (b .state .place) Field.Record → ⊥) → (i ≡ fieldIndex (b .state .place) Field.Mark → ⊥) → fieldIndex (b .state .place) f ≡ i → ⊥) → (s : State) → s .place ≡ b .state .place → OnlyCell (b .state .place) b (cached (withField (b .cache) (b .state .place) f v) s b)
+stores-cell b f v other s e =
+    record {
+      cache = λ i r m. getD-withField-other (b .cache) (b .state .place) f v i (other i r m);
+      cacheSize = length-withField (b .cache) (b .state .place) f v;
+      memory = λ i o. refl;
+      memorySize = refl;
+      entries = refl;
+      place = λ p. inl e;
+    }
+
+-- A step that stores nothing.
+stores-none : (b : Board) → OnlyCell (b .state .place) b (stated (pastCell (b .state)) b)
+stores-none b =
+    record { cache = λ i r m. refl; cacheSize = refl; memory = λ i o. refl; memorySize = refl; entries = refl; place = past-place (b .state) }
+
+-- The line of the cell at the place written back.
+stores-line : (b : Board) → Sizes (b .state .lines) b → b .state .place < cells (b .state .lines) → OnlyCell (b .state .place) b (backed (cellLine (b .state .place)) (pastCell (b .state)) b)
+stores-line b z h =
+    let l = cellLine (b .state .place) in
+    let inside = cell-in (b .memory) (b .state .place) (z .memory) h in
+    let eight = length-lineOf (b .cache) l (cell-in (b .cache) (b .state .place) (z .cache) h) in
+    record {
+      cache = λ i r m. refl;
+      cacheSize = refl;
+      memory = λ i o. getD-withLine-out (b .memory) l (lineOf (b .cache) l) i inside eight o;
+      memorySize = length-withLine (b .memory) l (lineOf (b .cache) l) inside eight;
+      entries = refl;
+      place = past-place (b .state);
+    }
+
+-- A recovery's step writes nothing but the cell at its place.
+pub recovery-writes : RecoveryWrites
+recovery-writes b e t =
+    subst (OnlyCell (b .state .place) b) (sym (taken-next Step b t))
+    (recovery-cases (OnlyCell (b .state .place) b) b e
+    (λ u g. stores-cell b Field.Record (fieldOf (b .cache) (b .state .place) Field.Backup) (λ i r m q. r (sym q)) (placed (b .state) (b .state .place) Unmark) refl)
+    (λ u g. stores-none b)
+    (λ u. stores-cell b Field.Mark 0 (λ i r m q. m (sym q)) (placed (b .state) (b .state .place) WriteLine) refl)
+    (λ u. stores-line b (step-sizes b t) (step-cell b e t)))

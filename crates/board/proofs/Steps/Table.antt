@@ -1,0 +1,82 @@
+-- The cause table read both ways, and a format's start in plain numbers.
+use Prim.Native.Nat.{ℕ, _≤_, _<_}
+use mathlib.Core.Path.{_≡_, refl, sym, ap, _∙_}
+use mathlib.Core.Logic.{_⊎_, inl, inr, ⊎-elim}
+use mathlib.Core.List.{List, [], _∷_, List·Memᴰ·head, List·Memᴰ·tail, List·Memᴰ·cases-cons, List·Memᴰ·not-nil}
+use mathlib.Core.Bool.{false, cond, _&&_}
+use lib.Dec.{leb, ltb}
+use borrow.Author.Tests.{le-leb, lt-ltb}
+use Rattle.board.specs.declared.Call.the-variants.{FormatStart}
+use Rattle.board.specs.Board.{cells, linesOutside, workersOutside}
+use Rattle.board.specs.Causes.{Cause, causes, firstStanding, cause}
+use Rattle.board.specs.Steps.{NoneStands, StandsFirst, TableBothWays, FormatStarts}
+use Rattle.board.proofs.Laws.Bools.{split, chosen, passedOver, or-none, and-both, not-on}
+use Rattle.board.proofs.Invariant.{Sizes}
+use Rattle.board.proofs.Laws.Taken.{Clear, first-clear, table-numbered, take, refused-next, rows-fine}
+
+-- ---- no row stands
+
+-- No row stands, read row by row.
+clear-none : (ks : List Cause) → Clear ks → NoneStands ks
+unfolding Clear
+clear-none [] c r m = absurd (List·Memᴰ·not-nil m)
+clear-none (k ∷ ks) c r m = ⊎-elim (λ e. ap (λ (x : Cause). x .stands) e ∙ c .0) (λ d. clear-none ks (c .1) r d) (List·Memᴰ·cases-cons m)
+
+-- The other way round.
+none-clear : (ks : List Cause) → NoneStands ks → Clear ks
+unfolding Clear
+none-clear [] n = tt
+none-clear (k ∷ ks) n = (n k (List·Memᴰ·head refl), none-clear ks (λ r m. n r (List·Memᴰ·tail m)))
+
+-- ---- the first row that stands
+
+-- Where no number is given but 0, no row stands; else the first row that stands has the number given.
+first-stands : (ks : List Cause) → Clear ks ⊎ StandsFirst (firstStanding ks) ks
+unfolding Clear firstStanding
+first-stands [] = inl tt
+first-stands (k ∷ ks) =
+    split (k .stands)
+    (λ on. inr (record { before = []; row = k; rest = ks; parts = refl; clear = λ r m. absurd (List·Memᴰ·not-nil m); stands = on; number = sym (chosen (k .stands) (k .number) (firstStanding ks) on) }))
+    (λ off. ⊎-elim (λ c. inl (off, c)) (λ f. inr (later off f)) (first-stands ks))
+  where
+    later : k .stands ≡ false → StandsFirst (firstStanding ks) ks → StandsFirst (cond (k .stands) (k .number) (firstStanding ks)) (k ∷ ks)
+    later off f =
+        record {
+          before = k ∷ f .before;
+          row = f .row;
+          rest = f .rest;
+          parts = ap (λ (xs : List Cause). k ∷ xs) (f .parts);
+          clear = λ r m. ⊎-elim (λ e. ap (λ (x : Cause). x .stands) e ∙ off) (f .clear r) (List·Memᴰ·cases-cons m);
+          stands = f .stands;
+          number = f .number ∙ sym (passedOver (k .stands) (k .number) (firstStanding ks) off);
+        }
+
+-- ---- the table
+
+-- A call is taken exactly when no row of its table stands, and else refused by the first that does.
+pub table-both-ways : TableBothWays
+unfolding cause
+table-both-ways k b =
+    record {
+      taken = (λ t. clear-none (causes k b) (first-clear (causes k b) (table-numbered k b) t), λ n. take k b (none-clear (causes k b) n));
+      refused = λ o. ⊎-elim (λ c. absurd (o (take k b c))) (λ f. f) (first-stands (causes k b));
+      kept = refused-next k b;
+    }
+
+-- ---- format's start
+
+-- L and W within the limits pass.
+limits-pass : (l w : ℕ) → 1 ≤ l → l ≤ 511 → 1 ≤ w → w ≤ 8 → w < cells l → (linesOutside l ≡ false) × (workersOutside l w ≡ false)
+limits-pass l w a b c d e = (
+  not-on (leb 1 l && leb l 511) (and-both (leb 1 l) (leb l 511) (le-leb 1 l a) (le-leb l 511 b)),
+  not-on (leb 1 w && leb w 8 && ltb w (cells l))
+      (and-both (leb 1 w && leb w 8) (ltb w (cells l)) (and-both (leb 1 w) (leb w 8) (le-leb 1 w c) (le-leb w 8 d)) (lt-ltb w (cells l) e)),
+)
+
+-- Within 01's limits and with rows that fit, a format starts on any board.
+pub format-starts : FormatStarts
+unfolding Clear causes
+format-starts l w b l1 l511 w1 w8 less memory cache entries =
+    let pass = limits-pass l w l1 l511 w1 w8 less in
+    let sizes : Sizes l b = record { limits = pass .0; memory = record { size = memory }; cache = record { size = cache }; entries = entries } in
+    take (FormatStart l w) b (or-none (linesOutside l) (workersOutside l w) (pass .0) (pass .1), (rows-fine l b sizes, tt))

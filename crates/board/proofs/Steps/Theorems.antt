@@ -1,0 +1,37 @@
+-- THE THEOREMS about single calls: every statement of `specs/Steps.antt`, proved.
+use Rattle.board.specs.Steps.{FormatWrites, RecoveryWrites, Releases, LastStore, TableBothWays, FormatStarts, FormatBegins, RecoveryBegins}
+use Rattle.board.proofs.Steps.Format
+use Rattle.board.proofs.Steps.Recovery
+use Rattle.board.proofs.Steps.Workers
+use Rattle.board.proofs.Steps.Table
+use Rattle.board.proofs.Steps.Starts
+
+-- 1. Each step of a format writes its own line in both rows, and no other.
+pub format-writes : FormatWrites
+format-writes = Format.format-writes
+
+-- 2. A recovery's step writes nothing but the cell at its place.
+pub recovery-writes : RecoveryWrites
+recovery-writes = Recovery.recovery-writes
+
+-- 3. A release frees all eight workers and stores nothing.
+pub releases : Releases
+releases = Workers.releases
+
+-- 4. The last store of an update leaves the worker waiting exactly at a restart point under a request.
+pub last-store : LastStore
+last-store = Workers.last-store
+
+-- 5. A call is taken exactly when no row of its table stands, and refused by the first that does; a format within the limits starts.
+pub table-both-ways : TableBothWays
+table-both-ways = Table.table-both-ways
+
+pub format-starts : FormatStarts
+format-starts = Table.format-starts
+
+-- 6. The two starts set every field; a format's changes no row, a recovery's copies memory to cache.
+pub format-begins : FormatBegins
+format-begins = Starts.format-begins
+
+pub recovery-begins : RecoveryBegins
+recovery-begins = Starts.recovery-begins

@@ -1,0 +1,31 @@
+-- Document 01, "Why a call is turned down": the cause table tried at every part of each of its sentences. For every call and every number that can turn it
+-- down there is a board where it does, with every later cause standing too where that can be; and boards where the call is just taken.
+pub mod Boards
+pub mod Starts
+pub mod Calls
+use mathlib.Core.List.{List, [], _∷_, flatten}
+use Rattle.board.specs.Bench.{Case, Each}
+use Rattle.board.specs.Refusals.Starts.{formatLimits, formatRows, formatTaken, recoveryRows, recoveryHeader, recoveryTaken, stepPhase, stepRecord, stepRecordInFormat, stepRecordInRecovery, stepRecordTaken, stepPlaceOfPhase, stepRows, stepEntry, stepEntryTaken, stepReady, stepReadyTaken, stepEpoch, stepEpochTaken}
+use Rattle.board.specs.Refusals.Calls.{updateFirst, updateWorker, updateCell, updateBusy, updateShared, updateTaken, restartFirst, restartWorker, restartBusy, restartShared, restartTaken, advanceFirst, advanceFull, advanceWorker, advanceIdle, advanceTaken, requestFirst, requestLast, requestTaken, backPhase, backRecord, backRows, backLine, backTaken, readFirst, readCell, readValue, readTaken}
+
+-- The groups of rows, by call in the order of 01.
+abbrev pub groups : List (List Case)
+groups =
+    formatLimits ∷ formatRows ∷ formatTaken
+    ∷ recoveryRows ∷ recoveryHeader ∷ recoveryTaken
+    ∷ stepPhase ∷ stepRecord ∷ stepRecordInFormat ∷ stepRecordInRecovery ∷ stepRecordTaken ∷ stepPlaceOfPhase ∷ stepRows ∷ stepEntry ∷ stepEntryTaken ∷ stepReady ∷ stepReadyTaken ∷ stepEpoch ∷ stepEpochTaken
+    ∷ updateFirst ∷ updateWorker ∷ updateCell ∷ updateBusy ∷ updateShared ∷ updateTaken
+    ∷ restartFirst ∷ restartWorker ∷ restartBusy ∷ restartShared ∷ restartTaken
+    ∷ advanceFirst ∷ advanceFull ∷ advanceWorker ∷ advanceIdle ∷ advanceTaken
+    ∷ requestFirst ∷ requestLast ∷ requestTaken
+    ∷ backPhase ∷ backRecord ∷ backRows ∷ backLine ∷ backTaken
+    ∷ readFirst ∷ readCell ∷ readValue ∷ readTaken
+    ∷ []
+
+-- The table.
+unfoldable pub refusals : List Case
+refusals = flatten groups
+
+-- Every row of the table holds.
+abbrev pub RefusalsHold : Type 0
+RefusalsHold = Each refusals

@@ -1,0 +1,156 @@
+-- What is claimed of single calls on any board, each claim as a type: what a step writes, and when a call is taken. `proofs/Steps/Theorems.antt` proves every one.
+use Prim.Native.Nat.{ℕ, suc, _+_, _*_, _/_, _≤_, _<_}
+use mathlib.Core.Path.{_≡_}
+use mathlib.Core.Logic.{_⊎_, _↔_}
+use mathlib.Core.List.{List, _∷_, _++_, List·Memᴰ}
+use mathlib.Core.Bool.{true, false}
+use lib.ListN.{length, getD, replicate}
+use Rattle.line.specs.declared.Field.{Field}
+use Rattle.line.specs.Line.{lineStart}
+use Rattle.line.specs.Cell.{cellLine, fieldIndex}
+use Rattle.board.specs.declared.Condition.the-variants.{Free, Waiting, Updating}
+use Rattle.board.specs.declared.Store.{Store}
+use Rattle.board.specs.declared.Phase.{Phase}
+use Rattle.board.specs.declared.Phase.the-variants.{Formatting, Recovering, Running}
+use Rattle.board.specs.declared.UndoStep.the-variants.{Restore}
+use Rattle.board.specs.declared.Call.{Call}
+use Rattle.board.specs.declared.Call.the-variants.{FormatStart, RecoveryStart, Step, Advance}
+use Rattle.board.specs.Board.{Board}
+use Rattle.board.specs.State.{conditionOf}
+use Rattle.board.specs.Causes.{Cause, causes, cause}
+use Rattle.board.specs.Next.{next, Taken}
+use Rattle.board.specs.Statements.{stepsFrom}
+
+-- ---- 1. format
+
+-- Between two rows only one line differs, and it has the given words.
+pub record OnlyLine (line : ℕ) (given row row′ : List ℕ) : Type 0 where
+  pub others : (i : ℕ) → (i / 8 ≡ line → ⊥) → getD row′ i 0 ≡ getD row i 0
+  pub size : length row′ ≡ length row
+  pub words : (k : ℕ) → k < 8 → getD row′ (lineStart line + k) 0 ≡ getD given k 0
+
+-- "in both": memory and cache differ in that line alone, and the list not at all.
+pub record OnlyLineInBoth (line : ℕ) (given : List ℕ) (b b′ : Board) : Type 0 where
+  pub memory : OnlyLine line given (b .memory) (b′ .memory)
+  pub cache : OnlyLine line given (b .cache) (b′ .cache)
+  pub entries : b′ .entries ≡ b .entries
+
+-- The board `i` steps after a format's start.
+abbrev pub formatAfter : ℕ → ℕ → Board → ℕ → Board
+formatAfter l w b i = stepsFrom i (next (FormatStart l w) b)
+
+-- "Then L+2 steps: memory and cache line 0 become zeros; each of lines 1 to L, rising, becomes zeros in both; line 0 becomes epoch 1, L, W and zeros in both", each step writing its line alone.
+abbrev pub FormatWrites : Type 0
+FormatWrites =
+    (l w : ℕ) (b : Board) → Taken (FormatStart l w) b →
+    ((i : ℕ) → i ≤ l → OnlyLineInBoth i (replicate 8 0) (formatAfter l w b i) (formatAfter l w b (suc i)))
+    × OnlyLineInBoth 0 (1 ∷ l ∷ w ∷ replicate 5 0) (formatAfter l w b (l + 1)) (formatAfter l w b (suc (l + 1)))
+
+-- ---- 2. recovery
+
+-- Nothing is written but the record and the mark of cell `c` in the cache and that cell's line in memory; a recovery that goes on is at that cell or at the next.
+pub record OnlyCell (c : ℕ) (b b′ : Board) : Type 0 where
+  pub cache : (i : ℕ) → (i ≡ fieldIndex c Field.Record → ⊥) → (i ≡ fieldIndex c Field.Mark → ⊥) → getD (b′ .cache) i 0 ≡ getD (b .cache) i 0
+  pub cacheSize : length (b′ .cache) ≡ length (b .cache)
+  pub memory : (i : ℕ) → (i / 8 ≡ cellLine c → ⊥) → getD (b′ .memory) i 0 ≡ getD (b .memory) i 0
+  pub memorySize : length (b′ .memory) ≡ length (b .memory)
+  pub entries : b′ .entries ≡ b .entries
+  pub place : b′ .state .phase ≡ Recovering → (b′ .state .place ≡ c) ⊎ (b′ .state .place ≡ c + 1)
+
+-- "cells from 0 up: a cell whose mark equals the epoch takes three steps (record := backup; mark := 0; its line written back), any other one step that stores nothing": no step goes beyond the cell at its place.
+abbrev pub RecoveryWrites : Type 0
+RecoveryWrites = (b : Board) → b .state .phase ≡ Recovering → Taken Step b → OnlyCell (b .state .place) b (next Step b)
+
+-- ---- 3. release
+
+-- All eight workers are free, the list is empty, no request stands, the place is 0 with a recovery's first step; phase, L, W and the rows are as they were.
+pub record Released (b b′ : Board) : Type 0 where
+  pub eight : length (b′ .state .worker) ≡ 8
+  pub free : (w : ℕ) → conditionOf (b′ .state) w ≡ Free
+  pub empty : b′ .state .listed ≡ 0
+  pub request : b′ .state .requested ≡ false
+  pub place : b′ .state .place ≡ 0
+  pub undo : b′ .state .undo ≡ Restore
+  pub phase : b′ .state .phase ≡ b .state .phase
+  pub lines : b′ .state .lines ≡ b .state .lines
+  pub workers : b′ .state .workers ≡ b .state .workers
+  pub memory : b′ .memory ≡ b .memory
+  pub cache : b′ .cache ≡ b .cache
+  pub entries : b′ .entries ≡ b .entries
+
+-- "release, with all eight workers free, list empty, request gone": the last of a checkpoint's n+3 steps.
+abbrev pub Releases : Type 0
+Releases = (b : Board) → b .state .phase ≡ Running → Taken Step b → b .state .place ≡ b .state .listed + 2 → Released b (next Step b)
+
+-- ---- 4. the last store of an update
+
+-- The update of cell `c` is a restart point, and a checkpoint is requested.
+abbrev pub MustWait : ℕ → Board → Type 0
+MustWait c b = (c < b .state .workers) × (b .state .requested ≡ true)
+
+-- Worker `w` waits exactly where it must, and is free elsewhere.
+pub record Ended (w c : ℕ) (b b′ : Board) : Type 0 where
+  pub waits : (conditionOf (b′ .state) w ≡ Waiting) ↔ MustWait c b
+  pub free : (MustWait c b → ⊥) → conditionOf (b′ .state) w ≡ Free
+
+-- "At the last store the worker becomes waiting if a checkpoint is requested by then, else free": a restart point's alone, so a data update's worker is free.
+abbrev pub LastStore : Type 0
+LastStore = (w c v : ℕ) (b : Board) → conditionOf (b .state) w ≡ Updating Store.Record c v → Taken (Advance w) b → Ended w c b (next (Advance w) b)
+
+-- ---- 5. the table read both ways
+
+-- No row of a table stands.
+abbrev pub NoneStands : List Cause → Type 0
+NoneStands rows = (r : Cause) → List·Memᴰ r rows → r .stands ≡ false
+
+-- A row of number `n` stands, and none before it.
+pub record StandsFirst (n : ℕ) (rows : List Cause) : Type 0 where
+  pub before : List Cause
+  pub row : Cause
+  pub rest : List Cause
+  pub parts : rows ≡ before ++ (row ∷ rest)
+  pub clear : NoneStands before
+  pub stands : row .stands ≡ true
+  pub number : row .number ≡ n
+
+-- A call is taken exactly when no row of its table stands; it is refused by the number of the first that does, and then all is as it was.
+pub record ReadBothWays (k : Call) (b : Board) : Type 0 where
+  pub taken : Taken k b ↔ NoneStands (causes k b)
+  pub refused : (Taken k b → ⊥) → StandsFirst (cause k b) (causes k b)
+  pub kept : (Taken k b → ⊥) → next k b ≡ b
+
+-- "Checked in rising order of number. A taken call returns 0."
+abbrev pub TableBothWays : Type 0
+TableBothWays = (k : Call) (b : Board) → ReadBothWays k b
+
+-- "L, the cell lines, is 1 to 511", "W, the workers, is 1 to 8, and W < 2L", "8×(L+1) words", "at least 2L of them": with these a format starts on any board.
+abbrev pub FormatStarts : Type 0
+FormatStarts =
+    (l w : ℕ) (b : Board) → 1 ≤ l → l ≤ 511 → 1 ≤ w → w ≤ 8 → w < 2 * l →
+    length (b .memory) ≡ 8 * (l + 1) → length (b .cache) ≡ 8 * (l + 1) → 2 * l ≤ length (b .entries) → Taken (FormatStart l w) b
+
+-- ---- 6. the two starts
+
+-- "Each of the two starts sets every field of the state record": the phase, L and W given; memory and the list are as they were, and the cache is the one given.
+pub record Begun (phase : Phase) (l w : ℕ) (cache : List ℕ) (b b′ : Board) : Type 0 where
+  pub inPhase : b′ .state .phase ≡ phase
+  pub lines : b′ .state .lines ≡ l
+  pub workers : b′ .state .workers ≡ w
+  pub empty : b′ .state .listed ≡ 0
+  pub place : b′ .state .place ≡ 0
+  pub undo : b′ .state .undo ≡ Restore
+  pub request : b′ .state .requested ≡ false
+  pub eight : length (b′ .state .worker) ≡ 8
+  pub free : (i : ℕ) → conditionOf (b′ .state) i ≡ Free
+  pub memory : b′ .memory ≡ b .memory
+  pub current : b′ .cache ≡ cache
+  pub entries : b′ .entries ≡ b .entries
+
+-- "Format. The start changes no row."
+abbrev pub FormatBegins : Type 0
+FormatBegins = (l w : ℕ) (b : Board) → Taken (FormatStart l w) b → Begun Formatting l w (b .cache) b (next (FormatStart l w) b)
+
+-- "Recovery. The start copies memory to cache", with L and W "from the header", words 1 and 2.
+abbrev pub RecoveryBegins : Type 0
+RecoveryBegins =
+    (b : Board) → Taken RecoveryStart b → Begun Recovering (getD (b .memory) 1 0) (getD (b .memory) 2 0) (b .memory) b (next RecoveryStart b)
