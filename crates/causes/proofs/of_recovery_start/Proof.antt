@@ -1,7 +1,7 @@
 -- Each cause that is looked at is the table's, in the table's order.
 use Rattle.board.specs.Causes.{cause, causes, firstStanding}
-use Rattle.causes.proofs.calls.of_recovery_start.Statement.{statement}
-use Rattle.causes.proofs.calls.of_recovery_start.Tie as tie
+use Rattle.causes.proofs.of_recovery_start.Statement.{statement}
+use Rattle.causes.proofs.of_recovery_start.Tie as tie
 
 returns : tie.Need-returns
 unfolding cause causes firstStanding

@@ -1,8 +1,8 @@
 -- Each cause that is looked at is the table's, in the table's order.
 use mathlib.Core.List.{[]}
 use Rattle.board.specs.Causes.{cause, causes, firstStanding}
-use Rattle.causes.proofs.calls.of_advance.Statement.{statement}
-use Rattle.causes.proofs.calls.of_advance.Tie as tie
+use Rattle.causes.proofs.of_advance.Statement.{statement}
+use Rattle.causes.proofs.of_advance.Tie as tie
 
 returns : tie.Need-returns
 unfolding cause causes firstStanding
