@@ -1,13 +1,16 @@
--- `engine::calls::advance` meets its contract: refused with all as it was, or taken with its effect.
+-- `engine::advance` meets its contract: refused with all as it was, or taken with its effect.
 use borrow.Author.Needs.{needs}
+use Rattle.board.specs.Next.{valueOf}
 use Rattle.engine.proofs.Outcome.{refused, done}
-use Rattle.engine.proofs.calls.advance.Statement.{statement}
-use Rattle.engine.proofs.calls.advance.Tie as tie
+use Rattle.engine.proofs.advance.Statement.{statement}
+use Rattle.engine.proofs.advance.Tie as tie
 
 returns : tie.Need-returns
+unfolding valueOf
 returns c = search (needs, refused)
 
 returns-2 : tie.Need-returns-2
+unfolding valueOf
 returns-2 c = search (needs, done)
 
 pub advance-spec : {M : Type 1} → statement M
