@@ -27,15 +27,15 @@ fn checksum(round: Round, plan: Plan, rounds: u32) -> u64
     let mut memory = [0u64; 4096];
     let mut cache = [0u64; 4096];
     let mut entries = [0u16; 1022];
-    let lines = plan.lines as usize;
-    let words = 8 * (lines + 1);
+    let words = board::row_words(plan.lines);
+    let most = board::list_words(plan.lines);
     workloads::run(
         round,
         plan,
         rounds,
         &mut memory[..words],
         &mut cache[..words],
-        &mut entries[..2 * lines],
+        &mut entries[..most],
     )
 }
 
@@ -52,7 +52,8 @@ fn main() {
     if lines > 511 || workers < 1 || workers > 8 || rounds > 0xffff_ffff || seed == 0 {
         return;
     }
-    if workers >= 2 * lines || n < workers || n > 2 * lines {
+    let cells = board::cells(lines as u16);
+    if workers >= cells || n < workers || n > cells {
         return;
     }
     let plan = Plan {

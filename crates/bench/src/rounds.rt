@@ -79,6 +79,7 @@ pub fn calls_in(round: Round, plan: Plan) -> u32
     requires { ⌜ plan .workers ≤ plan .n ⌝ }
 {
     let lines = plan.lines as u32;
+    let cells = board::cells(plan.lines) as u32;
     let workers = plan.workers as u32;
     let n = plan.n as u32;
     match round {
@@ -88,9 +89,9 @@ pub fn calls_in(round: Round, plan: Plan) -> u32
         Round::Update => 4,
         Round::Again => 2,
         Round::Checkpoint => n + 3,
-        Round::Recovery => 1 + 2 * lines,
+        Round::Recovery => 1 + cells,
         Round::WriteBack => 1,
-        Round::Reads => 2 * lines,
+        Round::Reads => cells,
     }
 }
 
@@ -142,7 +143,7 @@ pub fn call_at(round: Round, plan: Plan, k: u64, drawn: Drawn) -> Call {
         Round::Checkpoint => Call::Step,
         Round::Recovery => step_call(k, Call::RecoveryStart),
         Round::WriteBack => Call::WriteBack {
-            line: 1 + drawn.cell / 2,
+            line: line::cell_line(drawn.cell as usize) as u64,
         },
         Round::Reads => Call::Read { cell: k },
     }

@@ -11,7 +11,6 @@ use crate::rounds::Round;
 use crate::rounds::call_at;
 use crate::rounds::calls_in;
 use crate::rounds::draw;
-use crate::setup;
 use board::State;
 use line::Field;
 
@@ -89,7 +88,7 @@ fn listed(
     match round {
         Round::Again => {
             let mut full = plan;
-            full.n = 2 * plan.lines;
+            full.n = board::cells(plan.lines) as u16;
             let filled = play(Round::Fill, full, 1, fresh, memory, cache, entries);
             filled.state
         }
@@ -113,7 +112,15 @@ fn prepared(
 ) -> State
     requires { ⌜ Allowed plan × (length (now cache) ≡ rowWords (plan .lines)) ⌝ }
 {
-    let formatted = play(Round::Format, plan, 1, setup::off(), memory, cache, entries);
+    let formatted = play(
+        Round::Format,
+        plan,
+        1,
+        engine::off(),
+        memory,
+        cache,
+        entries,
+    );
     let fresh = formatted.state;
     listed(round, plan, fresh, memory, cache, entries)
 }

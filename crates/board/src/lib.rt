@@ -1,6 +1,6 @@
 // The declared types of the board: its state record and the calls that a host can make (document 01).
 ghost use mathlib.Core.Path.{_≡_};
-ghost use Rattle.board.specs.Board.{cells};
+ghost use Rattle.board.specs.Board.{cells, rowWords, listWords};
 
 // What the board is doing.
 pub enum Phase {
@@ -67,6 +67,20 @@ pub fn cells(lines: u16) -> u64
     ensures { λ r. ⌜ r ≡ cells lines ⌝ }
 {
     2 * (lines as u64)
+}
+
+// "two rows of words of equal length, 8×(L+1) words".
+pub fn row_words(lines: u16) -> usize
+    ensures { λ r. ⌜ r ≡ rowWords lines ⌝ }
+{
+    8 * (lines as usize + 1)
+}
+
+// "The list is a third lent row, at least 2L of them".
+pub fn list_words(lines: u16) -> usize
+    ensures { λ r. ⌜ r ≡ listWords lines ⌝ }
+{
+    cells(lines) as usize
 }
 
 // The same condition, built anew field by field. A record is copied whole only in memory; a worker whose fields are

@@ -1,14 +1,162 @@
-// Why a call is turned down: for each call the number of its first cause.
-mod calls;
+// Why a call is turned down: for each call the number of its first cause, 0 where it is taken. Document 01's table, with a
+// field for each row that the call is tested by.
 pub mod order;
 
-pub use calls::of_advance;
-pub use calls::of_format_start;
-pub use calls::of_read;
-pub use calls::of_recovery_start;
-pub use calls::of_request;
-pub use calls::of_restart_point;
-pub use calls::of_step;
-pub use calls::of_update;
-pub use calls::of_write_back;
+use board::State;
+use checks::limits;
+use checks::phases;
+use checks::record;
+use checks::rows;
+use order::Causes;
+use order::NONE;
 pub use order::TAKEN;
+use order::first;
+ghost use mathlib.Core.Path.{_≡_};
+ghost use Prim.Native.Nat.{ℕ};
+ghost use Rattle.board.specs.declared.Call.{Call};
+ghost use Rattle.board.specs.Causes.{cause};
+ghost use Rattle.board.specs.Next.{lent};
+
+// Format's start looks at its own L and W, and at the rows for that L.
+pub fn of_format_start(
+    state: State,
+    memory: &[u64],
+    cache: &[u64],
+    entries: &[u16],
+    lines: u64,
+    workers: u64,
+) -> u8
+    ensures { λ r. ⌜ r ≡ cause (Call.FormatStart lines workers)
+        (lent state (now (memory .entry)) (now (cache .entry)) (now (entries .entry))) ⌝ }
+{
+    first(Causes {
+        limits: limits::outside(lines, workers),
+        rows: rows::bad_rows(limits::capped(lines), memory, cache, entries),
+        ..NONE
+    })
+}
+
+// Recovery's start looks at the rows and at memory's header.
+pub fn of_recovery_start(state: State, memory: &[u64], cache: &[u64], entries: &[u16]) -> u8
+    ensures { λ r. ⌜ r ≡ cause Call.RecoveryStart
+        (lent state (now (memory .entry)) (now (cache .entry)) (now (entries .entry))) ⌝ }
+{
+    first(Causes {
+        rows: rows::bad_recovery_rows(memory, cache, entries),
+        header: rows::bad_header(memory),
+        ..NONE
+    })
+}
+
+pub fn of_step(state: State, memory: &[u64], cache: &[u64], entries: &[u16]) -> u8
+    ensures { λ r. ⌜ r ≡ cause Call.Step
+        (lent state (now (memory .entry)) (now (cache .entry)) (now (entries .entry))) ⌝ }
+{
+    first(Causes {
+        phase: phases::not_on(state),
+        state: record::bad_record(state),
+        rows: rows::bad_rows(state.lines, memory, cache, entries) | rows::bad_entry(state, entries),
+        checkpoint: record::not_ready(state),
+        epoch: rows::stores_spent_epoch(state, cache),
+        ..NONE
+    })
+}
+
+pub fn of_update(
+    state: State,
+    memory: &[u64],
+    cache: &[u64],
+    entries: &[u16],
+    worker: u64,
+    cell: u64,
+) -> u8
+    ensures { λ r. ⌜ ((v : ℕ) → r ≡ cause (Call.Update worker cell v)
+        (lent state (now (memory .entry)) (now (cache .entry)) (now (entries .entry)))) ⌝ }
+{
+    first(Causes {
+        phase: phases::not_running(state),
+        state: record::bad_record(state),
+        rows: rows::bad_rows(state.lines, memory, cache, entries),
+        worker: record::no_worker(state, worker),
+        address: record::no_data_cell(state, cell),
+        condition: record::busy(state, worker),
+        conflict: record::others_update(state, worker, cell),
+        ..NONE
+    })
+}
+
+// A restart point is an update of the worker's own cell, which is no data cell.
+pub fn of_restart_point(
+    state: State,
+    memory: &[u64],
+    cache: &[u64],
+    entries: &[u16],
+    worker: u64,
+) -> u8
+    ensures { λ r. ⌜ ((v : ℕ) → r ≡ cause (Call.RestartPoint worker v)
+        (lent state (now (memory .entry)) (now (cache .entry)) (now (entries .entry)))) ⌝ }
+{
+    first(Causes {
+        phase: phases::not_running(state),
+        state: record::bad_record(state),
+        rows: rows::bad_rows(state.lines, memory, cache, entries),
+        worker: record::no_worker(state, worker),
+        condition: record::busy(state, worker),
+        conflict: record::others_update(state, worker, worker),
+        ..NONE
+    })
+}
+
+pub fn of_advance(state: State, memory: &[u64], cache: &[u64], entries: &[u16], worker: u64) -> u8
+    ensures { λ r. ⌜ r ≡ cause (Call.Advance worker)
+        (lent state (now (memory .entry)) (now (cache .entry)) (now (entries .entry))) ⌝ }
+{
+    first(Causes {
+        phase: phases::not_running(state),
+        state: record::bad_record(state) | record::list_full(state, worker),
+        rows: rows::bad_rows(state.lines, memory, cache, entries),
+        worker: record::no_worker(state, worker),
+        condition: record::idle(state, worker),
+        ..NONE
+    })
+}
+
+pub fn of_request(state: State, memory: &[u64], cache: &[u64], entries: &[u16]) -> u8
+    ensures { λ r. ⌜ r ≡ cause Call.Request
+        (lent state (now (memory .entry)) (now (cache .entry)) (now (entries .entry))) ⌝ }
+{
+    first(Causes {
+        phase: phases::not_running(state),
+        state: record::bad_record(state),
+        rows: rows::bad_rows(state.lines, memory, cache, entries),
+        checkpoint: state.requested,
+        epoch: rows::epoch_spent(cache),
+        ..NONE
+    })
+}
+
+pub fn of_write_back(state: State, memory: &[u64], cache: &[u64], entries: &[u16], line: u64) -> u8
+    ensures { λ r. ⌜ r ≡ cause (Call.WriteBack line)
+        (lent state (now (memory .entry)) (now (cache .entry)) (now (entries .entry))) ⌝ }
+{
+    first(Causes {
+        phase: phases::not_recovering_or_running(state),
+        state: record::bad_record(state),
+        rows: rows::bad_rows(state.lines, memory, cache, entries),
+        address: record::no_line(state, line),
+        ..NONE
+    })
+}
+
+pub fn of_read(state: State, memory: &[u64], cache: &[u64], entries: &[u16], cell: u64) -> u8
+    ensures { λ r. ⌜ r ≡ cause (Call.Read cell)
+        (lent state (now (memory .entry)) (now (cache .entry)) (now (entries .entry))) ⌝ }
+{
+    first(Causes {
+        phase: phases::not_running(state),
+        state: record::bad_record(state),
+        rows: rows::bad_rows(state.lines, memory, cache, entries),
+        address: record::no_cell(state, cell),
+        ..NONE
+    })
+}

@@ -4,7 +4,9 @@ use mathlib.Core.Path.{_≡_, refl, sym, ap, subst, _∙_}
 use mathlib.Core.Bool.{Bool, false, not, _&&_, _||_}
 use native.Mathlib.Omega.{arith}
 use native.Mathlib.Decide.{decLe}
+use mathlib.Core.List.{List, map}
 use lib.Dec.{ltb, eqb}
+use lib.ListN.{length, length-map}
 use borrow.Author.Tests.{le-ltb, lt-ltb}
 use Rattle.board.specs.declared.State.{State}
 use Rattle.board.specs.State.{anyUnder, conditionOf, updates, othersUpdate}
@@ -12,6 +14,10 @@ use Rattle.board.proofs.Laws.Bools.{and-off, or-none}
 use Rattle.checks.specs.declared.workers.Sought.{Sought}
 use Rattle.checks.specs.declared.workers.Sought.the-variants.{UpdateOf}
 use Rattle.checks.specs.Sought.{soughtIn, soughtAt}
+
+-- What is known of an array of structs speaks of the list of what they are made of, which is as long.
+pub length-unmade : (A B : Type 0) (f : A → B) (xs : List A) (n : ℕ) → length (map f xs) ≡ n → length xs ≡ n
+length-unmade A B f xs n e = sym (length-map xs f) ∙ e
 
 -- A test and one that fails.
 or-off : (a b : Bool) → b ≡ false → a || b ≡ a

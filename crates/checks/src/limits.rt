@@ -1,6 +1,6 @@
 // The limits of L and W (document 01, "Lines and cells").
 ghost use mathlib.Core.Path.{_≡_};
-ghost use Prim.Native.Nat.{_-_};
+ghost use Prim.Native.Nat.{_-_, min};
 ghost use Rattle.board.specs.Board.{linesOutside, workersOutside, outside};
 
 // "L, the cell lines, is 1 to 511"
@@ -22,6 +22,13 @@ pub fn outside(lines: u64, workers: u64) -> bool
     ensures { λ r. ⌜ r ≡ outside lines workers ⌝ }
 {
     lines_outside(lines) | workers_outside(lines, workers)
+}
+
+// A lent L as the state record can hold it: one past what fits is cut, and stays outside the limits.
+pub fn capped(lines: u64) -> u16
+    ensures { λ r. ⌜ r ≡ min lines 65535 ⌝ }
+{
+    if lines < 65535 { lines as u16 } else { 65535 }
 }
 
 // A difference of natural numbers: 0 where it would be less.

@@ -14,13 +14,6 @@ ghost use Rattle.board.specs.Next.{lent};
 // "2^64 − 1"
 const LAST_EPOCH: u64 = 0xffff_ffff_ffff_ffff;
 
-// A word of a row, 0 past its end.
-pub fn word(row: &[u64], k: usize) -> u64
-    ensures { λ r. ⌜ r ≡ getD (now (row .entry)) k 0 ⌝ }
-{
-    if k < row.len() { row[k] } else { 0 }
-}
-
 // An entry of the list, 0 past its end.
 pub fn entry(entries: &[u16], k: usize) -> u16
     ensures { λ r. ⌜ r ≡ getD (now (entries .entry)) k 0 ⌝ }
@@ -30,12 +23,11 @@ pub fn entry(entries: &[u16], k: usize) -> u16
 
 // "cache or memory not 8×(L+1) words, list under 2L"
 pub fn bad_rows(lines: u16, memory: &[u64], cache: &[u64], entries: &[u16]) -> bool
-    ensures { λ r. ⌜ ((s : State) → r ≡ badRows lines (lent s (now (memory .entry)) (now (cache .entry)) (now (entries .entry)))) ⌝ }
+    ensures { λ r. ⌜ ((s : State) →
+        r ≡ badRows lines (lent s (now (memory .entry)) (now (cache .entry)) (now (entries .entry)))) ⌝ }
 {
-    let words = 8 * (lines as usize + 1);
-    !(cache.len() == words)
-        | !(memory.len() == words)
-        | ((entries.len() as u64) < board::cells(lines))
+    let words = board::row_words(lines);
+    !(cache.len() == words) | !(memory.len() == words) | (entries.len() < board::list_words(lines))
 }
 
 // "a list entry that this step uses is 2L or more"
@@ -50,7 +42,8 @@ pub fn bad_entry(state: State, entries: &[u16]) -> bool
 
 // "at recovery's start: memory not a multiple of 8 in 16 to 4,096 words, cache of another length, list under (words div 4) − 2"
 pub fn bad_recovery_rows(memory: &[u64], cache: &[u64], entries: &[u16]) -> bool
-    ensures { λ r. ⌜ ((s : State) → r ≡ badRecoveryRows (lent s (now (memory .entry)) (now (cache .entry)) (now (entries .entry)))) ⌝ }
+    ensures { λ r. ⌜ ((s : State) →
+        r ≡ badRecoveryRows (lent s (now (memory .entry)) (now (cache .entry)) (now (entries .entry)))) ⌝ }
 {
     let words = memory.len();
     !((words % 8 == 0) & (16 <= words) & (words <= 4096))
@@ -62,21 +55,21 @@ pub fn bad_recovery_rows(memory: &[u64], cache: &[u64], entries: &[u16]) -> bool
 fn rest_not_zero(row: &[u64]) -> bool
     ensures { λ r. ⌜ r ≡ restNotZero (now (row .entry)) ⌝ }
 {
-    !((word(row, 3) == 0)
-        & (word(row, 4) == 0)
-        & (word(row, 5) == 0)
-        & (word(row, 6) == 0)
-        & (word(row, 7) == 0))
+    !((line::header_word(row, 3) == 0)
+        & (line::header_word(row, 4) == 0)
+        & (line::header_word(row, 5) == 0)
+        & (line::header_word(row, 6) == 0)
+        & (line::header_word(row, 7) == 0))
 }
 
 // "epoch 0, L not (words div 8) − 1, W outside the limits, or words 3 to 7 not all zero"
 pub fn bad_header(row: &[u64]) -> bool
     ensures { λ r. ⌜ r ≡ badHeader (now (row .entry)) ⌝ }
 {
-    let lines = word(row, 1);
-    (word(row, 0) == 0)
+    let lines = line::header_word(row, 1);
+    (line::header_word(row, 0) == 0)
         | !(lines == limits::less(row.len() / 8, 1) as u64)
-        | limits::workers_outside(lines, word(row, 2))
+        | limits::workers_outside(lines, line::header_word(row, 2))
         | rest_not_zero(row)
 }
 
@@ -84,7 +77,7 @@ pub fn bad_header(row: &[u64]) -> bool
 pub fn epoch_spent(cache: &[u64]) -> bool
     ensures { λ r. ⌜ ((s : State) (m e : List ℕ) → r ≡ epochSpent (lent s m (now (cache .entry)) e)) ⌝ }
 {
-    word(cache, 0) == LAST_EPOCH
+    line::header_word(cache, 0) == LAST_EPOCH
 }
 
 // "or at the epoch's store"

@@ -50,11 +50,7 @@ pub fn is_free(condition: Condition) -> bool
     match condition {
         Condition::Free => true,
         Condition::Waiting => false,
-        Condition::Updating {
-            cell: _,
-            value: _,
-            next: _,
-        } => false,
+        Condition::Updating { .. } => false,
     }
 }
 
@@ -64,11 +60,7 @@ pub fn is_waiting(condition: Condition) -> bool
     match condition {
         Condition::Free => false,
         Condition::Waiting => true,
-        Condition::Updating {
-            cell: _,
-            value: _,
-            next: _,
-        } => false,
+        Condition::Updating { .. } => false,
     }
 }
 
@@ -78,11 +70,7 @@ pub fn is_updating(condition: Condition) -> bool
     match condition {
         Condition::Free => false,
         Condition::Waiting => false,
-        Condition::Updating {
-            cell: _,
-            value: _,
-            next: _,
-        } => true,
+        Condition::Updating { .. } => true,
     }
 }
 
@@ -103,11 +91,7 @@ pub fn must_list(condition: Condition) -> bool
     match condition {
         Condition::Free => false,
         Condition::Waiting => false,
-        Condition::Updating {
-            cell: _,
-            value: _,
-            next,
-        } => is_mark_store(next),
+        Condition::Updating { next, .. } => is_mark_store(next),
     }
 }
 
@@ -118,11 +102,7 @@ fn updates_from(condition: Condition, cells: u64) -> bool
     match condition {
         Condition::Free => false,
         Condition::Waiting => false,
-        Condition::Updating {
-            cell,
-            value: _,
-            next: _,
-        } => cells <= cell as u64,
+        Condition::Updating { cell, .. } => cells <= cell as u64,
     }
 }
 
@@ -133,11 +113,7 @@ fn updates_cell(condition: Condition, sought: u64) -> bool
     match condition {
         Condition::Free => false,
         Condition::Waiting => false,
-        Condition::Updating {
-            cell,
-            value: _,
-            next: _,
-        } => sought == cell as u64,
+        Condition::Updating { cell, .. } => sought == cell as u64,
     }
 }
 

@@ -19,7 +19,7 @@ use Rattle.board.specs.declared.Condition.{Condition}
 use Rattle.board.specs.declared.Condition.the-variants.{Updating}
 use Rattle.board.specs.declared.Phase.the-variants.{Recovering}
 use Rattle.board.specs.Board.{Board, cells, headerWords, zeroWords, epochOf, linesOf, workersOf}
-use Rattle.board.specs.State.{started, placed, opened, released, conditioned}
+use Rattle.board.specs.State.{started, placed, opened, released, conditioned, relisted}
 use Rattle.board.specs.Effects.{listedLine, Act, writeLine, storeEpoch, writeHeader, release, actAt, performAct, formatStep, logged, pastCell, recoveryStep, firstStore, noted, afterLast, advance}
 use Rattle.board.specs.Next.{lent}
 use Rattle.board.proofs.Laws.Bools.{chosen, passedOver}
@@ -96,23 +96,23 @@ undo-told s b p e = e ∙ ap (λ (x : UndoStep). recoveryStep x s b) (sym p)
 
 module _ (s : State) {s′ : State} (m c es : List ℕ) (w cell v : ℕ) where
   -- "The start notes it."
-  pub notes : {next : Store} → next ≡ firstStore c cell → s′ ≡ conditioned s w (Updating next cell v) (s .listed) → lent s′ m c es ≡ noted w cell v (lent s m c es)
-  notes p q = same-board (q ∙ ap (λ (x : Store). conditioned s w (Updating x cell v) (s .listed)) p) refl refl refl
+  pub notes : {next : Store} → next ≡ firstStore c cell → s′ ≡ conditioned s w (Updating next cell v) → lent s′ m c es ≡ noted w cell v (lent s m c es)
+  notes p q = same-board (q ∙ ap (λ (x : Store). conditioned s w (Updating x cell v)) p) refl refl refl
 
   -- "backup := record".
-  pub backs-up : {c′ : List ℕ} {old : ℕ} → old ≡ fieldOf c cell Field.Record → c′ ≡ withField c cell Field.Backup old → s′ ≡ conditioned s w (Updating Mark cell v) (s .listed) → lent s′ m c′ es ≡ advance Backup w cell v s (lent s m c es)
+  pub backs-up : {c′ : List ℕ} {old : ℕ} → old ≡ fieldOf c cell Field.Record → c′ ≡ withField c cell Field.Backup old → s′ ≡ conditioned s w (Updating Mark cell v) → lent s′ m c′ es ≡ advance Backup w cell v s (lent s m c es)
   unfolding advance
   backs-up f p q = same-board q refl (p ∙ ap (withField c cell Field.Backup) f) refl
 
   -- "mark := epoch, and the cell is added to the list".
-  pub marks : {c′ : List ℕ} {epoch : ℕ} {es′ : List ℕ} → epoch ≡ epochOf c → c′ ≡ withField c cell Field.Mark epoch → es′ ≡ set es (s .listed) cell → s′ ≡ conditioned s w (Updating Record cell v) (s .listed + 1) → lent s′ m c′ es′ ≡ advance Mark w cell v s (lent s m c es)
+  pub marks : {c′ : List ℕ} {epoch : ℕ} {es′ : List ℕ} {s″ : State} → epoch ≡ epochOf c → c′ ≡ withField c cell Field.Mark epoch → es′ ≡ set es (s .listed) cell → s″ ≡ conditioned s w (Updating Record cell v) → s′ ≡ relisted s″ (s .listed + 1) → lent s′ m c′ es′ ≡ advance Mark w cell v s (lent s m c es)
   unfolding advance
-  marks f p q r = same-board r refl (p ∙ ap (withField c cell Field.Mark) f) q
+  marks f p q r t = same-board (t ∙ ap (λ (x : State). relisted x (s .listed + 1)) r) refl (p ∙ ap (withField c cell Field.Mark) f) q
 
   -- "record := value".
-  pub records : {c′ : List ℕ} {k : Condition} → k ≡ afterLast s cell → c′ ≡ withField c cell Field.Record v → s′ ≡ conditioned s w k (s .listed) → lent s′ m c′ es ≡ advance Record w cell v s (lent s m c es)
+  pub records : {c′ : List ℕ} {k : Condition} → k ≡ afterLast s cell → c′ ≡ withField c cell Field.Record v → s′ ≡ conditioned s w k → lent s′ m c′ es ≡ advance Record w cell v s (lent s m c es)
   unfolding advance
-  records f p q = same-board (q ∙ ap (λ (k : Condition). conditioned s w k (s .listed)) f) refl p refl
+  records f p q = same-board (q ∙ ap (λ (k : Condition). conditioned s w k) f) refl p refl
 
 -- The store that is next.
 pub store-told : {u u′ : Store} (w cell v : ℕ) (s : State) (b : Board) {b′ : Board} → u ≡ u′ → b′ ≡ advance u′ w cell v s b → b′ ≡ advance u w cell v s b

@@ -1,10 +1,19 @@
--- What a step leaves of the state record, apart from the workers that it keeps.
-use mathlib.Core.Bool.{cond}
+-- What a step leaves of the state record, apart from L and W.
+use mathlib.Core.List.{List}
 use Rattle.board.specs.declared.State.{State}
-use Rattle.board.specs.State.{allFree}
+use Rattle.board.specs.declared.Worker.{Worker}
+use Rattle.board.specs.State.{allFree, releasedWorkers}
 use Rattle.effects.specs.declared.record.Progress.{Progress}
+use Rattle.effects.specs.declared.record.Workers.{Workers}
+use Rattle.effects.specs.declared.record.Workers.the-variants.{Kept, Freed, Released}
 
--- The record with a step's progress put in: L and W stay, the workers are all freed or all kept.
+-- The eight workers after a step that keeps them, frees them all, or releases them.
+abbrev pub workersAfter : Workers → State → List Worker
+workersAfter Kept s = s .worker
+workersAfter Freed s = allFree
+workersAfter Released s = releasedWorkers s
+
+-- The record with a step's progress put in: L and W stay.
 abbrev pub progressed : State → Progress → State
 progressed s p =
-    record { phase = p .phase; lines = s .lines; workers = s .workers; listed = p .listed; place = p .place; undo = p .undo; requested = p .requested; worker = cond (p .freed) allFree (s .worker) }
+    record { phase = p .phase; lines = s .lines; workers = s .workers; listed = p .listed; place = p .place; undo = p .undo; requested = p .requested; worker = workersAfter (p .workers) s }

@@ -1,4 +1,4 @@
-// A cell's line, and its log.
+// A cell's log.
 ghost use mathlib.Core.Path.{_≡_};
 ghost use Prim.Native.Nat.{_+_, _≤_};
 ghost use lib.ListN.{length};
@@ -6,13 +6,6 @@ ghost use Rattle.board.specs.Effects.{logged};
 ghost use Rattle.line.specs.Line.{lineStart};
 ghost use Rattle.line.specs.Cell.{cellLine};
 use line::Field;
-
-// "Cell c stands in line 1 + (c div 2)".
-pub fn cell_line(cell: u16) -> usize
-    ensures { λ r. ⌜ r ≡ cellLine cell ⌝ }
-{
-    1 + (cell as usize) / 2
-}
 
 // "a cell whose mark equals the epoch": its old value is logged.
 pub fn logged(row: &[u64], cell: usize) -> bool

@@ -14,7 +14,9 @@ use board::State;
 // Line `place` becomes zeros in both rows, or the header is made and the board runs.
 pub fn format_step(state: State, memory: &mut [u64], cache: &mut [u64]) -> Progress
     requires { ⌜ Formats state (now memory) (now cache) ⌝ }
-    ensures { λ r. ⌜ ((es : List ℕ) → lent (progressed state r) (now (memory .exit)) (now (cache .exit)) es ≡ formatStep state (lent state (now (memory .entry)) (now (cache .entry)) es)) ⌝ }
+    ensures { λ r. ⌜ ((es : List ℕ) →
+        lent (progressed state r) (now (memory .exit)) (now (cache .exit)) es
+        ≡ formatStep state (lent state (now (memory .entry)) (now (cache .entry)) es)) ⌝ }
 {
     let place = state.place;
     let lines = state.lines;

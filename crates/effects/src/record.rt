@@ -2,7 +2,7 @@
 ghost use mathlib.Core.Path.{_≡_};
 ghost use Prim.Native.Nat.{_+_, _<_};
 ghost use Rattle.effects.specs.Progress.{progressed};
-ghost use Rattle.board.specs.State.{started, placed, opened, requesting, released, conditioned};
+ghost use Rattle.board.specs.State.{started, placed, opened, requesting, afterRelease, releasedWorkers, released, conditioned, relisted};
 use board::Condition;
 use board::Phase;
 use board::State;
@@ -28,15 +28,58 @@ pub fn started(phase: Phase, lines: u16, workers: u8) -> State
     }
 }
 
-// What a step leaves of the state record: these fields, and the eight workers all freed or all kept. The record is
-// made of it in one place, `progressed`, so that it is copied once at most (docs/BENCH.md).
+// What a step leaves of the eight workers.
+pub enum Workers {
+    Kept,
+    Freed,
+    Released,
+}
+
+// What a step leaves of the state record: these fields, and the eight workers. The record is made of it in one place,
+// `progressed`, so that it is copied once at most (docs/BENCH.md).
 pub struct Progress {
     pub phase: Phase,
     pub listed: u16,
     pub place: u16,
     pub undo: UndoStep,
     pub requested: bool,
-    pub freed: bool,
+    pub workers: Workers,
+}
+
+// "release, with all eight workers free": the condition that it leaves a worker in.
+fn after_release(condition: Condition) -> Condition
+    ensures { λ r. ⌜ r ≡ afterRelease condition ⌝ }
+{
+    match condition {
+        Condition::Free => Condition::Free,
+        Condition::Waiting => Condition::Free,
+        Condition::Updating { .. } => Condition::Free,
+    }
+}
+
+// A worker after the release.
+fn released_worker(worker: Worker) -> Worker
+    ensures { λ r. ⌜ r .condition ≡ afterRelease (worker .condition) ⌝ }
+{
+    let condition = worker.condition;
+    let after = after_release(condition);
+    Worker { condition: after }
+}
+
+// The eight workers after the release. Each index is a constant, as in `conditioned`.
+fn released_workers(state: State) -> [Worker; 8]
+    ensures { λ r. ⌜ r ≡ releasedWorkers state ⌝ }
+{
+    [
+        released_worker(state.worker[0]),
+        released_worker(state.worker[1]),
+        released_worker(state.worker[2]),
+        released_worker(state.worker[3]),
+        released_worker(state.worker[4]),
+        released_worker(state.worker[5]),
+        released_worker(state.worker[6]),
+        released_worker(state.worker[7]),
+    ]
 }
 
 // The state record after a step.
@@ -45,11 +88,16 @@ pub fn progressed(state: State, progress: Progress) -> State
 {
     let phase = progress.phase;
     let undo = progress.undo;
+    let workers = progress.workers;
     let mut worker = state.worker;
-    if progress.freed {
-        worker = [Worker {
-            condition: Condition::Free,
-        }; 8];
+    match workers {
+        Workers::Kept => {}
+        Workers::Freed => {
+            worker = [Worker {
+                condition: Condition::Free,
+            }; 8];
+        }
+        Workers::Released => worker = released_workers(state),
     }
     State {
         phase,
@@ -74,7 +122,7 @@ pub fn placed(state: State, place: u16, undo: UndoStep) -> Progress
         place,
         undo,
         requested: state.requested,
-        freed: false,
+        workers: Workers::Kept,
     }
 }
 
@@ -97,7 +145,7 @@ pub fn opened(state: State, listed: u16) -> Progress
         place: 0,
         undo: UndoStep::Restore,
         requested: state.requested,
-        freed: true,
+        workers: Workers::Freed,
     }
 }
 
@@ -112,7 +160,7 @@ pub fn released(state: State) -> Progress
         place: 0,
         undo: UndoStep::Restore,
         requested: false,
-        freed: true,
+        workers: Workers::Released,
     }
 }
 
@@ -128,15 +176,14 @@ pub fn requesting(state: State) -> State
     }
 }
 
-// A worker in another condition, and the list's length put anew. Each index is a constant, as in `checks::condition_of`.
-pub fn conditioned(state: State, worker: usize, condition: Condition, listed: u16) -> State
+// A worker in another condition. Each index is a constant, as in `checks::condition_of`.
+pub fn conditioned(state: State, worker: usize, condition: Condition) -> State
     requires { ⌜ worker < 8 ⌝ }
-    ensures { λ r. ⌜ r ≡ conditioned state worker condition listed ⌝ }
+    ensures { λ r. ⌜ r ≡ conditioned state worker condition ⌝ }
 {
     let mut next = state;
     let condition = board::rebuilt(condition);
     let put = Worker { condition };
-    next.listed = listed;
     match worker {
         0 => next.worker[0] = put,
         1 => next.worker[1] = put,
@@ -148,4 +195,11 @@ pub fn conditioned(state: State, worker: usize, condition: Condition, listed: u1
         _ => next.worker[7] = put,
     }
     next
+}
+
+// Another length of the list.
+pub fn relisted(state: State, listed: u16) -> State
+    ensures { λ r. ⌜ r ≡ relisted state listed ⌝ }
+{
+    State { listed, ..state }
 }

@@ -10,7 +10,6 @@ ghost use Rattle.board.specs.declared.Phase.the-variants.{Recovering};
 ghost use Rattle.board.specs.declared.UndoStep.the-variants.{Restore};
 ghost use Rattle.effects.specs.Progress.{progressed};
 ghost use Rattle.effects.specs.Ready.{Restarts, Recovers};
-use crate::cells::cell_line;
 use crate::cells::logged;
 use crate::record::Progress;
 use crate::record::opened;
@@ -24,7 +23,9 @@ use line::Field;
 // "The start copies memory to cache, list empty", with L and W from the header.
 pub fn restart(memory: &[u64], cache: &mut [u64]) -> State
     requires { ⌜ Restarts (now memory) (now cache) ⌝ }
-    ensures { λ r. ⌜ (r ≡ started Recovering (linesOf (now (memory .entry))) (workersOf (now (memory .entry)))) × (now (cache .exit) ≡ now (memory .entry)) ⌝ }
+    ensures { λ r. ⌜
+        (r ≡ started Recovering (linesOf (now (memory .entry))) (workersOf (now (memory .entry))))
+        × (now (cache .exit) ≡ now (memory .entry)) ⌝ }
 {
     line::copy(cache, memory);
     let lines = line::header_word(memory, 1);
@@ -49,7 +50,9 @@ fn past_cell(state: State) -> Progress
 // "record := backup" where the mark equals the epoch; any other cell, "one step that stores nothing".
 fn first_step(state: State, memory: &[u64], cache: &mut [u64]) -> Progress
     requires { ⌜ Recovers state (now memory) (now cache) ⌝ }
-    ensures { λ r. ⌜ ((es : List ℕ) → lent (progressed state r) (now (memory .entry)) (now (cache .exit)) es ≡ recoveryStep Restore state (lent state (now (memory .entry)) (now (cache .entry)) es)) ⌝ }
+    ensures { λ r. ⌜ ((es : List ℕ) →
+        lent (progressed state r) (now (memory .entry)) (now (cache .exit)) es
+        ≡ recoveryStep Restore state (lent state (now (memory .entry)) (now (cache .entry)) es)) ⌝ }
 {
     let place = state.place;
     let cell = place as usize;
@@ -65,7 +68,9 @@ fn first_step(state: State, memory: &[u64], cache: &mut [u64]) -> Progress
 // "record := backup; mark := 0; its line written back."
 pub fn recovery_step(state: State, memory: &mut [u64], cache: &mut [u64]) -> Progress
     requires { ⌜ Recovers state (now memory) (now cache) ⌝ }
-    ensures { λ r. ⌜ ((es : List ℕ) → lent (progressed state r) (now (memory .exit)) (now (cache .exit)) es ≡ recoveryStep (state .undo) state (lent state (now (memory .entry)) (now (cache .entry)) es)) ⌝ }
+    ensures { λ r. ⌜ ((es : List ℕ) →
+        lent (progressed state r) (now (memory .exit)) (now (cache .exit)) es
+        ≡ recoveryStep (state .undo) state (lent state (now (memory .entry)) (now (cache .entry)) es)) ⌝ }
 {
     let place = state.place;
     let cell = place as usize;
@@ -77,7 +82,7 @@ pub fn recovery_step(state: State, memory: &mut [u64], cache: &mut [u64]) -> Pro
             placed(state, place, UndoStep::WriteLine)
         }
         UndoStep::WriteLine => {
-            line::write_back(memory, cache, cell_line(place));
+            line::write_back(memory, cache, line::cell_line(cell));
             past_cell(state)
         }
     }

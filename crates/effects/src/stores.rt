@@ -11,6 +11,7 @@ ghost use Rattle.line.specs.Cell.{cellLine};
 ghost use Rattle.effects.specs.Ready.{Stores, Advances};
 use crate::cells::logged;
 use crate::record::conditioned;
+use crate::record::relisted;
 use board::Condition;
 use board::State;
 use board::Store;
@@ -31,16 +32,11 @@ fn first_store(row: &[u64], cell: usize) -> Store
 // "The start notes it."
 pub fn noted(state: State, cache: &[u64], worker: usize, cell: u16, value: u64) -> State
     requires { ⌜ Stores (now cache) worker cell ⌝ }
-    ensures { λ r. ⌜ ((m es : List ℕ) → lent r m (now (cache .entry)) es ≡ noted worker cell value (lent state m (now (cache .entry)) es)) ⌝ }
+    ensures { λ r. ⌜ ((m es : List ℕ) →
+        lent r m (now (cache .entry)) es ≡ noted worker cell value (lent state m (now (cache .entry)) es)) ⌝ }
 {
-    let listed = state.listed;
     let next = first_store(cache, cell as usize);
-    conditioned(
-        state,
-        worker,
-        Condition::Updating { cell, value, next },
-        listed,
-    )
+    conditioned(state, worker, Condition::Updating { next, cell, value })
 }
 
 // "At the last store the worker becomes waiting if a checkpoint is requested by then" (a restart point's), "else free".
@@ -57,21 +53,14 @@ fn after_last(state: State, cell: u16) -> Condition
 // "backup := record".
 fn back_up(state: State, cache: &mut [u64], worker: usize, cell: u16, value: u64) -> State
     requires { ⌜ Stores (now cache) worker cell ⌝ }
-    ensures { λ r. ⌜ ((m es : List ℕ) → lent r m (now (cache .exit)) es ≡ advance Backup worker cell value state (lent state m (now (cache .entry)) es)) ⌝ }
+    ensures { λ r. ⌜ ((m es : List ℕ) →
+        lent r m (now (cache .exit)) es
+        ≡ advance Backup worker cell value state (lent state m (now (cache .entry)) es)) ⌝ }
 {
-    let listed = state.listed;
     let old = line::cell_field(cache, cell as usize, Field::Record);
     line::store_field(cache, cell as usize, Field::Backup, old);
-    conditioned(
-        state,
-        worker,
-        Condition::Updating {
-            cell,
-            value,
-            next: Store::Mark,
-        },
-        listed,
-    )
+    let next = Store::Mark;
+    conditioned(state, worker, Condition::Updating { next, cell, value })
 }
 
 // "mark := epoch, and the cell is added to the list".
@@ -84,33 +73,28 @@ fn mark(
     value: u64,
 ) -> State
     requires { ⌜ (Stores (now cache) worker cell) × (state .listed < length (now entries)) × (state .listed < 1022) ⌝ }
-    ensures { λ r. ⌜ ((m : List ℕ) → lent r m (now (cache .exit)) (now (entries .exit)) ≡ advance Mark worker cell value state (lent state m (now (cache .entry)) (now (entries .entry)))) ⌝ }
+    ensures { λ r. ⌜ ((m : List ℕ) →
+        lent r m (now (cache .exit)) (now (entries .exit))
+        ≡ advance Mark worker cell value state (lent state m (now (cache .entry)) (now (entries .entry)))) ⌝ }
 {
     let listed = state.listed;
     let epoch = line::header_word(cache, 0);
     line::store_field(cache, cell as usize, Field::Mark, epoch);
     entries[listed as usize] = cell;
-    conditioned(
-        state,
-        worker,
-        Condition::Updating {
-            cell,
-            value,
-            next: Store::Record,
-        },
-        listed + 1,
-    )
+    let next = Store::Record;
+    let marked = conditioned(state, worker, Condition::Updating { next, cell, value });
+    relisted(marked, listed + 1)
 }
 
 // "record := value".
 fn store_record(state: State, cache: &mut [u64], worker: usize, cell: u16, value: u64) -> State
     requires { ⌜ Stores (now cache) worker cell ⌝ }
-    ensures { λ r. ⌜ ((m es : List ℕ) → lent r m (now (cache .exit)) es ≡ advance Record worker cell value state (lent state m (now (cache .entry)) es)) ⌝ }
+    ensures { λ r. ⌜ ((m es : List ℕ) →
+        lent r m (now (cache .exit)) es
+        ≡ advance Record worker cell value state (lent state m (now (cache .entry)) es)) ⌝ }
 {
-    let listed = state.listed;
     line::store_field(cache, cell as usize, Field::Record, value);
-    let condition = after_last(state, cell);
-    conditioned(state, worker, condition, listed)
+    conditioned(state, worker, after_last(state, cell))
 }
 
 // "backup := record; mark := epoch, and the cell is added to the list; record := value".
@@ -124,7 +108,9 @@ pub fn store_next(
     next: Store,
 ) -> State
     requires { ⌜ Advances state (now cache) (now entries) worker cell next ⌝ }
-    ensures { λ r. ⌜ ((m : List ℕ) → lent r m (now (cache .exit)) (now (entries .exit)) ≡ advance next worker cell value state (lent state m (now (cache .entry)) (now (entries .entry)))) ⌝ }
+    ensures { λ r. ⌜ ((m : List ℕ) →
+        lent r m (now (cache .exit)) (now (entries .exit))
+        ≡ advance next worker cell value state (lent state m (now (cache .entry)) (now (entries .entry)))) ⌝ }
 {
     match next {
         Store::Backup => back_up(state, cache, worker, cell, value),

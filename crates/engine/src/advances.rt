@@ -1,6 +1,6 @@
 // The advance call: the next store of a worker's update.
 ghost use mathlib.Core.Path.{_≡_};
-ghost use Rattle.board.specs.declared.Call.the-variants.{Advance};
+ghost use Rattle.board.specs.declared.Call.{Call};
 ghost use Rattle.board.specs.Effects.{effect};
 ghost use Rattle.board.specs.Next.{lent, Taken};
 use board::Condition;
@@ -15,8 +15,11 @@ pub fn taken_advance(
     entries: &mut [u16],
     worker: u64,
 ) -> State
-    requires { ⌜ Taken (Advance worker) (lent state (now memory) (now cache) (now entries)) ⌝ }
-    ensures { λ r. ⌜ lent r (now (memory .entry)) (now (cache .exit)) (now (entries .exit)) ≡ effect (Advance worker) (lent state (now (memory .entry)) (now (cache .entry)) (now (entries .entry))) ⌝ }
+    requires { ⌜ Taken (Call.Advance worker) (lent state (now memory) (now cache) (now entries)) ⌝ }
+    ensures { λ r. ⌜
+        lent r (now (memory .entry)) (now (cache .exit)) (now (entries .exit))
+        ≡ effect (Call.Advance worker)
+        (lent state (now (memory .entry)) (now (cache .entry)) (now (entries .entry))) ⌝ }
 {
     let condition = checks::condition_of(state, worker);
     match condition {

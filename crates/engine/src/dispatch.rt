@@ -1,9 +1,8 @@
 // Any call, by its declared name and arguments.
 ghost use mathlib.Core.Path.{_≡_};
-ghost use Rattle.board.specs.Next.{lent, outcome, left, valueOf};
-use crate::calls;
-use crate::calls::Answer;
-use crate::calls::Reading;
+ghost use Rattle.board.specs.Next.{lent, Performed};
+use crate::Answer;
+use crate::Reading;
 use board::Call;
 use board::State;
 
@@ -27,11 +26,13 @@ pub fn perform(
     cache: &mut [u64],
     entries: &mut [u16],
 ) -> Reading
-    ensures outcome { λ r. ⌜ left (r .number) (r .state) (now (memory .exit)) (now (cache .exit)) (now (entries .exit)) ≡ outcome call (lent state (now (memory .entry)) (now (cache .entry)) (now (entries .entry))) ⌝ }
-    ensures value { λ r. ⌜ r .value ≡ valueOf call (lent state (now (memory .entry)) (now (cache .entry)) (now (entries .entry))) ⌝ }
+    ensures performed { λ r. ⌜ Performed call
+        (lent state (now (memory .entry)) (now (cache .entry)) (now (entries .entry)))
+        (r .number) (r .value)
+        (lent (r .state) (now (memory .exit)) (now (cache .exit)) (now (entries .exit))) ⌝ }
 {
     match call {
-        Call::FormatStart { lines, workers } => unread(calls::format_start(
+        Call::FormatStart { lines, workers } => unread(crate::format_start(
             state,
             memory,
             cache,
@@ -39,14 +40,14 @@ pub fn perform(
             lines,
             workers,
         )),
-        Call::RecoveryStart => unread(calls::recovery_start(state, memory, cache, entries)),
-        Call::Step => unread(calls::step(state, memory, cache, entries)),
+        Call::RecoveryStart => unread(crate::recovery_start(state, memory, cache, entries)),
+        Call::Step => unread(crate::step(state, memory, cache, entries)),
         Call::Update {
             worker,
             cell,
             value,
-        } => unread(calls::update(state, memory, cache, entries, worker, cell, value)),
-        Call::RestartPoint { worker, value } => unread(calls::restart_point(
+        } => unread(crate::update(state, memory, cache, entries, worker, cell, value)),
+        Call::RestartPoint { worker, value } => unread(crate::restart_point(
             state,
             memory,
             cache,
@@ -54,9 +55,9 @@ pub fn perform(
             worker,
             value,
         )),
-        Call::Advance { worker } => unread(calls::advance(state, memory, cache, entries, worker)),
-        Call::Request => unread(calls::request(state, memory, cache, entries)),
-        Call::WriteBack { line } => unread(calls::write_back(state, memory, cache, entries, line)),
-        Call::Read { cell } => calls::read(state, memory, cache, entries, cell),
+        Call::Advance { worker } => unread(crate::advance(state, memory, cache, entries, worker)),
+        Call::Request => unread(crate::request(state, memory, cache, entries)),
+        Call::WriteBack { line } => unread(crate::write_back(state, memory, cache, entries, line)),
+        Call::Read { cell } => crate::read(state, memory, cache, entries, cell),
     }
 }

@@ -1,6 +1,6 @@
 // The step call, by phase.
 ghost use mathlib.Core.Path.{_≡_};
-ghost use Rattle.board.specs.declared.Call.the-variants.{Step};
+ghost use Rattle.board.specs.declared.Call.{Call};
 ghost use Rattle.board.specs.Effects.{effect};
 ghost use Rattle.board.specs.Next.{lent, Taken};
 ghost use Rattle.effects.specs.Progress.{progressed};
@@ -14,8 +14,11 @@ use effects::recovery_step;
 
 // What a taken step does.
 pub fn taken_step(state: State, memory: &mut [u64], cache: &mut [u64], entries: &[u16]) -> Progress
-    requires { ⌜ Taken Step (lent state (now memory) (now cache) (now entries)) ⌝ }
-    ensures { λ r. ⌜ lent (progressed state r) (now (memory .exit)) (now (cache .exit)) (now (entries .entry)) ≡ effect Step (lent state (now (memory .entry)) (now (cache .entry)) (now (entries .entry))) ⌝ }
+    requires { ⌜ Taken Call.Step (lent state (now memory) (now cache) (now entries)) ⌝ }
+    ensures { λ r. ⌜
+        lent (progressed state r) (now (memory .exit)) (now (cache .exit)) (now (entries .entry))
+        ≡ effect Call.Step
+        (lent state (now (memory .entry)) (now (cache .entry)) (now (entries .entry))) ⌝ }
 {
     let phase = state.phase;
     let undo = state.undo;

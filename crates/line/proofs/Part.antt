@@ -1,7 +1,7 @@
 -- What a line's part of a row is: `row[8 * l .. 8 * l + 8]`, lent to a leaf and given back.
 use mathlib.Core.Path.{_≡_, _∙_, ap}
 use mathlib.Core.List.{List}
-use Prim.Native.Nat.{ℕ, _+_, _-_, _≤_}
+use Prim.Native.Nat.{ℕ, _+_, _-_, _≤_, _<_}
 use native.Mathlib.Omega.{arith}
 use lib.ListN.{length, getD, set}
 use borrow.Rule.Slice.PartMut.{midOf, putMid}
@@ -28,16 +28,30 @@ pub back-line : (row : List ℕ) (l : ℕ) {last words : List ℕ} → last ≡ 
 unfolding withLine
 back-line row l e = rw (span l, e)
 
--- A cell's word of the part is its field.
-pub lent-field : (row : List ℕ) (c : ℕ) (f : Field) → getD (lent row (cellLine c)) (cellWord c + fieldOffset f) 0 ≡ fieldOf row c f
-unfolding fieldOf fieldIndex
-lent-field row c f =
-    ap (λ (part : List ℕ). getD part (cellWord c + fieldOffset f) 0) (lent-line row (cellLine c))
-    ∙ getD-lineOf row (cellLine c) (cellWord c + fieldOffset f) (omega (arith, offset-bound f))
+module _ (row : List ℕ) (c : ℕ) (f : Field) {l : ℕ} (e : l ≡ cellLine c) where
+  -- A cell's word, read in the part, is its field.
+  pub field-read : {v : ℕ} → v ≡ getD (lent row l) (cellWord c + fieldOffset f) 0 → v ≡ fieldOf row c f
+  unfolding fieldOf fieldIndex
+  field-read p =
+      p
+      ∙ ap (λ (part : List ℕ). getD part (cellWord c + fieldOffset f) 0) (lent-line row l)
+      ∙ getD-lineOf row l (cellWord c + fieldOffset f) (omega (arith, offset-bound f))
+      ∙ ap (λ (n : ℕ). getD row (lineStart n + (cellWord c + fieldOffset f)) 0) e
 
--- A part given back with a cell's word stored is a field stored.
-pub back-field : (row : List ℕ) (c : ℕ) (f : Field) (v : ℕ) {last : List ℕ} → lineStart (cellLine c) + 8 ≤ length row → last ≡ set (lent row (cellLine c)) (cellWord c + fieldOffset f) v → back row (cellLine c) last ≡ withField row c f v
-unfolding withField fieldIndex
-back-field row c f v h e =
-    back-line row (cellLine c) (e ∙ ap (λ (part : List ℕ). set part (cellWord c + fieldOffset f) v) (lent-line row (cellLine c)))
-    ∙ withLine-set row (cellLine c) (cellWord c + fieldOffset f) v h (omega (arith, offset-bound f))
+  -- A part given back with a cell's word stored is a field stored.
+  pub field-stored : (v : ℕ) {last : List ℕ} → lineStart (cellLine c) + 8 ≤ length row → last ≡ set (lent row l) (cellWord c + fieldOffset f) v → back row l last ≡ withField row c f v
+  unfolding withField fieldIndex
+  field-stored v h p =
+      back-line row l (p ∙ ap (λ (part : List ℕ). set part (cellWord c + fieldOffset f) v) (lent-line row l))
+      ∙ withLine-set row l (cellWord c + fieldOffset f) v (omega arith) (omega (arith, offset-bound f))
+      ∙ ap (λ (n : ℕ). set row (lineStart n + (cellWord c + fieldOffset f)) v) e
+
+module _ (row : List ℕ) (k : ℕ) (b : k < 8) where
+  -- A word of line 0's part is the row's.
+  pub header-read : {v : ℕ} → v ≡ getD (lent row 0) k 0 → v ≡ getD row k 0
+  header-read p = p ∙ ap (λ (part : List ℕ). getD part k 0) (lent-line row 0) ∙ getD-lineOf row 0 k b ∙ ap (λ (i : ℕ). getD row i 0) (let z : 0 + k ≡ k = omega arith in z)
+
+  -- Line 0's part given back with a word stored is the row with it stored.
+  pub header-stored : (v : ℕ) {last : List ℕ} → 8 ≤ length row → last ≡ set (lent row 0) k v → back row 0 last ≡ set row k v
+  header-stored v h p =
+      back-line row 0 (p ∙ ap (λ (part : List ℕ). set part k v) (lent-line row 0)) ∙ withLine-set row 0 k v h b ∙ ap (λ (i : ℕ). set row i v) (let z : 0 + k ≡ k = omega arith in z)

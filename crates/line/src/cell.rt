@@ -6,6 +6,13 @@ ghost use Rattle.line.specs.Line.{lineStart};
 ghost use Rattle.line.specs.Cell.{cellLine, fieldOffset, fieldOf, withField};
 use crate::Field;
 
+// "Cell c stands in line 1 + (c div 2)".
+pub fn cell_line(cell: usize) -> usize
+    ensures { λ r. ⌜ r ≡ cellLine cell ⌝ }
+{
+    1 + cell / 2
+}
+
 // Where a field stands among a cell's three words.
 fn offset(field: Field) -> usize
     ensures { λ r. ⌜ (r ≡ fieldOffset field) × (r < 3) ⌝ }
@@ -48,7 +55,7 @@ pub fn cell_field(row: &[u64], cell: usize, field: Field) -> u64
     requires { ⌜ lineStart (cellLine cell) + 8 ≤ length (now row) ⌝ }
     ensures { λ r. ⌜ r ≡ fieldOf (now (row .entry)) cell field ⌝ }
 {
-    let start = 8 * (1 + cell / 2);
+    let start = 8 * cell_line(cell);
     field_in_line(&row[start..start + 8], cell % 2, field)
 }
 
@@ -57,6 +64,6 @@ pub fn store_field(row: &mut [u64], cell: usize, field: Field, value: u64)
     requires { ⌜ lineStart (cellLine cell) + 8 ≤ length (now row) ⌝ }
     ensures { λ _. ⌜ now (row .exit) ≡ withField (now (row .entry)) cell field value ⌝ }
 {
-    let start = 8 * (1 + cell / 2);
+    let start = 8 * cell_line(cell);
     store_in_line(&mut row[start..start + 8], cell % 2, field, value);
 }

@@ -35,18 +35,29 @@ pub fn store_line(row: &mut [u64], line: usize, words: [u64; 8])
     copy(&mut row[start..start + 8], &words);
 }
 
-// A word of the header, line 0.
-pub fn header_word(row: &[u64], k: usize) -> u64
-    requires { ⌜ k < length (now row) ⌝ }
-    ensures { λ r. ⌜ r ≡ getD (now (row .entry)) k 0 ⌝ }
+// A word of a part, 0 past its end.
+fn word_in(part: &[u64], k: usize) -> u64
+    ensures { λ r. ⌜ r ≡ getD (now (part .entry)) k 0 ⌝ }
 {
-    row[k]
+    if k < part.len() { part[k] } else { 0 }
 }
 
-// A word of the header, stored.
+// A word of the header, read in line 0's part of the row; where the row is shorter than a line, in all of it.
+pub fn header_word(row: &[u64], k: usize) -> u64
+    requires { ⌜ k < 8 ⌝ }
+    ensures { λ r. ⌜ r ≡ getD (now (row .entry)) k 0 ⌝ }
+{
+    if row.len() < 8 {
+        return word_in(row, k);
+    }
+    word_in(&row[0..8], k)
+}
+
+// A word of the header, stored in line 0's part of the row.
 pub fn store_header_word(row: &mut [u64], k: usize, value: u64)
-    requires { ⌜ k < length (now row) ⌝ }
+    requires { ⌜ (8 ≤ length (now row)) × (k < 8) ⌝ }
     ensures { λ _. ⌜ now (row .exit) ≡ set (now (row .entry)) k value ⌝ }
 {
-    row[k] = value;
+    let header = &mut row[0..8];
+    header[k] = value;
 }

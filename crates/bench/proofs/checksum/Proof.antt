@@ -1,5 +1,5 @@
 -- `bench::checksum` is safe: the rows lent are within the arrays, and as long as the plan says.
-use mathlib.Core.Path.{sym}
+use mathlib.Core.Path.{sym, _∙_}
 use native.Mathlib.Omega.{arith}
 use lib.Seq.{length-take-le}
 use borrow.Author.Needs.{needs}
@@ -16,10 +16,10 @@ slice-aggregate-run-3 : tie.Need-slice-aggregate-run-3
 slice-aggregate-run-3 c = sym (length-take-le _ _ (omega arith))
 
 run-requires : tie.Need-run-requires
-run-requires c κs = (search needs, length-take-le _ _ (omega arith))
+run-requires c κs = (search needs, length-take-le _ _ (omega arith) ∙ c .before .before .before .before .row-words .ensures)
 
 pub checksum-spec : {M : Type 1} → statement M
 checksum-spec =
     tie.close
-    (tie.spec (search needs) (search needs) (search needs) (search needs) slice-aggregate-run (search needs)
-    slice-aggregate-run-2 (search needs) (search needs) slice-aggregate-run-3 run-requires (search needs))
+    (tie.spec (search needs) (search needs) (search needs) slice-aggregate-run (search needs)
+    slice-aggregate-run-2 (search needs) slice-aggregate-run-3 run-requires (search needs))

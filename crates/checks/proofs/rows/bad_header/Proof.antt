@@ -1,9 +1,10 @@
 -- Each part is the part of the definition.
+use borrow.Author.Needs.{needs}
 use Rattle.checks.proofs.rows.bad_header.Statement.{statement}
 use Rattle.checks.proofs.rows.bad_header.Tie as tie
 
 returns : tie.Need-returns
-returns c = rw (c .rest-not-zero .ensures, c .before .workers-outside .ensures, c .before .before .word3 .ensures, c .before .before .before .before .before .word .ensures, c .before .before .before .before .word2 .ensures, c .before .before .before .less .ensures)
+returns c = rw (c .rest-not-zero .ensures, c .before .workers-outside .ensures, c .before .before .header-word3 .ensures, c .before .before .before .before .before .header-word .ensures, c .before .before .before .before .header-word2 .ensures, c .before .before .before .less .ensures)
 
 pub bad-header-spec : {M : Type 1} → statement M
-bad-header-spec = tie.close (tie.spec (λ _ _. tt) (λ _ _. tt) (λ _ _. tt) (λ _ _. tt) (λ _ _. tt) (λ _ _. tt) returns)
+bad-header-spec = tie.close (tie.spec (search needs) (search needs) (λ _ _. tt) (search needs) (λ _ _. tt) (λ _ _. tt) returns)

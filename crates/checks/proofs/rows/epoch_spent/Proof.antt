@@ -1,9 +1,10 @@
 -- The word is the epoch.
+use borrow.Author.Needs.{needs}
 use Rattle.checks.proofs.rows.epoch_spent.Statement.{statement}
 use Rattle.checks.proofs.rows.epoch_spent.Tie as tie
 
 returns : tie.Need-returns
-returns c s m e = rw (c .word .ensures)
+returns c s m e = rw (c .header-word .ensures)
 
 pub epoch-spent-spec : {M : Type 1} → statement M
-epoch-spent-spec = tie.close (tie.spec (λ _ _. tt) returns)
+epoch-spent-spec = tie.close (tie.spec (search needs) returns)

@@ -1,11 +1,12 @@
 -- Each arm has its worker's number; a state record has eight workers, so that a number from 8 on has the default.
 use Prim.Native.Nat.{_≤_}
-use mathlib.Core.Path.{_≡_, sym, ap, _∙_}
+use mathlib.Core.Path.{_≡_, sym, ap}
 use native.Mathlib.Omega.{arith}
 use borrow.Author.Needs.{needs}
-use lib.ListN.{length, length-map, List·getD-eq-default}
+use lib.ListN.{length, List·getD-eq-default}
 use Rattle.board.specs.declared.Worker.{Worker}
 use Rattle.board.specs.State.{freeWorker}
+use Rattle.checks.proofs.Scan.{length-unmade}
 use Rattle.checks.proofs.workers.condition_of.Statement.{statement}
 use Rattle.checks.proofs.workers.condition_of.Tie as tie
 
@@ -35,10 +36,10 @@ returns-8 c = rw (c .condition-in8 .ensures, c .before .before .match .keys8)
 
 returns-9 : tie.Need-returns-9
 returns-9 c =
-    let eight : length (c .before .args .t1 .worker) ≡ 8 = sym (length-map (c .before .args .t1 .worker) _) ∙ c .before .good .0 .1 .1 .1 .1 .1 .1 .1 .1 .1 .0 .1 .0 .1 in
+    let eight : length (c .before .args .t1 .worker) ≡ 8 = search (needs, length-unmade) in
     let none = c .match .rest in
     let four : 4 ≤ c .before .args .worker = omega (arith, none .0 .0 .0 .0) in
-    let past : length (c .before .args .t1 .worker) ≤ c .before .args .worker = omega (arith, eight, four, none .0 .0 .0 .1, none .0 .0 .1, none .0 .1, none .1) in
+    let past : length (c .before .args .t1 .worker) ≤ c .before .args .worker = omega (arith, four, none .0 .0 .0 .1, none .0 .0 .1, none .0 .1, none .1) in
     ap (λ (w : Worker). w .condition) (sym (List·getD-eq-default (c .before .args .t1 .worker) freeWorker past))
 
 pub condition-of-spec : {M : Type 1} → statement M

@@ -7,8 +7,8 @@ use Rattle.effects.proofs.checkpoint.checkpoint_step.Tie as tie
 
 write-back-requires : tie.Need-write-back-requires
 write-back-requires c κs =
-    let listed = c .before .before .before .before in
-    entry-in _ _ _ _ (listed .before .before .before .before .pre) (listed .if1 .taken) (c .cell-line .ensures)
+    let listed = c .before .before .before in
+    entry-in _ _ _ _ (listed .before .before .before .before .pre) (listed .if1 .taken) (c .listed-line .ensures)
 
 returns : tie.Need-returns
 returns c = search (needs, writes-listed)
@@ -28,7 +28,7 @@ returns-4 c = search (needs, releases)
 pub checkpoint-step-spec : {M : Type 1} → statement M
 checkpoint-step-spec =
     tie.close
-    (tie.spec (search needs) (search needs) (search needs) (search needs) write-back-requires (search needs)
+    (tie.spec (search needs) write-back-requires (search needs)
     (search needs) (search needs) returns (search needs) add-store-header-word (search needs)
     (search needs) (search needs) returns-2 (search needs) (search needs) (search needs)
     (search needs) (search needs) returns-3 (search needs) returns-4)

@@ -1,0 +1,20 @@
+-- `engine::step` meets its contract: refused with all as it was, or taken with its effect.
+use borrow.Author.Needs.{needs}
+use Rattle.board.specs.Next.{valueOf}
+use Rattle.engine.proofs.Outcome.{refused, done-by}
+use Rattle.engine.proofs.step.Statement.{statement}
+use Rattle.engine.proofs.step.Tie as tie
+
+returns : tie.Need-returns
+unfolding valueOf
+returns c = search (needs, refused)
+
+returns-2 : tie.Need-returns-2
+unfolding valueOf
+returns-2 c = search (needs, done-by)
+
+pub step-spec : {M : Type 1} → statement M
+step-spec =
+    tie.close
+    (tie.spec (search needs) (search needs) (search needs) returns (search needs) (search needs) (search needs)
+    (search needs) returns-2)
