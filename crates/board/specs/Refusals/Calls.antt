@@ -123,9 +123,14 @@ advanceWorker =
     ∷ gives 6 (Advance (2 ^ 64 - 1)) (sound Running 1 1)
     ∷ []
 
--- Cause 8: "advance of one free or waiting".
+-- Cause 8: "advance of one free or waiting", though the list be full: it adds nothing.
 abbrev pub advanceIdle : List Case
-advanceIdle = gives 8 (Advance 0) (sound Running 1 1) ∷ gives 8 (Advance 0) (worker 0 Waiting (sound Running 1 1)) ∷ []
+advanceIdle =
+    gives 8 (Advance 0) (sound Running 1 1)
+    ∷ gives 8 (Advance 0) (worker 0 Waiting (sound Running 1 1))
+    ∷ gives 8 (Advance 0) (listing 2 (sound Running 1 1))
+    ∷ gives 8 (Advance 0) (listing 2 (worker 0 Waiting (sound Running 1 1)))
+    ∷ []
 
 -- Taken: length 2L − 1 where it adds; length 2L where it adds nothing; worker W − 1; cell 2L − 1; on the records just within.
 abbrev pub advanceTaken : List Case
