@@ -4,4 +4,5 @@ pub mod Recovery
 pub mod Workers
 pub mod Table
 pub mod Starts
+pub mod Opens
 pub mod Theorems

@@ -14,7 +14,7 @@ use Rattle.board.specs.declared.Phase.{Phase}
 use Rattle.board.specs.declared.Phase.the-variants.{Formatting, Recovering, Running}
 use Rattle.board.specs.declared.UndoStep.the-variants.{Restore}
 use Rattle.board.specs.declared.Call.{Call}
-use Rattle.board.specs.declared.Call.the-variants.{FormatStart, RecoveryStart, Step, Advance}
+use Rattle.board.specs.declared.Call.the-variants.{FormatStart, RecoveryStart, Step, Advance, Request}
 use Rattle.board.specs.Board.{Board}
 use Rattle.board.specs.State.{conditionOf}
 use Rattle.board.specs.Causes.{Cause, causes, cause}
@@ -154,3 +154,44 @@ FormatBegins = (l w : ℕ) (b : Board) → Taken (FormatStart l w) b → Begun F
 abbrev pub RecoveryBegins : Type 0
 RecoveryBegins =
     (b : Board) → Taken RecoveryStart b → Begun Recovering (getD (b .memory) 1 0) (getD (b .memory) 2 0) (b .memory) b (next RecoveryStart b)
+
+-- ---- 7. a request, and the end of a format or recovery
+
+-- A request stands, at place 0 with a recovery's first step, and nothing else has changed.
+pub record Asked (b b′ : Board) : Type 0 where
+  pub request : b′ .state .requested ≡ true
+  pub place : b′ .state .place ≡ 0
+  pub undo : b′ .state .undo ≡ Restore
+  pub phase : b′ .state .phase ≡ b .state .phase
+  pub lines : b′ .state .lines ≡ b .state .lines
+  pub workers : b′ .state .workers ≡ b .state .workers
+  pub listed : b′ .state .listed ≡ b .state .listed
+  pub worker : b′ .state .worker ≡ b .state .worker
+  pub memory : b′ .memory ≡ b .memory
+  pub cache : b′ .cache ≡ b .cache
+  pub entries : b′ .entries ≡ b .entries
+
+-- "A request .. set the place to 0."
+abbrev pub Requests : Type 0
+Requests = (b : Board) → Taken Request b → Asked b (next Request b)
+
+-- The board runs, all eight workers free, at place 0, with the given list length; L, W and the request are as they were.
+pub record Opened (listed : ℕ) (b b′ : Board) : Type 0 where
+  pub phase : b′ .state .phase ≡ Running
+  pub lines : b′ .state .lines ≡ b .state .lines
+  pub workers : b′ .state .workers ≡ b .state .workers
+  pub list : b′ .state .listed ≡ listed
+  pub place : b′ .state .place ≡ 0
+  pub undo : b′ .state .undo ≡ Restore
+  pub request : b′ .state .requested ≡ b .state .requested
+  pub eight : length (b′ .state .worker) ≡ 8
+  pub free : (i : ℕ) → conditionOf (b′ .state) i ≡ Free
+
+-- "Then running, all free, list empty": the last step of a format.
+abbrev pub FormatOpens : Type 0
+FormatOpens = (b : Board) → b .state .phase ≡ Formatting → Taken Step b → b .state .place ≡ b .state .lines + 1 → Opened 0 b (next Step b)
+
+-- "After the last cell: running in the same epoch, all free"; the list's length, which the rule does not name, stays.
+abbrev pub RecoveryOpens : Type 0
+RecoveryOpens =
+    (b : Board) → b .state .phase ≡ Recovering → Taken Step b → (next Step b .state .phase ≡ Recovering → ⊥) → Opened (b .state .listed) b (next Step b)

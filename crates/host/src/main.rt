@@ -94,10 +94,24 @@ fn main() {
     let kept = checkpoint(seven, &mut memory, &mut cache, &mut list);
     let nine = update(kept, &mut memory, &mut cache, &mut list, 9);
     show(nine, &mut memory, &mut cache, &mut list, 1);
-    make(nine, &mut memory, &mut cache, &mut list, Call::WriteBack { line: 1 }, 1);
+    make(
+        nine,
+        &mut memory,
+        &mut cache,
+        &mut list,
+        Call::WriteBack { line: 1 },
+        1,
+    );
     cache = [0u64; 16];
     list = [0u16; 2];
-    let back = make(engine::off(), &mut memory, &mut cache, &mut list, Call::RecoveryStart, 1);
+    let back = make(
+        engine::off(),
+        &mut memory,
+        &mut cache,
+        &mut list,
+        Call::RecoveryStart,
+        1,
+    );
     let recovered = make(back, &mut memory, &mut cache, &mut list, Call::Step, 4);
     show(recovered, &mut memory, &mut cache, &mut list, 1);
 }

@@ -1,10 +1,11 @@
 -- THE THEOREMS about single calls: every statement of `specs/Steps.antt`, proved.
-use Rattle.board.specs.Steps.{FormatWrites, RecoveryWrites, Releases, LastStore, TableBothWays, FormatStarts, FormatBegins, RecoveryBegins}
+use Rattle.board.specs.Steps.{FormatWrites, RecoveryWrites, Releases, LastStore, TableBothWays, FormatStarts, FormatBegins, RecoveryBegins, Requests, FormatOpens, RecoveryOpens}
 use Rattle.board.proofs.Steps.Format
 use Rattle.board.proofs.Steps.Recovery
 use Rattle.board.proofs.Steps.Workers
 use Rattle.board.proofs.Steps.Table
 use Rattle.board.proofs.Steps.Starts
+use Rattle.board.proofs.Steps.Opens
 
 -- 1. Each step of a format writes its own line in both rows, and no other.
 pub format-writes : FormatWrites
@@ -35,3 +36,13 @@ format-begins = Starts.format-begins
 
 pub recovery-begins : RecoveryBegins
 recovery-begins = Starts.recovery-begins
+
+-- 7. A request sets the place and nothing else; the end of a format or recovery opens the board.
+pub requests : Requests
+requests = Opens.requests
+
+pub format-opens : FormatOpens
+format-opens = Opens.format-opens
+
+pub recovery-opens : RecoveryOpens
+recovery-opens = Opens.recovery-opens
