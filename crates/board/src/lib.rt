@@ -32,6 +32,7 @@ pub enum Condition {
     Updating { next: Store, cell: u16, value: u64 },
 }
 
+// A worker, with the data of its update inside.
 pub struct Worker {
     pub condition: Condition,
 }

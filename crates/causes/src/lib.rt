@@ -48,20 +48,23 @@ pub fn of_recovery_start(state: State, memory: &[u64], cache: &[u64], entries: &
     })
 }
 
+// A step looks at all that its phase and its place ask for.
 pub fn of_step(state: State, memory: &[u64], cache: &[u64], entries: &[u16]) -> u8
     ensures { λ r. ⌜ r ≡ cause Call.Step
         (lent state (now (memory .entry)) (now (cache .entry)) (now (entries .entry))) ⌝ }
 {
+    let unready = record::not_ready(state);
     first(Causes {
         phase: phases::not_on(state),
-        state: record::bad_record(state),
+        state: record::bad_step_record(state, unready),
         rows: rows::bad_rows(state.lines, memory, cache, entries) | rows::bad_entry(state, entries),
-        checkpoint: record::not_ready(state),
+        checkpoint: unready,
         epoch: rows::stores_spent_epoch(state, cache),
         ..NONE
     })
 }
 
+// An update looks at the worker and the data cell, and at what the other workers update.
 pub fn of_update(
     state: State,
     memory: &[u64],
@@ -107,6 +110,7 @@ pub fn of_restart_point(
     })
 }
 
+// An advance looks at the worker, and at the room in the list where it must add a cell.
 pub fn of_advance(state: State, memory: &[u64], cache: &[u64], entries: &[u16], worker: u64) -> u8
     ensures { λ r. ⌜ r ≡ cause (Call.Advance worker)
         (lent state (now (memory .entry)) (now (cache .entry)) (now (entries .entry))) ⌝ }
@@ -121,6 +125,7 @@ pub fn of_advance(state: State, memory: &[u64], cache: &[u64], entries: &[u16], 
     })
 }
 
+// A request looks at whether one stands, and at the cache's epoch.
 pub fn of_request(state: State, memory: &[u64], cache: &[u64], entries: &[u16]) -> u8
     ensures { λ r. ⌜ r ≡ cause Call.Request
         (lent state (now (memory .entry)) (now (cache .entry)) (now (entries .entry))) ⌝ }
@@ -135,6 +140,7 @@ pub fn of_request(state: State, memory: &[u64], cache: &[u64], entries: &[u16]) 
     })
 }
 
+// A write-back looks at the line.
 pub fn of_write_back(state: State, memory: &[u64], cache: &[u64], entries: &[u16], line: u64) -> u8
     ensures { λ r. ⌜ r ≡ cause (Call.WriteBack line)
         (lent state (now (memory .entry)) (now (cache .entry)) (now (entries .entry))) ⌝ }
@@ -148,6 +154,7 @@ pub fn of_write_back(state: State, memory: &[u64], cache: &[u64], entries: &[u16
     })
 }
 
+// A read looks at the cell.
 pub fn of_read(state: State, memory: &[u64], cache: &[u64], entries: &[u16], cell: u64) -> u8
     ensures { λ r. ⌜ r ≡ cause (Call.Read cell)
         (lent state (now (memory .entry)) (now (cache .entry)) (now (entries .entry))) ⌝ }

@@ -8,6 +8,7 @@ ghost use Rattle.board.specs.State.{isOff, isFormatting, isRunning};
 ghost use Rattle.board.specs.Causes.{notOn, notRecoveringOrRunning, notRunning};
 ghost use Rattle.board.specs.Next.{lent};
 
+// The phase is off.
 pub fn is_off(phase: Phase) -> bool
     ensures { λ r. ⌜ r ≡ isOff phase ⌝ }
 {
@@ -19,6 +20,7 @@ pub fn is_off(phase: Phase) -> bool
     }
 }
 
+// The phase is formatting.
 pub fn is_formatting(phase: Phase) -> bool
     ensures { λ r. ⌜ r ≡ isFormatting phase ⌝ }
 {
@@ -30,6 +32,7 @@ pub fn is_formatting(phase: Phase) -> bool
     }
 }
 
+// The phase is running.
 pub fn is_running(phase: Phase) -> bool
     ensures { λ r. ⌜ r ≡ isRunning phase ⌝ }
 {

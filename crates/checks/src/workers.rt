@@ -44,6 +44,7 @@ pub fn condition_of(state: State, worker: u64) -> Condition
     }
 }
 
+// "A worker is free".
 pub fn is_free(condition: Condition) -> bool
     ensures { λ r. ⌜ r ≡ isFree condition ⌝ }
 {
@@ -54,6 +55,7 @@ pub fn is_free(condition: Condition) -> bool
     }
 }
 
+// "waiting".
 pub fn is_waiting(condition: Condition) -> bool
     ensures { λ r. ⌜ r ≡ isWaiting condition ⌝ }
 {
@@ -64,6 +66,7 @@ pub fn is_waiting(condition: Condition) -> bool
     }
 }
 
+// "or in the middle of an update".
 pub fn is_updating(condition: Condition) -> bool
     ensures { λ r. ⌜ r ≡ isUpdating condition ⌝ }
 {
@@ -74,6 +77,7 @@ pub fn is_updating(condition: Condition) -> bool
     }
 }
 
+// The next store of an update is the mark's.
 fn is_mark_store(next: Store) -> bool
     ensures { λ r. ⌜ r ≡ isMarkStore next ⌝ }
 {

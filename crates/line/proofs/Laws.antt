@@ -1,11 +1,11 @@
 -- What is true of the definitions of specs/: a line or a field reads as it was last stored, and no other word changes.
 use mathlib.Core.Path.{_≡_, _∙_, sym, ap, subst}
-use mathlib.Core.List.{List}
-use Prim.Native.Nat.{ℕ, _+_, _-_, _/_, _≤_, _<_}
+use mathlib.Core.List.{List, [], _∷_}
+use Prim.Native.Nat.{ℕ, suc, _+_, _-_, _/_, _≤_, _<_}
 use native.Mathlib.Decide.{decLt}
 use native.Mathlib.Omega.{arith}
-use lib.ListN.{length, take, drop, getD, set, replicate, length-set, length-take, length-drop, length-replicate, getD-replicate, List·getD-append}
-use lib.Seq.{getD-set-same, getD-set-other, getD-take, getD-drop, getD-append-add, length-take-le}
+use lib.ListN.{length, take, drop, getD, set, replicate, drop-of-length-le, length-set, length-take, length-drop, length-replicate, getD-replicate, List·getD-append}
+use lib.Seq.{drop-cons, getD-set-same, getD-set-other, getD-take, getD-drop, getD-append-add, length-take-le}
 use borrow.Rule.Slice.PartMut.{same-len-mid, set-mid-at, take-put, drop-put}
 use Rattle.line.specs.declared.Field.{Field}
 use Rattle.line.specs.declared.Field.the-variants.{Record, Backup, Mark}
@@ -21,6 +21,22 @@ offset-bound Mark = omega arith
 -- A line's part of a row, from its first word to the next line's, is eight words.
 pub span : (l : ℕ) → lineStart l + 8 - lineStart l ≡ 8
 span l = omega arith
+
+-- What stands from a place on: the word there, and what stands from the next on.
+from-place : (words : List ℕ) (i : ℕ) {rest : List ℕ} → i < length words → rest ≡ drop (suc i) words → getD words i 0 ∷ rest ≡ drop i words
+from-place words i h e = ap (λ (r : List ℕ). getD words i 0 ∷ r) e ∙ sym (drop-cons words i 0 h)
+
+-- Eight words are those at the eight places.
+pub eight-words : (words : List ℕ) → length words ≡ 8 → getD words 0 0 ∷ getD words 1 0 ∷ getD words 2 0 ∷ getD words 3 0 ∷ getD words 4 0 ∷ getD words 5 0 ∷ getD words 6 0 ∷ getD words 7 0 ∷ [] ≡ words
+eight-words words h =
+    from-place words 0 (omega arith)
+    (from-place words 1 (omega arith)
+    (from-place words 2 (omega arith)
+    (from-place words 3 (omega arith)
+    (from-place words 4 (omega arith)
+    (from-place words 5 (omega arith)
+    (from-place words 6 (omega arith)
+    (from-place words 7 (omega arith) (sym (drop-of-length-le words {i = 8} (omega arith))))))))))
 
 -- A line that the row has is eight words.
 pub length-lineOf : (row : List ℕ) (l : ℕ) → lineStart l + 8 ≤ length row → length (lineOf row l) ≡ 8

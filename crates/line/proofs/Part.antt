@@ -28,6 +28,10 @@ pub back-line : (row : List ℕ) (l : ℕ) {last words : List ℕ} → last ≡ 
 unfolding withLine
 back-line row l e = rw (span l, e)
 
+-- A part given back as it was lent of another row is that row's line stored.
+pub line-filled : (row other : List ℕ) (l : ℕ) {last : List ℕ} → last ≡ lent other l → back row l last ≡ withLine row l (lineOf other l)
+line-filled row other l e = back-line row l (e ∙ lent-line other l)
+
 module _ (row : List ℕ) (c : ℕ) (f : Field) {l : ℕ} (e : l ≡ cellLine c) where
   -- A cell's word, read in the part, is its field.
   pub field-read : {v : ℕ} → v ≡ getD (lent row l) (cellWord c + fieldOffset f) 0 → v ≡ fieldOf row c f

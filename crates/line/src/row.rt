@@ -16,6 +16,32 @@ pub fn copy(to: &mut [u64], from: &[u64])
     }
 }
 
+// A line's eight words, read out of its part.
+fn words_of(part: &[u64]) -> [u64; 8]
+    requires { ⌜ length (now part) ≡ 8 ⌝ }
+    ensures { λ r. ⌜ r ≡ now (part .entry) ⌝ }
+{
+    [
+        part[0],
+        part[1],
+        part[2],
+        part[3],
+        part[4],
+        part[5],
+        part[6],
+        part[7],
+    ]
+}
+
+// A line's part filled from another. All eight words are read before one is stored, so that they can move at once.
+fn fill(to: &mut [u64], from: &[u64])
+    requires { ⌜ (length (now to) ≡ 8) × (length (now from) ≡ 8) ⌝ }
+    ensures { λ _. ⌜ now (to .exit) ≡ now (from .entry) ⌝ }
+{
+    let words = words_of(from);
+    copy(to, &words);
+}
+
 // Write-back: the memory row's part is filled from the cache's.
 pub fn write_back(memory: &mut [u64], cache: &[u64], line: usize)
     requires { ⌜ (lineStart line + 8 ≤ length (now memory)) × (lineStart line + 8 ≤ length (now cache)) ⌝ }
@@ -23,7 +49,7 @@ pub fn write_back(memory: &mut [u64], cache: &[u64], line: usize)
 {
     let start = 8 * line;
     let end = start + 8;
-    copy(&mut memory[start..end], &cache[start..end]);
+    fill(&mut memory[start..end], &cache[start..end]);
 }
 
 // Eight given words, stored in a line.
