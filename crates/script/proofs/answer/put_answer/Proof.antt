@@ -1,10 +1,10 @@
--- `script::answer::put_line` meets its contract: the parts of `answerText` are written one after the other.
+-- `script::answer::put_answer` meets its contract: the parts of `answerText` are written one after the other.
 use native.Mathlib.Omega.{arith}
 use borrow.Author.Needs.{needs}
 use Rattle.script.specs.Answers.{answerText}
 use Rattle.script.proofs.TextLaws.{and-then}
-use Rattle.script.proofs.answer.put_line.Statement.{statement}
-use Rattle.script.proofs.answer.put_line.Tie as tie
+use Rattle.script.proofs.answer.put_answer.Statement.{statement}
+use Rattle.script.proofs.answer.put_answer.Tie as tie
 
 returns : tie.Need-returns
 unfolding answerText
@@ -24,10 +24,10 @@ returns c =
     let t4 = and-then t3 (c4 .put-shown .ensures .0) (omega arith) in
     let t5 = and-then t4 (c5 .put-byte4 .ensures) (omega arith) in
     let t6 = and-then t5 (c6 .put-shown2 .ensures .0) (omega arith) in
-    and-then t6 (c7 .put-byte5 .ensures) (omega arith)
+    (and-then t6 (c7 .put-byte5 .ensures) (omega arith), omega arith)
 
-pub put-line-spec : {M : Type 1} → statement M
-put-line-spec =
+pub put-answer-spec : {M : Type 1} → statement M
+put-answer-spec =
     tie.close
     (tie.spec (search needs) (search needs) (search needs) (search needs) (search needs) (search needs) (search needs)
     (search needs) (search needs) returns)
