@@ -1,0 +1,2 @@
+// The shell of the programs: a script on standard input, its answers on standard output.
+pub mod session;
