@@ -2,3 +2,6 @@
 pub mod Parts
 pub mod Acts
 pub mod Formats
+pub mod Feeds
+pub mod Ends
+pub mod Pieces

@@ -27,7 +27,7 @@ returns-4 c =
     let a = c .before .before .before .before .args in
     let w = c .cut .ensures .0 in (
       acted _ _ _ (c .before .before .enum-told .given .1)
-      (cut-off (a .session) (c .cut .result) (a .memory .now) (a .cache .now) (a .entries .now) (c .cut .last .1 .0) (search needs) w (c .cut .ensures .1)),
+          (cut-off (a .session) (c .cut .result) (a .memory .now) (a .cache .now) (a .entries .now) (c .cut .last .1 .0) (search needs) w (c .cut .ensures .1)),
       same-within refl (w .1, w .2, w .3) (c .before .before .before .before .pre),
     )
 

@@ -60,9 +60,9 @@ returns-2 c =
     let r = c .before .before .before .before .before .before .format-rows in
     let within = bound sized in (
       format-up (a .lines) (a .workers) (a .session .state) (r .result) (boardOf (a .session) (a .memory .now) (a .cache .now) (a .entries .now))
-      (a .memory .now) (a .cache .now) (a .entries .now) (r .last .1 .0) (r .last .1 .1 .0) (r .last .1 .1 .1 .0) (inside sized) refl
-      (slice-relend-prefix-format-rows sized) (slice-relend-prefix-format-rows-2 (c .before .before .before .before .before .before .before .before .before)) (slice-relend-prefix-format-rows-3 (c .before .before .before .before .before .before .before .before))
-      (r .kept .1 .0) (r .kept .1 .1 .0) (r .kept .1 .1 .1 .0) (r .ensures),
+          (a .memory .now) (a .cache .now) (a .entries .now) (r .last .1 .0) (r .last .1 .1 .0) (r .last .1 .1 .1 .0) (inside sized) refl
+          (slice-relend-prefix-format-rows sized) (slice-relend-prefix-format-rows-2 (c .before .before .before .before .before .before .before .before .before)) (slice-relend-prefix-format-rows-3 (c .before .before .before .before .before .before .before .before))
+          (r .kept .1 .0) (r .kept .1 .1 .0) (r .kept .1 .1 .1 .0) (r .ensures),
       record { memory-within = omega (arith, within); cache-within = omega (arith, within); list-within = omega (arith, within) },
     )
 
