@@ -5,3 +5,5 @@ pub mod Formats
 pub mod Feeds
 pub mod Ends
 pub mod Pieces
+pub mod Theorems
+pub mod Sample

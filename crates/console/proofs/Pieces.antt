@@ -20,7 +20,7 @@ use Rattle.console.specs.Pieces.{Carried, carried, Fed, leaving, kept, e
 
 -- ---- the bytes kept of a line
 
-take-again : (n : ℕ) (u z : List ℕ) → take n (take n u ++ z) ≡ take n (u ++ z)
+pub take-again : (n : ℕ) (u z : List ℕ) → take n (take n u ++ z) ≡ take n (u ++ z)
 take-again zero u z = refl
 take-again (suc n) [] z = refl
 take-again (suc n) (a ∷ u) z = ap (λ (l : List ℕ). a ∷ l) (take-again n u z)

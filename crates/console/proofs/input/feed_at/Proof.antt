@@ -1,4 +1,4 @@
--- `console::line::feed_at` meets its contract. The invariant: the line that goes on at `from` ends where the one that goes on at `i` does.
+-- `console::input::feed_at` meets its contract. The invariant: the line that goes on at `from` ends where the one that goes on at `i` does.
 use Prim.Native.Nat.{_+_, _-_, _≤_}
 use mathlib.Core.Path.{_≡_}
 use native.Mathlib.Omega.{arith}
@@ -8,8 +8,8 @@ use borrow.Author.Needs.{needs}
 use Rattle.bytes.specs.Bytes.{indexOf}
 use Rattle.script.specs.Ascii.{feed}
 use Rattle.console.proofs.Feeds.{feed-here, feed-later, feed-end}
-use Rattle.console.proofs.line.feed_at.Statement.{statement}
-use Rattle.console.proofs.line.feed_at.Tie as tie
+use Rattle.console.proofs.input.feed_at.Statement.{statement}
+use Rattle.console.proofs.input.feed_at.Tie as tie
 
 abbrev Inv-loop : tie.InvT-loop
 Inv-loop text from i₀ i = (from ≤ i) × (i ≤ length text) × (i + indexOf feed (drop i text) ≡ from + indexOf feed (drop from text))

@@ -1,4 +1,4 @@
--- `console::line::keep` meets its contract: all of `more` is put behind the bytes kept, or as much as there is room for.
+-- `console::input::keep` meets its contract: all of `more` is put behind the bytes kept, or as much as there is room for.
 use mathlib.Core.Path.{refl, sym, _∙_}
 use native.Mathlib.Omega.{arith}
 use lib.ListN.{length}
@@ -6,8 +6,8 @@ use Prim.Native.Nat.{_-_}
 use lib.Seq.{take-all, take-length}
 use borrow.Author.Needs.{needs}
 use Rattle.console.proofs.Feeds.{kept-line}
-use Rattle.console.proofs.line.keep.Statement.{statement}
-use Rattle.console.proofs.line.keep.Tie as tie
+use Rattle.console.proofs.input.keep.Statement.{statement}
+use Rattle.console.proofs.input.keep.Tie as tie
 
 returns : tie.Need-returns
 returns c =

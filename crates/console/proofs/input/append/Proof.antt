@@ -1,4 +1,4 @@
--- `console::line::append` meets its contract, from what `bytes::copy` says of the part.
+-- `console::input::append` meets its contract, from what `bytes::copy` says of the part.
 use Prim.Native.Nat.{ℕ, _+_}
 use mathlib.Core.Path.{ap, _∙_}
 use native.Mathlib.Omega.{arith}
@@ -6,8 +6,8 @@ use lib.ListN.{take, length-take, length-drop}
 use lib.Seq.{length-take-le}
 use borrow.Author.Needs.{needs}
 use Rattle.console.proofs.Parts.{part-size, appended}
-use Rattle.console.proofs.line.append.Statement.{statement}
-use Rattle.console.proofs.line.append.Tie as tie
+use Rattle.console.proofs.input.append.Statement.{statement}
+use Rattle.console.proofs.input.append.Tie as tie
 
 slice-aggregate-copy : tie.Need-slice-aggregate-copy
 slice-aggregate-copy c = part-size _ _ (omega arith)
