@@ -5,7 +5,7 @@ use Prim.Native.Nat.{ℕ}
 use lib.ListN.{replicate}
 use Rattle.board.specs.declared.Call.the-variants.{Step, Update, RestartPoint, Read}
 use Rattle.script.specs.declared.Line.{Line}
-use Rattle.script.specs.declared.Line.the-variants.{Format, Make, Cut, Unknown}
+use Rattle.script.specs.declared.Line.the-variants.{Format, Make, Show, Cut, Unknown}
 use Rattle.script.specs.declared.Shown.the-variants as shown
 use Rattle.script.specs.Ascii.{tab, feed, '-', '0', '9', '?', 'A', 'F', 'G', 'P', 'S', 'U', 'X'}
 use Rattle.script.specs.Grammar.{fields, allDigits, valueAfter, isNumber, allNumbers, command, formed, meaning}
@@ -32,7 +32,7 @@ examples =
     row ('S' ∷ []) (Make Step) ∷
     row ('X' ∷ []) Cut ∷
     -- "G 01": leading zeros are allowed.
-    row ('G' ∷ tab ∷ '0' ∷ 49 ∷ []) (Make (Read 1)) ∷
+    row ('G' ∷ tab ∷ '0' ∷ 49 ∷ []) (Show (Read 1)) ∷
     -- An empty line.
     row [] Unknown ∷
     -- "A 0" and "S" with a tab behind them: an empty field.
@@ -47,10 +47,10 @@ examples =
     row ('G' ∷ tab ∷ '-' ∷ 49 ∷ []) Unknown ∷
     row (115 ∷ []) Unknown ∷
     -- 2^64 − 1, and one more.
-    row ('G' ∷ tab ∷ most) (Make (Read 18446744073709551615)) ∷
+    row ('G' ∷ tab ∷ most) (Show (Read 18446744073709551615)) ∷
     row ('G' ∷ tab ∷ 49 ∷ 56 ∷ 52 ∷ 52 ∷ 54 ∷ 55 ∷ 52 ∷ 52 ∷ 48 ∷ 55 ∷ 51 ∷ 55 ∷ 48 ∷ 57 ∷ 53 ∷ 53 ∷ 49 ∷ 54 ∷ 49 ∷ 54 ∷ []) Unknown ∷
     -- 79 bytes, most of them leading zeros, and 80.
-    row ('G' ∷ tab ∷ (replicate 57 '0' ++ most)) (Make (Read 18446744073709551615)) ∷
+    row ('G' ∷ tab ∷ (replicate 57 '0' ++ most)) (Show (Read 18446744073709551615)) ∷
     row ('G' ∷ tab ∷ (replicate 58 '0' ++ most)) Unknown ∷
     []
 

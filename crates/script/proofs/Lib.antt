@@ -1,7 +1,6 @@
 -- `FieldLaws` has what is true of a line's fields, `NumberLaws` of decimal numbers and of the numbers read, `TextLaws` of what is written;
--- `CallColumn` says that the call column shows the line's letter, `Examples` has worked lines.
+-- `Examples` has worked lines.
 pub mod FieldLaws
 pub mod NumberLaws
 pub mod TextLaws
-pub mod CallColumn
 pub mod Examples

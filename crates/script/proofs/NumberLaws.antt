@@ -7,9 +7,9 @@ use native.Mathlib.Omega.{arith}
 use native.Mathlib.Numerals.{add-one}
 use lib.Dec.{leb, ltb}
 use lib.ListN.{length, take, drop, getD, drop-of-length-le}
-use lib.Seq.{drop-cons}
-use borrow.Author.Tests.{lt-ltb, le-ltb, le-leb, lt-leb}
-use Rattle.board.proofs.Laws.Bools.{chosen, passedOver, and-off-right, and-both}
+use lib.Seq.{drop-cons, length-take-le, take-all}
+use borrow.Author.Tests.{ltb-true, ltb-false, lt-ltb, le-ltb, le-leb, lt-leb}
+use Rattle.board.proofs.Laws.Bools.{split, chosen, passedOver, and-off-right, and-both}
 use Rattle.script.specs.declared.Line.{Line}
 use Rattle.script.specs.declared.Line.the-variants.{Unknown}
 use Rattle.script.specs.declared.Number.{Number}
@@ -172,3 +172,11 @@ meaning-letter s h e =
     ∙ ap (λ (k : ℕ). formed (first s ∷ later (drop k s))) e
     ∙ ap (λ (f : List ℕ). formed (f ∷ later (drop 1 s))) (first-single s e)
     ∙ sym (asked-all (getD s 0 0) (later (drop 1 s)))
+
+-- The first 80 bytes of a line say what it means.
+pub meaning-kept : (s : List ℕ) → meaning (take 80 s) ≡ meaning s
+meaning-kept s =
+    split (ltb 79 (length s))
+    (λ t. let long : 79 < length s = ltb-true 79 (length s) t in
+    meaning-long (take 80 s) (omega (arith, length-take-le 80 s (omega arith))) ∙ sym (meaning-long s long))
+    (λ t. ap meaning (take-all 80 s (omega (arith, ltb-false 79 (length s) t))))

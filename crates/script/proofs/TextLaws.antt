@@ -3,14 +3,13 @@ use Prim.Native.Nat.{ℕ, zero, suc, _+_, _-_, _/_, _%_, _^_, _≤_, _<_}
 use mathlib.Core.Path.{_≡_, sym, ap, _∙_, subst}
 use mathlib.Core.List.{List, [], _∷_, _++_, append-assoc}
 use native.Mathlib.Omega.{arith}
-use native.Mathlib.Nat.{pow-suc, zero-add, mod-eq-of-lt}
+use native.Mathlib.Nat.{pow-suc, mod-eq-of-lt}
 use native.Mathlib.Numerals.{sub-one, add-one}
 use lib.Dec.{ltb}
 use lib.Pow.{pow-add}
 use lib.ListN.{length, take, drop, length-append, set}
 use lib.Seq.{paste, length-take-le, take-at, drop-at, drop-drop, set-split, append-snoc, take-length}
 use borrow.Author.Tests.{lt-ltb, le-ltb, ltb-true, ltb-false}
-use Rattle.io.specs.Counts.{Counts}
 use Rattle.io.specs.Digits.{glyph, digits, Fewest}
 use Rattle.board.proofs.Laws.Bools.{split, chosen, passedOver}
 use Rattle.script.specs.declared.Shown.{Shown}
@@ -116,10 +115,8 @@ put-set row at b h =
 pub put-paste : (row : List ℕ) (at : ℕ) (text : List ℕ) → paste row at text (length text) ≡ put row at text
 put-paste row at text = ap (λ (l : List ℕ). take at row ++ l ++ drop (at + length text) row) (take-length text)
 
--- What is written from the start is the text and the rest of the row, and the text is counted.
-pub put-start : {row text after : List ℕ} {end : ℕ} → Put row 0 text after end → (end ≡ length text) × ((after ≡ text ++ drop end row) × Counts end after)
-put-start {row} {text} {after} {end} p =
-    let size : end ≡ length text = p .ends ∙ zero-add (length text) in
-    let whole : after ≡ text ++ drop end row = p .holds ∙ ap (λ (k : ℕ). text ++ drop k row) (sym (p .ends)) in
-    let part : take end after ≡ text = ap (take end) whole ∙ take-at text (drop end row) end (sym size) in
-    (size, (whole, (omega (arith, ap length whole, length-append text (drop end row)), size ∙ sym (ap length part))))
+-- The row up to the end of a text written into it.
+pub put-front : {row text after : List ℕ} {at end : ℕ} → Put row at text after end → at + length text ≤ length row → take end after ≡ take at row ++ text
+put-front {row} {text} {after} {at} {end} p h =
+    ap (take end) (p .holds)
+    ∙ take-at (take at row ++ text) (drop (at + length text) row) end (put-length row at text h ∙ sym (p .ends))

@@ -3,13 +3,12 @@ use Prim.Native.Nat.{ℕ, zero, suc, _+_, _/_, _%_}
 use mathlib.Core.List.{List, [], _∷_, _++_}
 use mathlib.Core.Bool.{cond}
 use lib.Dec.{ltb}
-use Rattle.board.specs.declared.Call.{Call}
-use Rattle.board.specs.declared.Call.the-variants.{FormatStart, RecoveryStart, Step, Update, RestartPoint, Advance, Request, WriteBack, Read}
+use lib.ListN.{getD}
 use Rattle.script.specs.declared.Line.{Line}
 use Rattle.script.specs.declared.Line.the-variants as line
 use Rattle.script.specs.declared.Shown.{Shown}
 use Rattle.script.specs.declared.Shown.the-variants as shown
-use Rattle.script.specs.Ascii.{tab, feed, '-', '0', '?', 'A', 'C', 'E', 'F', 'G', 'P', 'R', 'S', 'U', 'X'}
+use Rattle.script.specs.Ascii.{tab, feed, '-', '0', '?'}
 
 -- A number's digits without leading zeros; `most` bounds how many there are.
 unfoldable pub spelled : ℕ → ℕ → List ℕ
@@ -36,21 +35,10 @@ abbrev pub headerText : List ℕ
 headerText =
     (108 ∷ 105 ∷ 110 ∷ 101 ∷ []) ++ (tab ∷ []) ++ (99 ∷ 97 ∷ 108 ∷ 108 ∷ []) ++ (tab ∷ []) ++ (97 ∷ 110 ∷ 115 ∷ 119 ∷ 101 ∷ 114 ∷ []) ++ (tab ∷ []) ++ (118 ∷ 97 ∷ 108 ∷ 117 ∷ 101 ∷ []) ++ (feed ∷ [])
 
--- The call column of one call of the board.
-abbrev pub callLetter : Call → ℕ
-callLetter (FormatStart l w) = 'F'
-callLetter RecoveryStart = 'R'
-callLetter Step = 'S'
-callLetter (Update w c v) = 'U'
-callLetter (RestartPoint w v) = 'P'
-callLetter (Advance w) = 'A'
-callLetter Request = 'C'
-callLetter (WriteBack l) = 'E'
-callLetter (Read c) = 'G'
-
--- The call column of a line.
-abbrev pub letterOf : Line → ℕ
-letterOf (line.Format l w) = 'F'
-letterOf (line.Make call) = callLetter call
-letterOf line.Cut = 'X'
-letterOf line.Unknown = '?'
+-- The call column: the line's own first byte, `?` where the line is unknown.
+abbrev pub letterOf : List ℕ → Line → ℕ
+letterOf text (line.Format l w) = getD text 0 0
+letterOf text (line.Make call) = getD text 0 0
+letterOf text (line.Show call) = getD text 0 0
+letterOf text line.Cut = getD text 0 0
+letterOf text line.Unknown = '?'

@@ -6,7 +6,7 @@ use lib.Dec.{leb, ltb, eqb}
 use lib.ListN.{length}
 use Rattle.board.specs.declared.Call.the-variants.{RecoveryStart, Step, Update, RestartPoint, Advance, Request, WriteBack, Read}
 use Rattle.script.specs.declared.Line.{Line}
-use Rattle.script.specs.declared.Line.the-variants.{Format, Make, Cut, Unknown}
+use Rattle.script.specs.declared.Line.the-variants.{Format, Make, Show, Cut, Unknown}
 use Rattle.script.specs.Ascii.{tab, '0', '9', 'A', 'C', 'E', 'F', 'G', 'P', 'R', 'S', 'U', 'X'}
 
 -- A byte put in front of the first field.
@@ -49,7 +49,7 @@ command letter [] =
     cond (eqb letter 'C') (Make Request) (cond (eqb letter 'S') (Make Step) (cond (eqb letter 'X') Cut (cond (eqb letter 'R') (Make RecoveryStart) Unknown)))
 -- "A worker", "E line", "G cell (read)".
 command letter (a ∷ []) =
-    cond (eqb letter 'A') (Make (Advance a)) (cond (eqb letter 'E') (Make (WriteBack a)) (cond (eqb letter 'G') (Make (Read a)) Unknown))
+    cond (eqb letter 'A') (Make (Advance a)) (cond (eqb letter 'E') (Make (WriteBack a)) (cond (eqb letter 'G') (Show (Read a)) Unknown))
 -- "F L W (format to the end)", "P worker number".
 command letter (a ∷ b ∷ []) =
     cond (eqb letter 'F') (Format a b) (cond (eqb letter 'P') (Make (RestartPoint a b)) Unknown)

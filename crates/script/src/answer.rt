@@ -1,42 +1,24 @@
 // One line of the answer as text.
 ghost use mathlib.Core.Path.{_≡_};
-ghost use mathlib.Core.List.{[], _∷_, _++_};
+ghost use mathlib.Core.List.{[], _∷_};
 ghost use Prim.Native.Nat.{_+_, _<_, _≤_};
-ghost use lib.ListN.{length, drop};
-ghost use Rattle.io.specs.Counts.{Counts};
-ghost use Rattle.script.specs.Answers.{numberText, shownText, answerText, headerText, callLetter, letterOf};
+ghost use lib.ListN.{length};
+ghost use Rattle.script.specs.Answers.{numberText, shownText, answerText, headerText, letterOf};
 ghost use Rattle.script.specs.Writing.{put, Put};
 use crate::Line;
 use crate::Shown;
-use board::Call;
 
-// The call column of one call of the board.
-fn call_letter(call: Call) -> u8
-    ensures { λ r. ⌜ r ≡ callLetter call ⌝ }
+// The call column: the line's own first byte, `?` where the line is unknown.
+pub fn letter(line: &[u8], asked: Line) -> u8
+    ensures { λ r. ⌜ r ≡ letterOf (now (line .entry)) asked ⌝ }
 {
-    match call {
-        Call::FormatStart { .. } => b'F',
-        Call::RecoveryStart => b'R',
-        Call::Step => b'S',
-        Call::Update { .. } => b'U',
-        Call::RestartPoint { .. } => b'P',
-        Call::Advance { .. } => b'A',
-        Call::Request => b'C',
-        Call::WriteBack { .. } => b'E',
-        Call::Read { .. } => b'G',
+    if let Line::Unknown = asked {
+        return b'?';
     }
-}
-
-// The call column of a line.
-pub fn letter(line: Line) -> u8
-    ensures { λ r. ⌜ r ≡ letterOf line ⌝ }
-{
-    match line {
-        Line::Format { .. } => b'F',
-        Line::Make { call } => call_letter(call),
-        Line::Cut => b'X',
-        Line::Unknown => b'?',
+    if line.len() == 0 {
+        return 0;
     }
+    line[0]
 }
 
 // "line call answer value".
@@ -90,12 +72,19 @@ fn put_shown(out: &mut [u8], at: usize, shown: Shown) -> usize
     }
 }
 
-// The parts of one line of the answer, one after the other; at most 65 bytes.
-fn put_line(out: &mut [u8], number: u64, call: u8, answer: Shown, value: Shown) -> usize
-    requires { ⌜ 65 ≤ length (now out) ⌝ }
-    ensures { λ r. ⌜ Put (now (out .entry)) 0 (answerText number call answer value) (now (out .exit)) r ⌝ }
+// One line of the answer, written from `at` on; at most 65 bytes. Gives where it ends.
+pub fn put_answer(
+    out: &mut [u8],
+    at: usize,
+    number: u64,
+    call: u8,
+    answer: Shown,
+    value: Shown,
+) -> usize
+    requires { ⌜ at + 65 ≤ length (now out) ⌝ }
+    ensures { λ r. ⌜ Put (now (out .entry)) at (answerText number call answer value) (now (out .exit)) r × (r ≤ at + 65) ⌝ }
 {
-    let a = put_number(out, 0, number);
+    let a = put_number(out, at, number);
     let b = put_byte(out, a, b'\t');
     let c = put_byte(out, b, call);
     let d = put_byte(out, c, b'\t');
@@ -103,13 +92,4 @@ fn put_line(out: &mut [u8], number: u64, call: u8, answer: Shown, value: Shown) 
     let f = put_byte(out, e, b'\t');
     let g = put_shown(out, f, value);
     put_byte(out, g, b'\n')
-}
-
-// One line of the answer at the start of `out`; gives its length. For an unknown line call and answer are `?`.
-pub fn answer_line(out: &mut [u8; 80], number: u64, call: u8, answer: Shown, value: Shown) -> usize
-    ensures { λ r. ⌜ r ≡ length (answerText number call answer value) ⌝ }
-    ensures { λ r. ⌜ now (out .exit) ≡ answerText number call answer value ++ drop r (now (out .entry)) ⌝ }
-    ensures { λ r. ⌜ Counts r (now (out .exit)) ⌝ }
-{
-    put_line(out, number, call, answer, value)
 }

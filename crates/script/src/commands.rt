@@ -37,7 +37,7 @@ fn with_one(letter: u8, a: u64) -> Line
         b'E' => Line::Make {
             call: Call::WriteBack { line: a },
         },
-        b'G' => Line::Make {
+        b'G' => Line::Show {
             call: Call::Read { cell: a },
         },
         _ => Line::Unknown,

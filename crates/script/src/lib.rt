@@ -3,17 +3,19 @@ mod answer;
 mod commands;
 mod fields;
 
-pub use answer::answer_line;
 pub use answer::header;
 pub use answer::letter;
+pub use answer::put_answer;
 use board::Call;
 pub use commands::parse;
 pub use fields::number as decimal;
 
-// What a line of the script asks for: a format to the end, one call of the board, a cut, or nothing that is known.
+// What a line of the script asks for: a format to the end, one call of the board, one call whose value is shown, a cut,
+// or nothing that is known.
 pub enum Line {
     Format { lines: u64, workers: u64 },
     Make { call: Call },
+    Show { call: Call },
     Cut,
     Unknown,
 }

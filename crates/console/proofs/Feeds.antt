@@ -1,0 +1,42 @@
+-- Where a line ends, and what is kept of a line that goes on.
+use Prim.Native.Nat.{ℕ, suc, _+_, _-_, _≤_, _<_}
+use mathlib.Core.Path.{_≡_, sym, ap, _∙_}
+use mathlib.Core.Bool.{Bool}
+use mathlib.Core.List.{List, _++_}
+use native.Mathlib.Omega.{arith}
+use lib.ListN.{length, take, drop, getD, drop-of-length-le}
+use lib.Seq.{drop-cons, length-take-le, take-append-add}
+use borrow.Author.Tests.{eq-eqb, ne-eqb}
+use Rattle.bytes.specs.Bytes.{indexOf, indexAfter}
+use Rattle.script.specs.Ascii.{feed}
+use Rattle.script.specs.Writing.{put}
+use Rattle.script.proofs.TextLaws.{put-front}
+
+-- At a line feed the line is over.
+pub feed-here : (s : List ℕ) (i : ℕ) → i < length s → getD s i 0 ≡ feed → indexOf feed (drop i s) ≡ 0
+unfolding indexOf indexAfter
+feed-here s i h e =
+    ap (indexOf feed) (drop-cons s i 0 h) ∙ ap (λ (t : Bool). indexAfter t (indexOf feed (drop (suc i) s))) (eq-eqb (getD s i 0) feed e)
+
+-- At any other byte it goes on.
+pub feed-later : (s : List ℕ) (i : ℕ) → i < length s → (getD s i 0 ≡ feed → ⊥) → indexOf feed (drop i s) ≡ suc (indexOf feed (drop (suc i) s))
+unfolding indexOf indexAfter
+feed-later s i h e =
+    ap (indexOf feed) (drop-cons s i 0 h) ∙ ap (λ (t : Bool). indexAfter t (indexOf feed (drop (suc i) s))) (ne-eqb (getD s i 0) feed e)
+
+-- At the text's end it is over.
+pub feed-end : (s : List ℕ) (i : ℕ) → length s ≤ i → indexOf feed (drop i s) ≡ 0
+unfolding indexOf
+feed-end s i h = ap (indexOf feed) (drop-of-length-le s h)
+
+-- The first `n` bytes of `more`, put behind the bytes kept, are all of it that is kept.
+pub kept-line : (line more after : List ℕ) (begun n end : ℕ) → length line ≡ 80 → begun + n ≤ 80 → n ≤ length more → take n more ≡ take (80 - begun) more → end ≡ begun + n → after ≡ put line begun (take n more) → take end after ≡ take 80 (take begun line ++ more)
+kept-line line more after begun n end size fits within all e p =
+    let front = take begun line in
+    let width : length (take n more) ≡ n = length-take-le n more within in
+    let start : length front ≡ begun = length-take-le begun line (omega arith) in
+    let room : length front + (80 - begun) ≡ 80 = omega arith in
+    put-front (record { ends = e ∙ ap (λ (k : ℕ). begun + k) (sym width); holds = p }) (omega arith)
+    ∙ ap (λ (t : List ℕ). front ++ t) all
+    ∙ sym (take-append-add front more (80 - begun))
+    ∙ ap (λ (k : ℕ). take k (front ++ more)) room

@@ -1,0 +1,73 @@
+-- A format to its end, and what turns one down.
+use Prim.Native.Nat.{ℕ, zero, suc, _+_, _-_, _≤_, _<_}
+use mathlib.Core.Path.{_≡_, refl, sym, ap, _∙_}
+use mathlib.Core.List.{List, _++_}
+use mathlib.Core.Bool.{true, false}
+use native.Mathlib.Omega.{arith}
+use native.Mathlib.Numerals.{sub-one}
+use lib.ListN.{length, take, drop, replicate, length-replicate}
+use lib.Seq.{length-take-le}
+use Rattle.board.specs.declared.State.{State}
+use Rattle.board.specs.declared.Call.the-variants.{FormatStart, Step}
+use Rattle.board.specs.Board.{Board, rowWords, listWords, linesOutside, workersOutside, outside}
+use Rattle.board.specs.Causes.{causes, cause, firstStanding}
+use Rattle.board.specs.Next.{lent, next, Taken}
+use Rattle.board.specs.Statements.{stepsFrom}
+use Rattle.board.proofs.Invariant.{Sizes}
+use Rattle.board.proofs.Laws.Bools.{chosen, passedOver, or-left}
+use Rattle.board.proofs.Laws.Taken.{Clear, take as taken-if, lines-in, rows-fine}
+use Rattle.script.specs.declared.Line.the-variants as line
+use Rattle.script.specs.declared.Shown.the-variants.{Nothing, Number}
+use Rattle.console.specs.Lines.{done, rowsFor, formatted, carriedOut}
+use Rattle.console.proofs.Acts.{board-back}
+
+-- One step fewer to go from the board that a step leaves.
+pub one-step : (n : ℕ) (b after : Board) → 0 < n → after ≡ next Step b → stepsFrom (n - 1) after ≡ stepsFrom n b
+unfolding stepsFrom
+one-step zero b after h e = absurd (omega arith)
+one-step (suc n) b after h e = ap (λ (k : ℕ). stepsFrom k after) (sub-one (suc n)) ∙ ap (stepsFrom n) e
+
+-- No step to go.
+pub no-step : (n : ℕ) (b : Board) → n ≡ 0 → stepsFrom n b ≡ b
+unfolding stepsFrom
+no-step n b e = ap (λ (k : ℕ). stepsFrom k b) e
+
+-- Limits that hold bound L.
+pub lines-within : (l w : ℕ) → outside l w ≡ false → l ≤ 511
+lines-within l w o = lines-in l (or-left (linesOutside l) (workersOutside l w) o) .1
+
+-- The answer 1 of a format whose limits fail is its start's own.
+pub refused-by-limits : (l w : ℕ) (b : Board) → outside l w ≡ true → cause (FormatStart l w) b ≡ 1
+unfolding cause causes firstStanding
+refused-by-limits l w b t = chosen (outside l w) 1 _ t
+
+-- The answer 0 of a format whose limits hold is its start's own.
+pub taken-within-limits : (l w : ℕ) (state : State) → outside l w ≡ false → Taken (FormatStart l w) (rowsFor l state)
+unfolding Clear causes
+taken-within-limits l w state o =
+    let sizes : Sizes l (rowsFor l state) = record {
+      limits = or-left (linesOutside l) (workersOutside l w) o;
+      memory = record { size = length-replicate (rowWords l) 0 };
+      cache = record { size = length-replicate (rowWords l) 0 };
+      entries = omega (arith, length-replicate {A = ℕ} (listWords l) 0);
+    } in
+    taken-if (FormatStart l w) (rowsFor l state) (o, (rows-fine l (rowsFor l state) sizes, tt))
+
+-- "A refused F changes nothing."
+pub format-down : (l w : ℕ) (b : Board) → outside l w ≡ true → done b (Number 1) Nothing ≡ carriedOut (line.Format l w) b
+format-down l w b o = sym (chosen (outside l w) _ _ o)
+
+-- A taken format leaves its last step's board, and rows of its size.
+pub format-up : (l w i k : ℕ) (state after : State) (b : Board) (m c e m′ c′ e′ : List ℕ) → i ≡ rowWords l → k ≡ listWords l → outside l w ≡ false → b .state ≡ state → i ≤ length m → i ≤ length c → k ≤ length e → length m′ ≡ length (take i m) → length c′ ≡ length (take i c) → length e′ ≡ length (take k e) → lent after m′ c′ e′ ≡ formatted l w (lent state (replicate (length (take i m)) 0) (replicate (length (take i c)) 0) (replicate (length (take k e)) 0)) → done (lent after (take i (m′ ++ drop i m)) (take i (c′ ++ drop i c)) (take k (e′ ++ drop k e))) (Number 0) Nothing ≡ carriedOut (line.Format l w) b
+format-up l w i k state after b m c e m′ c′ e′ words list o same im jc ke hm hc he did =
+    let sm = length-take-le i m im ∙ words in
+    let sc = length-take-le i c jc ∙ words in
+    let se = length-take-le k e ke ∙ list in
+    let zeros : lent state (replicate (length (take i m)) 0) (replicate (length (take i c)) 0) (replicate (length (take k e)) 0) ≡ rowsFor l (b .state) =
+    ap (λ (n : ℕ). lent state (replicate n 0) (replicate (length (take i c)) 0) (replicate (length (take k e)) 0)) sm
+    ∙ ap (λ (n : ℕ). lent state (replicate (rowWords l) 0) (replicate n 0) (replicate (length (take k e)) 0)) sc
+    ∙ ap (λ (n : ℕ). lent state (replicate (rowWords l) 0) (replicate (rowWords l) 0) (replicate n 0)) se
+    ∙ ap (rowsFor l) (sym same) in
+    ap (λ (x : Board). done x (Number 0) Nothing)
+    (board-back i i k m c e m′ c′ e′ im jc ke hm hc he after ∙ did ∙ ap (formatted l w) zeros)
+    ∙ sym (passedOver (outside l w) _ _ o)

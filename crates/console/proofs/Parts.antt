@@ -1,0 +1,68 @@
+-- The first words of a row: what the whole is once they come back, zeroed or written behind.
+use Prim.Native.Nat.{ℕ, _+_, _-_, _≤_, _<_}
+use mathlib.Core.Path.{_≡_, refl, sym, ap, _∙_}
+use mathlib.Core.List.{List, [], _++_, append-nil, append-assoc}
+use native.Mathlib.Omega.{arith}
+use lib.ListN.{length, take, drop, set, replicate, length-drop, length-set, length-replicate, replicate-append-replicate}
+use lib.Seq.{length-take-le, take-at, take-all, take-length, drop-drop, drop-length}
+use borrow.Author.Fill.{fill-none, fill-more}
+use borrow.Rule.Slice.PartMut.{midOf, putMid}
+use Rattle.script.specs.Writing.{put}
+
+-- A part of `n` words has `n` words.
+pub part-size : (n : ℕ) (row : List ℕ) → n ≤ length row → n ≡ length (take n row)
+part-size n row h = sym (length-take-le n row h)
+
+-- A part that comes back as long as it was stands where it was.
+pub part-back : (n : ℕ) (row part : List ℕ) → n ≤ length row → length part ≡ length (take n row) → take n (part ++ drop n row) ≡ part
+part-back n row part h e = take-at part (drop n row) n (e ∙ length-take-le n row h)
+
+-- The first of equal words are equal words.
+pub take-replicate : (n k v : ℕ) → n ≤ k → take n (replicate k v) ≡ replicate n v
+take-replicate n k v h =
+    let size : n + (k - n) ≡ k = omega arith in
+    ap (λ (j : ℕ). take n (replicate j v)) (sym size)
+    ∙ ap (take n) (sym (replicate-append-replicate n (k - n) v))
+    ∙ take-at (replicate n v) (replicate (k - n) v) n (length-replicate n v)
+
+-- ---- a row zeroed word by word
+
+-- The first `i` words are zeroed.
+pub record Zeroed (row now : List ℕ) (i : ℕ) : Type 0 where
+  pub within : i ≤ length row
+  pub holds : now ≡ replicate i 0 ++ drop i row
+  pub size : length now ≡ length row
+
+pub zeroed-none : (row : List ℕ) → Zeroed row row 0
+zeroed-none row = record { within = omega arith; holds = fill-none row 0; size = refl }
+
+pub zeroed-more : {row now : List ℕ} {i : ℕ} → Zeroed row now i → i < length row → Zeroed row (set now i 0) (i + 1)
+zeroed-more {row} {now} {i} z h =
+    record {
+      within = omega arith;
+      holds = ap (λ (r : List ℕ). set r i 0) (z .holds) ∙ fill-more i 0 row h;
+      size = length-set now i 0 ∙ z .size;
+    }
+
+pub zeroed-all : {row now : List ℕ} {i : ℕ} → Zeroed row now i → length row ≤ i → now ≡ replicate (length row) 0
+zeroed-all {row} {now} {i} z h =
+    let all : i ≡ length row = omega (arith, z .within) in
+    z .holds
+    ∙ ap (λ (k : ℕ). replicate k 0 ++ drop k row) all
+    ∙ ap (λ (l : List ℕ). replicate (length row) 0 ++ l) (drop-length row)
+    ∙ append-nil (replicate (length row) 0)
+
+-- ---- a text written behind others
+
+-- A text copied to the front of what lies behind `at` is the text written there.
+pub appended : (row : List ℕ) (at : ℕ) (text last : List ℕ) → at + length text ≤ length row → last ≡ take (length text) text ++ drop (length text) (midOf at (length row - at) row) → putMid at (length row - at) row last ≡ put row at text
+appended row at text last h e =
+    let size : length row - at ≡ length (drop at row) = sym (length-drop at row) in
+    let part : midOf at (length row - at) row ≡ drop at row = take-all (length row - at) (drop at row) (omega arith) in
+    let rest : drop (length row - at) (drop at row) ≡ [] = ap (λ (k : ℕ). drop k (drop at row)) size ∙ drop-length (drop at row) in
+    let behind : drop (length text) (midOf at (length row - at) row) ≡ drop (at + length text) row = ap (drop (length text)) part ∙ drop-drop (length text) at row in
+    let whole : last ≡ text ++ drop (at + length text) row =
+    e ∙ ap (λ (t : List ℕ). t ++ drop (length text) (midOf at (length row - at) row)) (take-length text) ∙ ap (λ (t : List ℕ). text ++ t) behind in
+    ap (λ (t : List ℕ). take at row ++ (last ++ t)) rest
+    ∙ ap (λ (t : List ℕ). take at row ++ t) (append-nil last ∙ whole)
+    ∙ sym (append-assoc (take at row) text (drop (at + length text) row))

@@ -1,0 +1,94 @@
+-- Document 01's sample script and bench case K12, computed.
+use Prim.Native.Nat.{ℕ}
+use mathlib.Core.Path.{_≡_, refl}
+use mathlib.Core.List.{List, [], _∷_, _++_, flatten}
+use Rattle.line.specs.Line.{lineOf, withLine}
+use Rattle.line.specs.Cell.{fieldIndex, fieldOf, withField}
+use Rattle.board.specs.State.{anyUnder}
+use Rattle.board.specs.Causes.{badRecord, causes, firstStanding, cause}
+use Rattle.board.specs.Effects.{formatStep, recoveryStep, actAt, performAct, step, advance, advanceOf, effect}
+use Rattle.board.specs.Next.{next, valueRead, valueOf}
+use Rattle.board.specs.Statements.{stepsFrom}
+use Rattle.script.specs.Ascii.{tab, feed, '-', '0', 'A', 'E', 'F', 'G', 'R', 'S', 'U', 'X'}
+use Rattle.script.specs.Grammar.{fields, allDigits, valueAfter, isNumber, allNumbers, command, formed, meaning}
+use Rattle.script.specs.Answers.{spelled, answerText, headerText}
+use Rattle.console.specs.declared.Program.the-variants.{Drill}
+use Rattle.console.specs.Transcript.{linesOf, answers, transcript}
+
+-- The digits beside '0' that the script and its answers have.
+abbrev '1' : ℕ
+'1' = 49
+
+abbrev '2' : ℕ
+'2' = 50
+
+abbrev '3' : ℕ
+'3' = 51
+
+abbrev '4' : ℕ
+'4' = 52
+
+abbrev '5' : ℕ
+'5' = 53
+
+abbrev '6' : ℕ
+'6' = 54
+
+abbrev '7' : ℕ
+'7' = 55
+
+abbrev '8' : ℕ
+'8' = 56
+
+abbrev '9' : ℕ
+'9' = 57
+
+-- "F 1 1", with tabs for blanks.
+abbrev format : List ℕ
+format = 'F' ∷ tab ∷ '1' ∷ tab ∷ '1' ∷ feed ∷ []
+
+-- "Lines `F 1 1`, `U 0 1 7`, `A 0` three times, `E 1`, `X`, `R`, `S` four times, `G 1`".
+unfoldable pub script : List (List ℕ)
+script =
+    format ∷
+    ('U' ∷ tab ∷ '0' ∷ tab ∷ '1' ∷ tab ∷ '7' ∷ feed ∷ []) ∷
+    ('A' ∷ tab ∷ '0' ∷ feed ∷ []) ∷
+    ('A' ∷ tab ∷ '0' ∷ feed ∷ []) ∷
+    ('A' ∷ tab ∷ '0' ∷ feed ∷ []) ∷
+    ('E' ∷ tab ∷ '1' ∷ feed ∷ []) ∷
+    ('X' ∷ feed ∷ []) ∷
+    ('R' ∷ feed ∷ []) ∷
+    ('S' ∷ feed ∷ []) ∷
+    ('S' ∷ feed ∷ []) ∷
+    ('S' ∷ feed ∷ []) ∷
+    ('S' ∷ feed ∷ []) ∷
+    ('G' ∷ tab ∷ '1' ∷ feed ∷ []) ∷
+    []
+
+-- What they print.
+unfoldable pub printed : List (List ℕ)
+printed =
+    ('1' ∷ tab ∷ 'F' ∷ tab ∷ '0' ∷ tab ∷ '-' ∷ feed ∷ []) ∷
+    ('2' ∷ tab ∷ 'U' ∷ tab ∷ '0' ∷ tab ∷ '-' ∷ feed ∷ []) ∷
+    ('3' ∷ tab ∷ 'A' ∷ tab ∷ '0' ∷ tab ∷ '-' ∷ feed ∷ []) ∷
+    ('4' ∷ tab ∷ 'A' ∷ tab ∷ '0' ∷ tab ∷ '-' ∷ feed ∷ []) ∷
+    ('5' ∷ tab ∷ 'A' ∷ tab ∷ '0' ∷ tab ∷ '-' ∷ feed ∷ []) ∷
+    ('6' ∷ tab ∷ 'E' ∷ tab ∷ '0' ∷ tab ∷ '-' ∷ feed ∷ []) ∷
+    ('7' ∷ tab ∷ 'X' ∷ tab ∷ '0' ∷ tab ∷ '-' ∷ feed ∷ []) ∷
+    ('8' ∷ tab ∷ 'R' ∷ tab ∷ '0' ∷ tab ∷ '-' ∷ feed ∷ []) ∷
+    ('9' ∷ tab ∷ 'S' ∷ tab ∷ '0' ∷ tab ∷ '-' ∷ feed ∷ []) ∷
+    ('1' ∷ '0' ∷ tab ∷ 'S' ∷ tab ∷ '0' ∷ tab ∷ '-' ∷ feed ∷ []) ∷
+    ('1' ∷ '1' ∷ tab ∷ 'S' ∷ tab ∷ '0' ∷ tab ∷ '-' ∷ feed ∷ []) ∷
+    ('1' ∷ '2' ∷ tab ∷ 'S' ∷ tab ∷ '0' ∷ tab ∷ '-' ∷ feed ∷ []) ∷
+    ('1' ∷ '3' ∷ tab ∷ 'G' ∷ tab ∷ '0' ∷ tab ∷ '0' ∷ feed ∷ []) ∷
+    []
+
+-- The sample script prints what document 01 says.
+pub sample : transcript Drill (flatten script) ≡ headerText ++ flatten printed
+unfolding script printed flatten linesOf answers fields allDigits valueAfter isNumber allNumbers command formed meaning spelled answerText next valueOf valueRead stepsFrom cause causes firstStanding badRecord anyUnder effect step formatStep recoveryStep actAt performAct advance advanceOf lineOf withLine fieldIndex fieldOf withField
+sample = refl
+
+-- "K12: update of cell 0 or 2 gives 7", "from a fresh format (1, 1)".
+pub k12 : transcript Drill (format ++ ('U' ∷ tab ∷ '0' ∷ tab ∷ '0' ∷ tab ∷ '7' ∷ feed ∷ []) ++ ('U' ∷ tab ∷ '0' ∷ tab ∷ '2' ∷ tab ∷ '7' ∷ feed ∷ [])) ≡ headerText ++ ('1' ∷ tab ∷ 'F' ∷ tab ∷ '0' ∷ tab ∷ '-' ∷ feed ∷ []) ++ ('2' ∷ tab ∷ 'U' ∷ tab ∷ '7' ∷ tab ∷ '-' ∷ feed ∷ []) ++ ('3' ∷ tab ∷ 'U' ∷ tab ∷ '7' ∷ tab ∷ '-' ∷ feed ∷ [])
+unfolding linesOf answers fields allDigits valueAfter isNumber allNumbers command formed meaning spelled answerText next valueOf valueRead stepsFrom cause causes firstStanding badRecord anyUnder effect step formatStep recoveryStep actAt performAct advance advanceOf lineOf withLine fieldIndex fieldOf withField
+k12 = refl

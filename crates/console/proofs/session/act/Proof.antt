@@ -1,0 +1,41 @@
+-- `console::session::act` meets its contract: each arm is told the line, and its contract is that line's.
+use mathlib.Core.Path.{refl}
+use native.Mathlib.Omega.{arith}
+use borrow.Author.Needs.{needs}
+use Rattle.console.specs.declared.session.Session.{Session}
+use Rattle.console.proofs.Acts.{acted, hidden, cut-off, same-within}
+use Rattle.console.proofs.session.act.Statement.{statement}
+use Rattle.console.proofs.session.act.Tie as tie
+
+returns : tie.Need-returns
+returns c = (acted _ _ _ (c .before .before .before .before .before .line .given .1) (c .format .ensures .0), c .format .ensures .1)
+
+returns-2 : tie.Need-returns-2
+returns-2 c =
+    let r = c .unshown in
+    let made = c .before .make in (
+      acted _ _ _ (c .before .before .before .before .before .before .line2 .given .1) (hidden _ (r .result) (made .result) _ _ _ _ (r .ensures) (made .ensures .0)),
+      same-within (r .ensures .0) (made .ensures .1) (c .before .before .before .before .before .before .before .before .pre),
+    )
+
+returns-3 : tie.Need-returns-3
+returns-3 c =
+    (acted _ _ _ (c .before .before .before .before .before .line3 .given .1) (c .make2 .ensures .0), same-within refl (c .make2 .ensures .1) (c .before .before .before .before .before .before .before .pre))
+
+returns-4 : tie.Need-returns-4
+returns-4 c =
+    let a = c .before .before .before .before .args in
+    let w = c .cut .ensures .0 in (
+      acted _ _ _ (c .before .before .enum-told .given .1)
+          (cut-off (a .session) (c .cut .result) (a .memory .now) (a .cache .now) (a .entries .now) (c .cut .last .1 .0) (search needs) w (c .cut .ensures .1)),
+      same-within refl (w .1, w .2, w .3) (c .before .before .before .before .pre),
+    )
+
+returns-5 : tie.Need-returns-5
+returns-5 c = (acted _ _ _ (c .enum-told2 .given .1) refl, c .before .before .pre)
+
+pub act-spec : {M : Type 1} → statement M
+act-spec =
+    tie.close
+    (tie.spec (search needs) (search needs) (search needs) (search needs) (search needs) (search needs) (search needs)
+    (search needs) (search needs) (search needs) returns returns-2 returns-3 returns-4 returns-5)

@@ -1,0 +1,26 @@
+-- `console::session::make` meets its contract: the parts lent are within the rows.
+use mathlib.Core.Path.{refl}
+use native.Mathlib.Omega.{arith}
+use borrow.Author.Needs.{needs}
+use Rattle.console.proofs.Parts.{part-size}
+use Rattle.console.proofs.Acts.{made}
+use Rattle.console.proofs.session.make.Statement.{statement}
+use Rattle.console.proofs.session.make.Tie as tie
+
+returns : tie.Need-returns
+returns c =
+    let start = c .before .before .before .before .before .before .before .before .before .before .before .before .before .before .before .before in
+    let a = start .args in
+    let s = a .session in
+    let p = c .before .before .before .before .before .before .before .before .perform in
+    let did = made (s .memory) (s .cache) (s .list) (a .memory .now) (a .cache .now) (a .entries .now)
+    (p .last .1 .1 .0) (p .last .1 .1 .1 .0) (p .last .1 .1 .1 .1 .0) (start .pre .memory-fits) (start .pre .cache-fits) (start .pre .list-fits)
+    (p .kept .1 .1 .0) (p .kept .1 .1 .1 .0) (p .kept .1 .1 .1 .1 .0)
+    (a .call) (s .state) (p .result .state) (p .result .number) (p .result .value) (p .ensures) in
+    (did, (refl, refl, refl))
+
+pub make-spec : {M : Type 1} → statement M
+make-spec =
+    tie.close
+    (tie.spec (search needs) (λ c. part-size _ _ (omega arith)) (search needs) (λ c. part-size _ _ (omega arith)) (search needs)
+    (λ c. part-size _ _ (omega arith)) (search needs) (search needs) (search needs) (search needs) (search needs) returns)

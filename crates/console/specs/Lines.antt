@@ -1,0 +1,69 @@
+-- Document 01, "The drill program": what a line of the script does to the board, and what is shown of it.
+use Prim.Native.Nat.{ℕ}
+use mathlib.Core.Path.{_≡_}
+use mathlib.Core.Bool.{cond}
+use mathlib.Core.List.{List}
+use lib.ListN.{length, replicate}
+use Rattle.board.specs.declared.State.{State}
+use Rattle.board.specs.declared.Phase.the-variants.{Off}
+use Rattle.board.specs.declared.Call.the-variants.{FormatStart}
+use Rattle.board.specs.Board.{Board, rowWords, listWords, outside}
+use Rattle.board.specs.Causes.{cause}
+use Rattle.board.specs.Next.{lent, next, valueOf}
+use Rattle.board.specs.Machine.{formatSteps}
+use Rattle.board.specs.Statements.{stepsFrom}
+use Rattle.script.specs.declared.Line.{Line}
+use Rattle.script.specs.declared.Line.the-variants as line
+use Rattle.script.specs.declared.Shown.{Shown}
+use Rattle.script.specs.declared.Shown.the-variants.{Unknown, Nothing, Number}
+use Rattle.console.specs.declared.session.Session.{Session}
+use Rattle.console.specs.declared.session.Answered.{Answered}
+use Rattle.console.specs.Session.{boardOf}
+
+-- What a line leaves and shows: the board, the answer and the value.
+pub record Done : Type 0 where
+  pub board : Board
+  pub answer : Shown
+  pub value : Shown
+
+-- What is left and shown, put together.
+abbrev pub done : Board → Shown → Shown → Done
+done board answer value = record { board = board; answer = answer; value = value }
+
+-- "Rows are sized by the last taken F": rows made anew for L lines, all 0.
+abbrev pub rowsFor : ℕ → State → Board
+rowsFor l state = lent state (replicate (rowWords l) 0) (replicate (rowWords l) 0) (replicate (listWords l) 0)
+
+-- "F L W (format to the end)": the start, and its L+2 steps.
+abbrev pub formatted : ℕ → ℕ → Board → Board
+formatted l w b = stepsFrom (formatSteps l) (next (FormatStart l w) b)
+
+-- "phase off", all else as it was.
+abbrev pub switchedOff : State → State
+switchedOff s =
+    record { phase = Off; lines = s .lines; workers = s .workers; listed = s .listed; place = s .place; undo = s .undo; requested = s .requested; worker = s .worker }
+
+-- "X (cut: cache zeroed, phase off, answer 0)".
+abbrev pub cutOff : Board → Board
+cutOff b = lent (switchedOff (b .state)) (b .memory) (replicate (length (b .cache)) 0) (b .entries)
+
+-- What a line does. A format is turned down by its limits alone, and then changes nothing. "A G turned down prints value 0".
+abbrev pub carriedOut : Line → Board → Done
+carriedOut (line.Format l w) b =
+    cond (outside l w) (done b (Number 1) Nothing) (done (formatted l w (rowsFor l (b .state))) (Number 0) Nothing)
+carriedOut (line.Make call) b = done (next call b) (Number (cause call b)) Nothing
+carriedOut (line.Show call) b = done (next call b) (Number (cause call b)) (Number (valueOf call b))
+carriedOut line.Cut b = done (cutOff b) (Number 0) Nothing
+carriedOut line.Unknown b = done b Unknown Nothing
+
+-- ---- what contracts say
+
+-- What the code leaves and shows.
+abbrev pub left : Answered → List ℕ → List ℕ → List ℕ → Done
+left r memory cache entries = done (boardOf (r .session) memory cache entries) (r .answer) (r .value)
+
+-- A cut, but for the cache.
+abbrev pub Switched : Session → Answered → Type 0
+Switched s r =
+    (r .session .state ≡ switchedOff (s .state)) × (r .session .memory ≡ s .memory) × (r .session .cache ≡ s .cache) ×
+    (r .session .list ≡ s .list) × (r .answer ≡ Number 0) × (r .value ≡ Nothing)

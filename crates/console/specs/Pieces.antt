@@ -1,0 +1,96 @@
+-- An input that comes in pieces: what a piece leaves and what is written to it, and that pieces do not matter.
+use Prim.Native.Nat.{ℕ, _+_, _≤_, _<_}
+use mathlib.Core.Path.{_≡_}
+use mathlib.Core.Bool.{cond}
+use mathlib.Core.List.{List, [], _∷_, _++_, flatten}
+use lib.Dec.{eqb}
+use lib.ListN.{length, take}
+use Rattle.board.specs.Board.{Board}
+use Rattle.script.specs.Ascii.{feed}
+use Rattle.script.specs.Answers.{headerText}
+use Rattle.console.specs.declared.Program.{Program}
+use Rattle.console.specs.declared.answers.Progress.{Progress}
+use Rattle.console.specs.Session.{boardOf, firstBoard, Within}
+use Rattle.console.specs.Lines.{carriedOut}
+use Rattle.console.specs.Transcript.{asks, following, lineText, transcript}
+
+-- What is carried from piece to piece: the board, the lines answered, and the line begun.
+pub record Carried : Type 0 where
+  pub board : Board
+  pub number : ℕ
+  pub begun : List ℕ
+
+-- What is carried, put together.
+abbrev pub carried : Board → ℕ → List ℕ → Carried
+carried board number begun = record { board = board; number = number; begun = begun }
+
+-- What some input leaves, and what is written to it.
+pub record Fed : Type 0 where
+  pub after : Carried
+  pub text : List ℕ
+
+-- What is left and written, put together.
+abbrev pub leaving : Carried → List ℕ → Fed
+leaving after text = record { after = after; text = text }
+
+-- Bytes of a line that goes on: 80 of a line are kept, so that it is known to be too long.
+abbrev pub kept : Carried → List ℕ → Carried
+kept p bytes = carried (p .board) (p .number) (take 80 (p .begun ++ bytes))
+
+-- The end of the line begun: it is answered.
+abbrev pub ended : Program → Carried → Fed
+ended program p =
+    leaving (carried (carriedOut (asks program (p .begun)) (p .board) .board) (following (p .number)) [])
+    (lineText program (following (p .number)) (p .board) (p .begun))
+
+-- One byte: the end of a line, or a byte of it.
+abbrev pub byteFed : Program → Carried → ℕ → Fed
+byteFed program p b = cond (eqb b feed) (ended program p) (leaving (kept p (b ∷ [])) [])
+
+-- Two inputs one after the other.
+abbrev pub andThen : Fed → Fed → Fed
+andThen r s = leaving (s .after) (r .text ++ s .text)
+
+-- The bytes of a piece, one after the other.
+unfoldable pub fed : Program → Carried → List ℕ → Fed
+fed program p [] = leaving p []
+fed program p (b ∷ bs) = andThen (byteFed program p b) (fed program (byteFed program p b .after) bs)
+
+-- After the input: the last line's answer, where it lacks its line feed.
+abbrev pub lastText : Program → Carried → List ℕ
+lastText program p = cond (eqb (length (p .begun)) 0) [] (ended program p .text)
+
+-- What is written to the pieces of an input, and after them.
+unfoldable pub outputs : Program → Carried → List (List ℕ) → List ℕ
+outputs program p [] = lastText program p
+outputs program p (piece ∷ more) = fed program p piece .text ++ outputs program (fed program p piece .after) more
+
+-- However an input is cut into pieces, the header and the outputs are the transcript of the whole input.
+abbrev pub AnyPieces : Type 0
+AnyPieces =
+    (program : Program) (pieces : List (List ℕ)) → headerText ++ outputs program (carried firstBoard 0 []) pieces ≡ transcript program (flatten pieces)
+
+-- ---- what contracts say
+
+-- What the code carries: the board of its session, the lines answered, and the first bytes of the line kept.
+abbrev pub carriedBy : Progress → List ℕ → List ℕ → List ℕ → List ℕ → Carried
+carriedBy p memory cache entries line =
+    carried (boardOf (p .session) memory cache entries) (p .number) (take (p .begun) line)
+
+-- What the code carries is within its arrays.
+pub record Ready (p : Progress) : Type 0 where
+  pub session-within : Within (p .session)
+  pub line-within : p .begun ≤ 80
+
+-- A line's end as it should be, by the code: what is carried on, and the answer written behind `at`, up to `end`.
+pub record Ends (should : Fed) (after : Carried) (out : List ℕ) (at : ℕ) (written : List ℕ) (end : ℕ) : Type 0 where
+  pub leaves : after ≡ should .after
+  pub writes : take end written ≡ take at out ++ should .text
+  pub within : end ≤ at + 65
+
+-- A piece is answered up to `used`, with `written` bytes: all of it, or as far as the answers surely fit the buffer.
+pub record Stops (piece : List ℕ) (used written : ℕ) : Type 0 where
+  pub used-within : used ≤ length piece
+  pub written-within : written ≤ 65536
+  pub buffer-full : used < length piece → 65536 < written + 80
+  pub goes-on : 0 < length piece → 0 < used

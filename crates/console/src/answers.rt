@@ -1,0 +1,214 @@
+// The lines of a piece of input, answered one after the other into a buffer.
+ghost use mathlib.Core.Path.{_≡_};
+ghost use mathlib.Core.List.{[], _++_};
+ghost use Prim.Native.Nat.{_+_, _≤_};
+ghost use lib.ListN.{length, take};
+ghost use Rattle.console.specs.Session.{boardOf, Within};
+ghost use Rattle.console.specs.Transcript.{asks};
+ghost use Rattle.console.specs.Pieces.{carried, leaving, kept, ended, fed, lastText, carriedBy, Ready, Ends, Stops};
+use crate::Program;
+use crate::input::feed_at;
+use crate::input::keep;
+use crate::session;
+use crate::session::Session;
+use script::Line;
+
+// What is carried from piece to piece: the session, the lines answered, and how many bytes of the line begun are kept.
+pub struct Progress {
+    pub session: Session,
+    pub number: u64,
+    pub begun: usize,
+}
+
+// After a line: what is carried on, and where its answer ends in the buffer.
+struct Ended {
+    progress: Progress,
+    end: usize,
+}
+
+// After a piece: what is carried on, the bytes of it that are used up, and the bytes of answers in the buffer.
+pub struct Answers {
+    pub progress: Progress,
+    pub used: usize,
+    pub written: usize,
+}
+
+// Before the first line.
+pub fn start() -> Progress
+    ensures { λ r. ⌜ (r .number ≡ 0) × (r .begun ≡ 0) × Ready r ⌝ }
+{
+    Progress {
+        session: session::new(),
+        number: 0,
+        begun: 0,
+    }
+}
+
+// What a line asks for in a program.
+fn asked(program: Program, line: &[u8]) -> Line
+    ensures { λ r. ⌜ r ≡ asks program (now (line .entry)) ⌝ }
+{
+    match program {
+        Program::Drill => script::parse(line),
+    }
+}
+
+// A whole line, answered behind the first `at` bytes of `out`.
+fn answer_line(
+    program: Program,
+    session: Session,
+    answered: u64,
+    memory: &mut [u64; 4104],
+    cache: &mut [u64; 4104],
+    entries: &mut [u16; 1100],
+    line: &[u8],
+    out: &mut [u8; 65536],
+    at: usize,
+) -> Ended
+    requires { ⌜ Within session × (at + 80 ≤ 65536) ⌝ }
+    ensures ends { λ r. ⌜ Ends (ended program (carried (boardOf session (now (memory .entry)) (now (cache .entry)) (now (entries .entry))) answered (now (line .entry)))) (carried (boardOf (r .progress .session) (now (memory .exit)) (now (cache .exit)) (now (entries .exit))) (r .progress .number) []) (now (out .entry)) at (now (out .exit)) (r .end) ⌝ }
+    ensures ready { λ r. ⌜ Within (r .progress .session) × (r .progress .begun ≡ 0) ⌝ }
+{
+    let number = std::num::wrapping_add_u64(answered, 1);
+    let call = asked(program, line);
+    let letter = script::letter(line, call);
+    let done = session::act(session, memory, cache, entries, call);
+    let next = done.session;
+    let answer = done.answer;
+    let value = done.value;
+    let end = script::put_answer(out, at, number, letter, answer, value);
+    Ended {
+        progress: Progress {
+            session: next,
+            number,
+            begun: 0,
+        },
+        end,
+    }
+}
+
+// The end of the line begun, of which `rest` are the last bytes.
+fn end_line(
+    program: Program,
+    progress: Progress,
+    memory: &mut [u64; 4104],
+    cache: &mut [u64; 4104],
+    entries: &mut [u16; 1100],
+    line: &mut [u8],
+    rest: &[u8],
+    out: &mut [u8; 65536],
+    at: usize,
+) -> Ended
+    requires { ⌜ Ready progress × (length (now line) ≡ 80) × (at + 80 ≤ 65536) ⌝ }
+    ensures ends { λ r. ⌜ Ends (ended program (kept (carriedBy progress (now (memory .entry)) (now (cache .entry)) (now (entries .entry)) (now (line .entry))) (now (rest .entry)))) (carriedBy (r .progress) (now (memory .exit)) (now (cache .exit)) (now (entries .exit)) (now (line .exit))) (now (out .entry)) at (now (out .exit)) (r .end) ⌝ }
+    ensures ready { λ r. ⌜ Ready (r .progress) ⌝ }
+{
+    let session = progress.session;
+    let begun = progress.begun;
+    if begun == 0 {
+        return answer_line(
+            program,
+            session,
+            progress.number,
+            memory,
+            cache,
+            entries,
+            rest,
+            out,
+            at,
+        );
+    }
+    let size = keep(line, begun, rest);
+    answer_line(
+        program,
+        session,
+        progress.number,
+        memory,
+        cache,
+        entries,
+        &line[..size],
+        out,
+        at,
+    )
+}
+
+// What a piece has of a line that does not end in it, kept.
+fn keep_rest(progress: Progress, line: &mut [u8], rest: &[u8]) -> Progress
+    requires { ⌜ Ready progress × (length (now line) ≡ 80) ⌝ }
+    ensures keeps { λ r. ⌜ (r .session ≡ progress .session) × (r .number ≡ progress .number) × (take (r .begun) (now (line .exit)) ≡ take 80 (take (progress .begun) (now (line .entry)) ++ now (rest .entry))) ⌝ }
+    ensures ready { λ r. ⌜ Ready r ⌝ }
+{
+    let begun = keep(line, progress.begun, rest);
+    Progress { begun, ..progress }
+}
+
+// The lines that end in a piece of input, answered from the start of `out`, and what it has of a further line kept. It
+// stops where the buffer might not hold another answer, and does nothing with the rest of the piece.
+pub fn answer(
+    program: Program,
+    progress: Progress,
+    memory: &mut [u64; 4104],
+    cache: &mut [u64; 4104],
+    entries: &mut [u16; 1100],
+    line: &mut [u8; 80],
+    piece: &[u8],
+    out: &mut [u8; 65536],
+) -> Answers
+    requires { ⌜ Ready progress ⌝ }
+    ensures fed { λ r. ⌜ leaving (carriedBy (r .progress) (now (memory .exit)) (now (cache .exit)) (now (entries .exit)) (now (line .exit))) (take (r .written) (now (out .exit))) ≡ fed program (carriedBy progress (now (memory .entry)) (now (cache .entry)) (now (entries .entry)) (now (line .entry))) (take (r .used) (now (piece .entry))) ⌝ }
+    ensures stops { λ r. ⌜ Stops (now (piece .entry)) (r .used) (r .written) ⌝ }
+    ensures ready { λ r. ⌜ Ready (r .progress) ⌝ }
+{
+    let mut reached = progress;
+    let mut at = 0;
+    let mut end = 0;
+    while at < piece.len() && end <= 65456 {
+        let stop = feed_at(piece, at);
+        if stop == piece.len() {
+            return Answers {
+                progress: keep_rest(reached, line, &piece[at..stop]),
+                used: stop,
+                written: end,
+            };
+        }
+        let r = end_line(
+            program,
+            reached,
+            memory,
+            cache,
+            entries,
+            line,
+            &piece[at..stop],
+            out,
+            end,
+        );
+        reached = r.progress;
+        end = r.end;
+        at = stop + 1;
+    }
+    Answers {
+        progress: reached,
+        used: at,
+        written: end,
+    }
+}
+
+// After the input: the answer to a last line that lacks its line feed, at the start of `out`. Gives its length.
+pub fn answer_last(
+    program: Program,
+    progress: Progress,
+    memory: &mut [u64; 4104],
+    cache: &mut [u64; 4104],
+    entries: &mut [u16; 1100],
+    line: &mut [u8; 80],
+    out: &mut [u8; 65536],
+) -> usize
+    requires { ⌜ Ready progress ⌝ }
+    ensures { λ r. ⌜ (take r (now (out .exit)) ≡ lastText program (carriedBy progress (now (memory .entry)) (now (cache .entry)) (now (entries .entry)) (now (line .entry)))) × (r ≤ 65536) ⌝ }
+{
+    if progress.begun == 0 {
+        return 0;
+    }
+    let r = end_line(program, progress, memory, cache, entries, line, b"", out, 0);
+    r.end
+}

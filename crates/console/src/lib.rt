@@ -1,0 +1,12 @@
+// The shell of the programs: a script on standard input, its answers on standard output.
+mod answers;
+mod input;
+mod session;
+mod shell;
+
+pub use shell::run;
+
+// The programs, each with its letters.
+pub enum Program {
+    Drill,
+}

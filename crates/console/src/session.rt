@@ -1,0 +1,243 @@
+// What a line of the script does to the board.
+ghost use mathlib.Core.Path.{_≡_};
+ghost use Prim.Native.Nat.{_≤_};
+ghost use lib.ListN.{length, replicate};
+ghost use Rattle.board.specs.State.{started};
+ghost use Rattle.board.specs.Next.{lent};
+ghost use Rattle.board.specs.Statements.{stepsFrom};
+ghost use Rattle.script.specs.declared.Line.the-variants.{Format, Show};
+ghost use Rattle.console.specs.Session.{boardOf, Within, Fits, Room};
+ghost use Rattle.console.specs.Lines.{formatted, Switched, carriedOut, left};
+use board::Call;
+use board::Phase;
+use board::State;
+use script::Line;
+use script::Shown;
+
+// The board's state record, and how many words of the memory and cache arrays and entries of the list array are in use.
+pub struct Session {
+    pub state: State,
+    pub memory: usize,
+    pub cache: usize,
+    pub list: usize,
+}
+
+// The session after a line, with the answer and the value to show.
+pub struct Answered {
+    pub session: Session,
+    pub answer: Shown,
+    pub value: Shown,
+}
+
+// "before one they are empty and the phase is off".
+pub fn new() -> Session
+    ensures { λ r. ⌜ (r .state ≡ started Phase.Off 0 0) × (r .memory ≡ 0) × (r .cache ≡ 0) × (r .list ≡ 0) ⌝ }
+{
+    Session {
+        state: engine::off(),
+        memory: 0,
+        cache: 0,
+        list: 0,
+    }
+}
+
+// One call of the board, with its value shown.
+fn make(
+    session: Session,
+    memory: &mut [u64],
+    cache: &mut [u64],
+    entries: &mut [u16],
+    call: Call,
+) -> Answered
+    requires { ⌜ Fits session (now memory) (now cache) (now entries) ⌝ }
+    ensures { λ r. ⌜ left r (now (memory .exit)) (now (cache .exit)) (now (entries .exit)) ≡ carriedOut (Show call) (boardOf session (now (memory .entry)) (now (cache .entry)) (now (entries .entry))) ⌝ }
+    ensures { λ r. ⌜ (r .session .memory ≡ session .memory) × (r .session .cache ≡ session .cache) × (r .session .list ≡ session .list) ⌝ }
+{
+    let state = session.state;
+    let words = session.memory;
+    let lines = session.cache;
+    let list = session.list;
+    let r = engine::perform(
+        call,
+        state,
+        &mut memory[..words],
+        &mut cache[..lines],
+        &mut entries[..list],
+    );
+    let next = r.state;
+    Answered {
+        session: Session {
+            state: next,
+            memory: words,
+            cache: lines,
+            list,
+        },
+        answer: Shown::Number(r.number as u64),
+        value: Shown::Number(r.value),
+    }
+}
+
+// The same with no value shown.
+fn unshown(answered: Answered) -> Answered
+    ensures { λ r. ⌜ (r .session ≡ answered .session) × (r .answer ≡ answered .answer) × (r .value ≡ Shown.Nothing) ⌝ }
+{
+    let session = answered.session;
+    let answer = answered.answer;
+    Answered {
+        session,
+        answer,
+        value: Shown::Nothing,
+    }
+}
+
+// A row zeroed.
+fn zero(row: &mut [u64])
+    ensures { λ _. ⌜ now (row .exit) ≡ replicate (length (now (row .entry))) 0 ⌝ }
+{
+    let mut i = 0;
+    while i < row.len() {
+        row[i] = 0;
+        i += 1;
+    }
+}
+
+// A list zeroed.
+fn zero_list(row: &mut [u16])
+    ensures { λ _. ⌜ now (row .exit) ≡ replicate (length (now (row .entry))) 0 ⌝ }
+{
+    let mut i = 0;
+    while i < row.len() {
+        row[i] = 0;
+        i += 1;
+    }
+}
+
+// "X (cut: cache zeroed, phase off, answer 0)".
+fn cut(session: Session, cache: &mut [u64]) -> Answered
+    ensures { λ r. ⌜ Switched session r ⌝ }
+    ensures { λ _. ⌜ now (cache .exit) ≡ replicate (length (now (cache .entry))) 0 ⌝ }
+{
+    zero(cache);
+    let state = session.state;
+    let next = State {
+        phase: Phase::Off,
+        ..state
+    };
+    Answered {
+        session: Session {
+            state: next,
+            ..session
+        },
+        answer: Shown::Number(0),
+        value: Shown::Nothing,
+    }
+}
+
+// The steps of a format, to its end.
+fn format_steps(
+    state: State,
+    memory: &mut [u64],
+    cache: &mut [u64],
+    entries: &[u16],
+    steps: u64,
+) -> State
+    ensures { λ r. ⌜ lent r (now (memory .exit)) (now (cache .exit)) (now (entries .entry)) ≡ stepsFrom steps (lent state (now (memory .entry)) (now (cache .entry)) (now (entries .entry))) ⌝ }
+{
+    let mut left = steps;
+    let mut now = state;
+    while left > 0 {
+        let r = engine::step(now, memory, cache, entries);
+        now = r.state;
+        left -= 1;
+    }
+    now
+}
+
+// A format to the end on rows made anew, all 0.
+fn format_rows(
+    state: State,
+    memory: &mut [u64],
+    cache: &mut [u64],
+    entries: &mut [u16],
+    lines: u64,
+    workers: u64,
+) -> State
+    requires { ⌜ lines ≤ 511 ⌝ }
+    ensures { λ r. ⌜ lent r (now (memory .exit)) (now (cache .exit)) (now (entries .exit)) ≡ formatted lines workers (lent state (replicate (length (now (memory .entry))) 0) (replicate (length (now (cache .entry))) 0) (replicate (length (now (entries .entry))) 0)) ⌝ }
+{
+    zero(memory);
+    zero(cache);
+    zero_list(entries);
+    let begun = engine::format_start(state, memory, cache, entries, lines, workers);
+    let started = begun.state;
+    format_steps(started, memory, cache, entries, lines + 2)
+}
+
+// "F L W (format to the end)"; its rows are made to fit, so only its limits can turn it down.
+fn format(
+    session: Session,
+    memory: &mut [u64],
+    cache: &mut [u64],
+    entries: &mut [u16],
+    lines: u64,
+    workers: u64,
+) -> Answered
+    requires { ⌜ Within session ⌝ }
+    requires { ⌜ Room (now memory) (now cache) (now entries) ⌝ }
+    ensures { λ r. ⌜ left r (now (memory .exit)) (now (cache .exit)) (now (entries .exit)) ≡ carriedOut (Format lines workers) (boardOf session (now (memory .entry)) (now (cache .entry)) (now (entries .entry))) ⌝ }
+    ensures { λ r. ⌜ Within (r .session) ⌝ }
+{
+    if checks::limits::outside(lines, workers) {
+        return Answered {
+            session,
+            answer: Shown::Number(1),
+            value: Shown::Nothing,
+        };
+    }
+    let state = session.state;
+    let words = board::row_words(lines as u16);
+    let list = board::list_words(lines as u16);
+    let next = format_rows(
+        state,
+        &mut memory[..words],
+        &mut cache[..words],
+        &mut entries[..list],
+        lines,
+        workers,
+    );
+    Answered {
+        session: Session {
+            state: next,
+            memory: words,
+            cache: words,
+            list,
+        },
+        answer: Shown::Number(0),
+        value: Shown::Nothing,
+    }
+}
+
+// A line of the script.
+pub fn act(
+    session: Session,
+    memory: &mut [u64; 4104],
+    cache: &mut [u64; 4104],
+    entries: &mut [u16; 1100],
+    line: Line,
+) -> Answered
+    requires { ⌜ Within session ⌝ }
+    ensures done { λ r. ⌜ left r (now (memory .exit)) (now (cache .exit)) (now (entries .exit)) ≡ carriedOut line (boardOf session (now (memory .entry)) (now (cache .entry)) (now (entries .entry))) ⌝ }
+    ensures within { λ r. ⌜ Within (r .session) ⌝ }
+{
+    match line {
+        Line::Format { lines, workers } => format(session, memory, cache, entries, lines, workers),
+        Line::Make { call } => unshown(make(session, memory, cache, entries, call)),
+        Line::Show { call } => make(session, memory, cache, entries, call),
+        Line::Cut => cut(session, cache),
+        Line::Unknown => Answered {
+            session,
+            answer: Shown::Unknown,
+            value: Shown::Nothing,
+        },
+    }
+}

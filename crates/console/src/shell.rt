@@ -1,0 +1,150 @@
+// The loop of a program: read, answer, write. No contract says what `read` and `write` do, so this file is what is left
+// to read with the eye: the pieces read are answered in the order in which they came, each answer is written once and in
+// order, and the header stands before all and the answer to a last line without its line feed behind. That the outputs
+// are then the transcript of the whole input, however it was cut into pieces, is proved (`AnyPieces`).
+ghost use mathlib.Core.Path.{_≡_};
+ghost use mathlib.Core.Bool.{true};
+ghost use Prim.Native.Nat.{_≤_};
+ghost use lib.ListN.{length};
+ghost use Rattle.console.specs.Pieces.{fed, carriedBy, Ready};
+use crate::Program;
+use crate::answers;
+use crate::answers::Progress;
+use libc::STDERR_FILENO;
+use libc::STDIN_FILENO;
+use libc::STDOUT_FILENO;
+
+// What is carried on, and whether to go on.
+struct Reached {
+    progress: Progress,
+    more: bool,
+}
+
+// Why the program stops, on standard error.
+fn complain(program: Program, why: &[u8]) {
+    match program {
+        Program::Drill => io::write_all(STDERR_FILENO, b"drill: "),
+    }
+    ;
+    io::write_all(STDERR_FILENO, why);
+}
+
+// The first `n` bytes of `out`, written; false where that fails, which is told.
+fn write(program: Program, out: &[u8], n: usize) -> bool
+    requires { ⌜ n ≤ length (now out) ⌝ }
+{
+    if io::write_all(STDOUT_FILENO, &out[..n]) {
+        return true;
+    }
+    complain(program, b"writing failed\n");
+    false
+}
+
+// A piece, answered and written as much at a time as the buffer holds.
+fn converse(
+    program: Program,
+    progress: Progress,
+    memory: &mut [u64; 4104],
+    cache: &mut [u64; 4104],
+    entries: &mut [u16; 1100],
+    line: &mut [u8; 80],
+    piece: &[u8],
+    out: &mut [u8; 65536],
+) -> Reached
+    requires { ⌜ Ready progress ⌝ }
+    ensures fed { λ r. ⌜ (r .more ≡ true → carriedBy (r .progress) (now (memory .exit)) (now (cache .exit)) (now (entries .exit)) (now (line .exit)) ≡ fed program (carriedBy progress (now (memory .entry)) (now (cache .entry)) (now (entries .entry)) (now (line .entry))) (now (piece .entry)) .after) ⌝ }
+    ensures ready { λ r. ⌜ Ready (r .progress) ⌝ }
+{
+    let mut reached = progress;
+    let mut used = 0;
+    let mut more = true;
+    while used < piece.len() && more {
+        let r = answers::answer(
+            program,
+            reached,
+            memory,
+            cache,
+            entries,
+            line,
+            &piece[used..],
+            out,
+        );
+        more = write(program, out, r.written);
+        used += r.used;
+        reached = r.progress;
+    }
+    Reached {
+        progress: reached,
+        more,
+    }
+}
+
+// Read, answer, write. At the end of the input the last line is answered, where it lacks its line feed.
+fn turn(
+    program: Program,
+    progress: Progress,
+    memory: &mut [u64; 4104],
+    cache: &mut [u64; 4104],
+    entries: &mut [u16; 1100],
+    line: &mut [u8; 80],
+    text: &mut [u8],
+    out: &mut [u8; 65536],
+) -> Reached
+    requires { ⌜ Ready progress ⌝ }
+    ensures { λ r. ⌜ Ready (r .progress) ⌝ }
+{
+    let got = libc::read(STDIN_FILENO, text);
+    let n = io::count(got, text);
+    if n > 0 {
+        return converse(
+            program,
+            progress,
+            memory,
+            cache,
+            entries,
+            line,
+            &text[..n],
+            out,
+        );
+    }
+    if got < 0 {
+        complain(program, b"reading failed\n");
+    } else {
+        let last = answers::answer_last(program, progress, memory, cache, entries, line, out);
+        write(program, out, last);
+    }
+    Reached {
+        progress,
+        more: false,
+    }
+}
+
+// A script on standard input, its answers on standard output. Nothing says that the input ends, so the turns are counted
+// down, from a number that no run uses up.
+pub fn run(program: Program) {
+    let mut memory = [0u64; 4104];
+    let mut cache = [0u64; 4104];
+    let mut entries = [0u16; 1100];
+    let mut line = [0u8; 80];
+    let mut text = io::large_buffer();
+    let mut out = io::large_buffer();
+    let header = script::header();
+    let mut reached = Reached {
+        progress: answers::start(),
+        more: write(program, &header, 23),
+    };
+    let mut turns = u64::MAX;
+    while turns > 0 && reached.more {
+        reached = turn(
+            program,
+            reached.progress,
+            &mut memory,
+            &mut cache,
+            &mut entries,
+            &mut line,
+            &mut text,
+            &mut out,
+        );
+        turns -= 1;
+    }
+}

@@ -1,4 +1,0 @@
--- Laws that several functions' proofs cite.
-pub mod Parts
-pub mod Acts
-pub mod Formats
