@@ -130,6 +130,14 @@ impl Board {
         self.list.resize(cells(lines) as usize, 0);
     }
 
+    /// Rows made anew for a board of so many lines, all 0.
+    pub fn renew(&mut self, lines: u64) {
+        self.memory.clear();
+        self.cache.clear();
+        self.list.clear();
+        self.resize(lines);
+    }
+
     /// The rows, lent for reading.
     pub fn lent(&self) -> Lent<'_> {
         Lent { memory: &self.memory, cache: &self.cache, list: &self.list }

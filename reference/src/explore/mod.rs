@@ -3,7 +3,7 @@
 pub mod check;
 mod choose;
 pub mod exhaustive;
-mod garbage;
+pub(crate) mod garbage;
 mod invariant;
 mod key;
 mod outcome;
@@ -14,6 +14,7 @@ mod tally;
 mod watched;
 
 use std::collections::HashMap;
+use std::io::{stderr, Write};
 
 use crate::board::Board;
 use crate::call::Call;
@@ -76,7 +77,7 @@ pub fn explore(options: &Options) -> Result<Tally, Caught> {
             return Err(Caught { violation, trace: explorer.trace });
         }
         if explorer.tally.calls / 1_000_000 > told {
-            eprintln!("{} calls, {} sequences", explorer.tally.calls, explorer.tally.sequences);
+            let _ = writeln!(stderr(), "{} calls, {} sequences", explorer.tally.calls, explorer.tally.sequences);
         }
     }
     Ok(explorer.tally)

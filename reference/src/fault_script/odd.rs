@@ -1,0 +1,121 @@
+//! Damage that need not show: edges of what is allowed, records put together field by field, words anywhere.
+
+use super::Script;
+use crate::call::Call;
+use crate::damage::{Damage, ROOM_ENTRIES};
+use crate::record::FIELDS;
+
+impl Script {
+    /// One damage of any kind.
+    pub(super) fn odd_damage(&mut self) {
+        let damage = match self.random.below(8) {
+            0 => self.lengths_fault(),
+            1 | 2 => self.odd_field(),
+            3 => self.odd_worker(),
+            4 => self.header_damage(),
+            5 => Damage::Entry { at: self.index(self.board.list.len()), cell: self.about(self.cells()) },
+            6 => Damage::Memory { at: self.index(self.board.memory.len()), word: self.word() },
+            _ => Damage::Cache { at: self.index(self.board.cache.len()), word: self.word() },
+        };
+        self.damage(damage);
+    }
+
+    /// An index of a row of that length, often one of its first.
+    fn index(&self, length: usize) -> u64 {
+        let length = (length as u64).max(1);
+        self.random.pick(&[0, self.random.below(length), self.random.below(length.min(16))])
+    }
+
+    /// A number that fits a field of 16 bits, about a limit or at an end.
+    fn about(&self, limit: u64) -> u64 {
+        let random = &self.random;
+        let near = (limit + random.below(3)).saturating_sub(1);
+        random.pick(&[0, near, near, random.below(limit + 2), 65_535, random.below(65_536)]).min(65_535)
+    }
+
+    /// A field of the record with a number that it can hold.
+    fn odd_field(&mut self) -> Damage {
+        let k = self.random.below(FIELDS);
+        let number = match k {
+            0 => self.random.pick(&[0, 1, 2, 3, 3, 3]),
+            1 => self.random.pick(&[self.about(self.lines()), self.about(511)]),
+            2 => self.random.pick(&[self.about(self.workers()), self.about(8), 255]).min(255),
+            3 => self.about(self.cells()),
+            4 => self.random.pick(&[
+                self.about(self.lines() + 1),
+                self.about(self.cells()),
+                self.about(self.listed() + 2),
+            ]),
+            5 => self.random.below(3),
+            _ => self.random.below(2),
+        };
+        Damage::Field { k, number }
+    }
+
+    /// A worker, under W or not, in any condition.
+    pub(super) fn odd_worker(&mut self) -> Damage {
+        let random = &self.random;
+        let worker = random.pick(&[random.below(8), random.below(self.workers().clamp(1, 8))]);
+        let cell = random.pick(&[self.about(self.cells()), random.below(self.cells().max(1)).min(65_535)]);
+        let numbers = match random.below(4) {
+            0 => [0; 4],
+            1 => [1, 0, 0, 0],
+            _ => [2, random.below(3), cell, self.word()],
+        };
+        Damage::Worker { worker, numbers }
+    }
+
+    /// A record put together field by field, then calls of every kind.
+    pub(super) fn odd_record(&mut self) {
+        if self.random.chance(2, 3) {
+            self.ground(0);
+        }
+        for _ in 0..1 + self.random.below(7) {
+            let damage = if self.random.chance(3, 5) { self.odd_field() } else { self.odd_worker() };
+            self.damage(damage);
+        }
+        self.sum();
+        for _ in 0..2 + self.random.below(10) {
+            self.any_call();
+        }
+        self.steps(self.random.below(6));
+    }
+
+    /// A sound board at an edge: a full list, a place at its limit, a longer list row, workers from W on with anything.
+    pub(super) fn odd_places(&mut self) {
+        self.ground(0);
+        let (lines, cells) = (self.lines(), self.cells());
+        match self.random.below(6) {
+            0 => self.field(3, cells),
+            1 => self.damage(Damage::Lengths {
+                memory: self.board.memory.len() as u64,
+                cache: self.board.cache.len() as u64,
+                list: (cells + 1 + self.random.below(60)).min(ROOM_ENTRIES),
+            }),
+            2 => {
+                self.field(0, 1);
+                self.field(4, self.random.pick(&[lines, lines + 1]));
+            }
+            3 => {
+                self.field(0, 2);
+                self.field(4, cells - 1);
+                self.field(5, self.random.below(3));
+            }
+            4 => self.field(2, 1 + self.random.below(8.min(cells - 1))),
+            _ => self.field(4, self.random.below(65_536)),
+        }
+        for _ in 0..self.random.below(4) {
+            let damage = self.odd_worker();
+            self.damage(damage);
+        }
+        if self.random.chance(1, 2) {
+            self.field(6, 1);
+        }
+        self.steps(2);
+        for _ in 0..self.random.below(8) {
+            self.any_call();
+        }
+        let worker = self.random.below(self.workers().max(1));
+        self.call(Call::Advance { worker });
+    }
+}
