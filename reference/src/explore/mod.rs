@@ -25,7 +25,8 @@ use check::{ensure, Check, Checks, Violation};
 use choose::{Choice, Temper};
 use promise::Finished;
 pub use tally::Tally;
-use watched::{answered, Watched};
+pub use watched::answered;
+use watched::Watched;
 
 /// What to explore.
 #[derive(Clone, Copy, Debug)]

@@ -1,0 +1,112 @@
+//! Random scripts for the fault program: what they reach, and that the board answers them as the table says.
+#![deny(warnings)]
+
+use std::collections::HashSet;
+
+use reference::board::Board;
+use reference::call::{Answer, Call};
+use reference::drill;
+use reference::explore::answered;
+use reference::explore::check::Checks;
+use reference::fault::{Command, Fault};
+use reference::fault_script::script;
+use reference::program::{answer, Program};
+use reference::reached::{reached, CAUSES};
+use reference::say::{damage_line, drill_line};
+use reference::text::{fields, UNREAD};
+
+/// The lines of a script.
+fn lines(text: &[u8]) -> Vec<&[u8]> {
+    text.strip_suffix(b"\n").unwrap_or(text).split(|byte| *byte == b'\n').collect()
+}
+
+#[test]
+fn two_hundred_scripts_reach_every_cause_of_every_call_and_every_kind_of_question_mark() {
+    let reached = reached(200, 400);
+    assert_eq!(reached.lines, 80_000);
+    for (letter, causes) in CAUSES {
+        for (number, count) in reached.answers[letter as usize].iter().enumerate() {
+            let possible = causes.contains(&(number as u8));
+            assert_eq!(*count > 0, possible, "{} answers {number}: {count} times", letter as char);
+            assert!(!possible || *count >= 20, "{} answers {number} only {count} times", letter as char);
+        }
+    }
+    for letter in *b"XWMNQBKT" {
+        assert!(reached.answers[letter as usize][0] >= 100, "{}", letter as char);
+    }
+    for ((_, words), count) in UNREAD.iter().zip(reached.unread) {
+        assert!(count >= 50, "{words}: {count}");
+    }
+}
+
+#[test]
+fn a_script_is_a_function_of_seed_and_lines() {
+    let mut seen = HashSet::new();
+    for seed in 0..20 {
+        for count in [0, 1, 2, 3, 50, 400] {
+            let text = script(seed, count);
+            assert_eq!(text, script(seed, count));
+            if count == 0 {
+                assert!(text.is_empty());
+                continue;
+            }
+            assert_eq!(lines(&text).len() as u64, count);
+            assert_eq!(lines(&text).last(), Some(&&b"T"[..]));
+            assert_eq!(text.last() == Some(&b'\n'), seed % 2 == 0);
+            assert!(count < 50 || seen.insert(text));
+        }
+    }
+}
+
+#[test]
+fn a_checksum_comes_every_few_lines() {
+    for seed in 1..50 {
+        let text = script(seed, 400);
+        let longest = lines(&text).split(|line| *line == b"T").map(<[_]>::len).max();
+        assert!(longest < Some(16), "seed {seed}: {longest:?} lines without one");
+    }
+}
+
+/// The call that a line makes by itself.
+fn call_of(command: &Command) -> Option<Call> {
+    match command {
+        Command::Drill(drill::Command::Call(call)) => Some(*call),
+        _ => None,
+    }
+}
+
+#[test]
+fn every_call_of_every_script_answers_as_the_table_says() {
+    for seed in 1..=200 {
+        let mut board = Board::empty(None);
+        for line in lines(&script(seed, 400)) {
+            let command = fields(line).and_then(|fields| Fault::command(&fields));
+            let before = board.clone();
+            let reply = answer::<Fault>(&mut board, line);
+            let Ok(reply) = reply else {
+                assert_eq!(before, board);
+                continue;
+            };
+            if let Some(call) = command.ok().as_ref().and_then(call_of) {
+                let answer = Answer { number: reply.number, value: reply.value.unwrap_or(0) };
+                let held = answered(Checks { only: None }, &call, &before, &board, answer);
+                assert!(held.is_ok(), "seed {seed}: {held:?}");
+            }
+        }
+    }
+}
+
+#[test]
+fn a_command_said_is_the_command_read() {
+    for seed in 1..20 {
+        for line in lines(&script(seed, 400)) {
+            let Ok(command) = fields(line).and_then(|fields| Fault::command(&fields)) else { continue };
+            let said = match &command {
+                Command::Drill(command) => drill_line(command),
+                Command::Damage(damage) => damage_line(damage),
+                Command::Checksum => b"T".to_vec(),
+            };
+            assert_eq!(fields(&said).and_then(|fields| Fault::command(&fields)), Ok(command));
+        }
+    }
+}
