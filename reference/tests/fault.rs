@@ -188,7 +188,8 @@ fn a_number_that_cannot_be_put_there_does_nothing() {
 
 #[test]
 fn lines_of_another_form_do_nothing() {
-    let lines = "f 1,f 1 1 1,W 16 16,W 16 16 2 0,M 0,M 0 0 0,N 0,N 0 0 0,Q 0,Q 0 0 0,B 0,B 0 0 0,K 0 0 0 0,K 0 0 0 0 0 0,\
+    let lines =
+        "f 1,f 1 1 1,W 16 16,W 16 16 2 0,M 0,M 0 0 0,N 0,N 0 0 0,Q 0,Q 0 0 0,B 0,B 0 0 0,K 0 0 0 0,K 0 0 0 0 0 0,\
         K 0 0,T 0,p 0,a 0,b 0,n,H 0 0,V 0 0,O 0 0,u 0 1 7,w 16 16 2,m 0 0,q 0 0,k 0 0 0 0 0,t,TT,M +1 0,M 0x1 0,\
         B 0 3 ,K  0 0 0 0";
     for line in lines.split(',').map(|line| line.trim_start_matches("        ")) {

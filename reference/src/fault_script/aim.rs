@@ -135,17 +135,28 @@ impl Script {
                 self.field(4, self.random.pick(&[0, cells - 1, self.random.below(cells)]));
                 self.field(5, self.random.below(3));
             }
-            _ => {
-                for worker in 0..self.workers() {
-                    self.damage(Damage::Worker { worker, numbers: WAITING });
-                }
-                let length = self.random.pick(&[self.listed(), self.random.below(cells + 1)]);
-                self.field(3, length);
-                self.field(4, self.random.pick(&[0, length, length + 1, length + 2, self.random.below(length + 3)]));
-                self.field(6, 1);
-            }
+            _ => self.prepare_checkpoint(),
         }
         Call::Step
+    }
+
+    /// A requested checkpoint at any place of it, all workers waiting, with entries and words that it is to write.
+    fn prepare_checkpoint(&mut self) {
+        for worker in 0..self.workers() {
+            self.damage(Damage::Worker { worker, numbers: WAITING });
+        }
+        let cells = self.cells();
+        let length = self.random.pick(&[self.listed(), self.random.below(cells + 1), cells]);
+        let place = self.random.pick(&[0, length, length + 1, length + 2, self.random.below(length + 3)]);
+        self.field(3, length);
+        self.field(4, place);
+        self.field(6, 1);
+        for _ in 0..self.random.below(3) {
+            let at = self.random.pick(&[place.min(cells - 1), self.random.below(cells)]);
+            self.damage(Damage::Entry { at, cell: self.random.below(cells) });
+            let at = 8 + self.random.below(8 * self.lines());
+            self.damage(Damage::Cache { at, word: self.word() });
+        }
     }
 
     /// What turns this call down by that cause: damage, or other arguments of the call.

@@ -81,11 +81,21 @@ impl Script {
         self.steps(self.random.below(6));
     }
 
+    /// List entries that may name no cell, about the list's length.
+    fn odd_entries(&mut self) {
+        let last = self.cells() - 1;
+        for _ in 0..1 + self.random.below(4) {
+            let at =
+                self.random.pick(&[0, self.listed(), self.listed().saturating_sub(1), self.random.below(last + 1)]);
+            self.damage(Damage::Entry { at: at.min(last), cell: self.about(last + 1) });
+        }
+    }
+
     /// A sound board at an edge: a full list, a place at its limit, a longer list row, workers from W on with anything.
     pub(super) fn odd_places(&mut self) {
         self.ground(0);
         let (lines, cells) = (self.lines(), self.cells());
-        match self.random.below(6) {
+        match self.random.below(7) {
             0 => self.field(3, cells),
             1 => self.damage(Damage::Lengths {
                 memory: self.board.memory.len() as u64,
@@ -102,6 +112,7 @@ impl Script {
                 self.field(5, self.random.below(3));
             }
             4 => self.field(2, 1 + self.random.below(8.min(cells - 1))),
+            5 => self.odd_entries(),
             _ => self.field(4, self.random.below(65_536)),
         }
         for _ in 0..self.random.below(4) {
