@@ -91,42 +91,56 @@ impl Script {
         }
     }
 
-    /// A sound board at an edge: a full list, a place at its limit, a longer list row, workers from W on with anything.
+    /// A board at an edge: a full list, a longer list row, another W, odd entries, or a place about its limit.
     pub(super) fn odd_places(&mut self) {
         self.ground(0);
-        let (lines, cells) = (self.lines(), self.cells());
-        match self.random.below(7) {
+        let cells = self.cells();
+        match self.random.below(10) {
             0 => self.field(3, cells),
             1 => self.damage(Damage::Lengths {
                 memory: self.board.memory.len() as u64,
                 cache: self.board.cache.len() as u64,
                 list: (cells + 1 + self.random.below(60)).min(ROOM_ENTRIES),
             }),
-            2 => {
-                self.field(0, 1);
-                self.field(4, self.random.pick(&[lines, lines + 1]));
-            }
-            3 => {
-                self.field(0, 2);
-                self.field(4, cells - 1);
-                self.field(5, self.random.below(3));
-            }
-            4 => self.field(2, 1 + self.random.below(8.min(cells - 1))),
-            5 => self.odd_entries(),
-            _ => self.field(4, self.random.below(65_536)),
+            2 => self.field(2, 1 + self.random.below(8.min(cells - 1))),
+            3 | 4 => self.odd_entries(),
+            5 => self.field(4, self.random.below(65_536)),
+            _ => self.odd_place(),
         }
-        for _ in 0..self.random.below(4) {
+        for _ in 0..self.random.pick(&[0, 0, 1, 3]) {
             let damage = self.odd_worker();
             self.damage(damage);
         }
-        if self.random.chance(1, 2) {
+        if self.random.chance(1, 3) {
             self.field(6, 1);
         }
+        let line = self.random.below(self.lines() + 1);
+        self.call(self.random.pick(&[Call::Step, Call::WriteBack { line }, Call::Read { cell: line }]));
         self.steps(2);
-        for _ in 0..self.random.below(8) {
+        for _ in 0..self.random.below(6) {
             self.any_call();
         }
         let worker = self.random.below(self.workers().max(1));
         self.call(Call::Advance { worker });
+    }
+
+    /// A format, a recovery or a checkpoint at the last place that it may have, or just past it.
+    fn odd_place(&mut self) {
+        let past = self.random.below(3);
+        match self.random.below(3) {
+            0 => {
+                self.field(0, 1);
+                self.field(4, self.lines() + past);
+            }
+            1 => {
+                self.field(0, 2);
+                self.field(4, self.cells() - 1 + past);
+                self.field(5, self.random.below(3));
+            }
+            _ => {
+                self.field(6, 1);
+                self.field(4, self.listed() + 1 + past);
+            }
+        }
     }
 }

@@ -37,7 +37,7 @@ impl Script {
         let cells = self.cells().max(1);
         let length = 1 + self.random.below(cells);
         let at = self.random.pick(&[0, length - 1, self.random.below(length)]);
-        let cell = self.random.pick(&[cells, cells + 1, 65_535, 32_768 + self.random.below(4)]);
+        let cell = self.random.pick(&[cells, cells, cells + 1, 65_535, 32_768 + self.random.below(4)]);
         vec![Damage::Field { k: 3, number: length }, Damage::Field { k: 4, number: at }, Damage::Entry { at, cell }]
     }
 
@@ -51,7 +51,7 @@ impl Script {
     pub(super) fn header_damage(&mut self) -> Damage {
         let random = &self.random;
         let lines = (self.board.memory.len() as u64 / 8).saturating_sub(1);
-        let (at, word) = match random.below(6) {
+        let (at, word) = match random.below(8) {
             0 => (0, 0),
             1 | 2 => (1, random.pick(&[0, lines.wrapping_sub(1), lines + 1, lines + 65_536, u64::MAX])),
             3 | 4 => (2, random.pick(&[0, 9, 2 * lines, 2 * lines + 1, 257, 65_537, u64::MAX])),

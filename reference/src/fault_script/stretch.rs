@@ -12,14 +12,14 @@ use crate::work::{good_call, some_workers};
 impl Script {
     /// One stretch.
     pub(super) fn stretch(&mut self) {
-        match self.random.below(24) {
-            0..=4 => self.work(60),
-            5..=14 => self.aimed(),
-            15 | 16 => self.odd_record(),
-            17 | 18 => self.marked_cells(),
-            19 => self.foreign_board(),
-            20 => self.broken_format(),
-            21 | 22 => self.other_forms(),
+        match self.random.below(32) {
+            0..=5 => self.work(50),
+            6..=17 => self.aimed(),
+            18 | 19 => self.odd_record(),
+            20..=22 => self.marked_cells(),
+            23 => self.foreign_board(),
+            24 => self.broken_format(),
+            25 | 26 => self.other_forms(),
             _ => self.odd_places(),
         }
         if self.random.chance(1, 2) {
@@ -67,31 +67,75 @@ impl Script {
         }
     }
 
-    /// Records, backups and marks as no work leaves them, in memory and cache, then a recovery.
+    /// Records, backups, marks and epochs as no work leaves them, then updates on them or a recovery.
     fn marked_cells(&mut self) {
         self.ground(0);
-        for _ in 0..1 + self.random.below(6) {
-            let cell = self.random.below(self.cells()) as usize;
-            let epoch = self.random.pick(&[self.board.memory[0], self.board.cache[0]]);
-            let mark = self.random.pick(&[epoch, epoch, epoch, 0, epoch.wrapping_add(1), epoch.wrapping_sub(1)]);
-            let (at, word) = match self.random.below(3) {
-                0 => (record_at(cell) + self.random.below(2) as usize, self.word()),
-                _ => (mark_at(cell), mark),
-            };
-            let at = at as u64;
-            let memory = self.random.chance(2, 3);
-            self.damage(if memory { Damage::Memory { at, word } } else { Damage::Cache { at, word } });
-            if self.random.chance(1, 4) {
-                self.call(Call::WriteBack { line: line_of(cell) as u64 });
-            }
+        let cell = self.random.below(self.cells());
+        for _ in 0..1 + self.random.below(5) {
+            let other = self.random.below(self.cells());
+            self.odd_cell(self.random.pick(&[cell, cell, other]) as usize);
         }
         if self.random.chance(1, 2) {
-            self.put(drill_line(&Command::Cut));
+            self.odd_epoch();
         }
-        if self.random.chance(3, 4) {
-            self.call(Call::Recovery);
+        match self.random.below(5) {
+            0 | 1 => {
+                self.field(0, 2);
+                self.field(4, cell);
+                self.field(5, self.random.pick(&[0, 0, 1, 2]));
+            }
+            2 => self.update(cell),
+            _ => {
+                if self.random.chance(1, 2) {
+                    self.put(drill_line(&Command::Cut));
+                }
+                self.call(Call::Recovery);
+            }
         }
-        self.steps(20);
+        if self.random.chance(1, 4) {
+            self.odd_epoch();
+        }
+        self.steps(self.random.below(20));
+    }
+
+    /// A record, a backup or a mark of this cell, in memory or in the cache.
+    fn odd_cell(&mut self, cell: usize) {
+        let epoch = self.random.pick(&[self.board.memory[0], self.board.cache[0]]);
+        let mark = self.random.pick(&[epoch, epoch, epoch, 0, epoch.wrapping_add(1), epoch.wrapping_sub(1)]);
+        let (at, word) = match self.random.below(3) {
+            0 => (record_at(cell) + self.random.below(2) as usize, self.word()),
+            _ => (mark_at(cell), mark),
+        };
+        let at = at as u64;
+        let memory = self.random.chance(1, 2);
+        self.damage(if memory { Damage::Memory { at, word } } else { Damage::Cache { at, word } });
+        if self.random.chance(1, 4) {
+            self.call(Call::WriteBack { line: line_of(cell) as u64 });
+        }
+    }
+
+    /// Memory's or the cache's epoch another than the other's.
+    fn odd_epoch(&mut self) {
+        let (memory, cache) = (self.board.memory[0], self.board.cache[0]);
+        let ahead = self.random.pick(&[1, 1, u64::MAX, 2]);
+        self.damage(match self.random.below(3) {
+            0 => Damage::Memory { at: 0, word: cache.wrapping_add(ahead) },
+            _ => Damage::Cache { at: 0, word: memory.wrapping_add(ahead) },
+        });
+    }
+
+    /// An update of this cell, or a restart point if it is one's own, and some advances.
+    fn update(&mut self, cell: u64) {
+        let (workers, value) = (self.workers(), self.word());
+        let worker = if cell < workers { cell } else { self.random.below(workers) };
+        self.call(if cell < workers {
+            Call::RestartPoint { worker, value }
+        } else {
+            Call::Update { worker, cell, value }
+        });
+        for _ in 0..self.random.below(4) {
+            self.call(Call::Advance { worker });
+        }
     }
 
     /// Rows and a header put there word by word, then a start and its steps.
