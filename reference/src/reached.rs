@@ -1,12 +1,15 @@
 //! What random fault scripts reach: how often each call got each answer, and each kind of `?`.
 
+use std::collections::HashMap;
 use std::fmt;
 
 use crate::board::Board;
-use crate::fault::{self, Fault};
+use crate::drill;
+use crate::explore::table::{deciding_part, parts};
+use crate::fault::{self, Command, Fault};
 use crate::fault_script::script;
-use crate::program::answer;
-use crate::text::UNREAD;
+use crate::program::Program;
+use crate::text::{fields, Unread, UNREAD};
 
 /// The letters of calls with the answers that 01's table has for each.
 pub const CAUSES: [(u8, &[u8]); 10] = [
@@ -34,11 +37,19 @@ pub struct Reached {
     pub answers: Vec<[u64; ANSWERS]>,
     /// For each kind of `?` in the order of `UNREAD`, how often it was met.
     pub unread: [u64; UNREAD.len()],
+    /// For each part of a cause and each letter, how often an answer hung on that part alone.
+    pub parts: HashMap<(&'static str, u8), u64>,
 }
 
 /// The counts over the scripts of seeds 1 to `seeds`, each of so many lines.
 pub fn reached(seeds: u64, lines: u64) -> Reached {
-    let mut reached = Reached { scripts: seeds, lines: 0, answers: vec![[0; ANSWERS]; 256], unread: [0; UNREAD.len()] };
+    let mut reached = Reached {
+        scripts: seeds,
+        lines: 0,
+        answers: vec![[0; ANSWERS]; 256],
+        unread: [0; UNREAD.len()],
+        parts: HashMap::new(),
+    };
     for seed in 1..=seeds {
         let text = script(seed, lines);
         let text = text.strip_suffix(b"\n").unwrap_or(&text);
@@ -54,38 +65,67 @@ impl Reached {
     /// Run one line and count what came of it.
     fn count(&mut self, board: &mut Board, line: &[u8]) {
         self.lines += 1;
-        match answer::<Fault>(board, line) {
-            Ok(reply) => self.answers[line[0] as usize][reply.number as usize] += 1,
-            Err(unread) => {
-                let kind = UNREAD.iter().position(|(known, _)| *known == unread);
-                self.unread[kind.unwrap_or(0)] += 1;
-            }
+        if let Err(unread) = self.count_read(board, line) {
+            let kind = UNREAD.iter().position(|(known, _)| *known == unread);
+            self.unread[kind.unwrap_or(0)] += 1;
         }
     }
 
-    /// A letter's row of the table.
-    fn row(&self, letter: u8, out: &mut fmt::Formatter) -> fmt::Result {
-        write!(out, "| {} |", letter as char)?;
-        for count in self.answers[letter as usize] {
-            match count {
-                0 => write!(out, "  |")?,
-                _ => write!(out, " {count} |")?,
+    /// Run a line that is read, and count its answer and what that hung on.
+    fn count_read(&mut self, board: &mut Board, line: &[u8]) -> Result<(), Unread> {
+        let fields = fields(line)?;
+        let command = Fault::command(&fields)?;
+        if let Command::Drill(drill::Command::Call(call)) = command {
+            if let Some(part) = deciding_part(&call, &board.state, board.lent()) {
+                *self.parts.entry((part, fields.letter)).or_default() += 1;
             }
+        }
+        let reply = Fault::execute(board, &command)?;
+        self.answers[fields.letter as usize][reply.number as usize] += 1;
+        Ok(())
+    }
+
+    /// How often an answer to this letter hung on this part alone.
+    pub fn part(&self, part: &'static str, letter: u8) -> u64 {
+        self.parts.get(&(part, letter)).copied().unwrap_or(0)
+    }
+
+    /// The answers of each letter.
+    fn write_answers(&self, out: &mut fmt::Formatter) -> fmt::Result {
+        writeln!(out, "| line |{}", (0..ANSWERS).map(|number| format!(" {number} |")).collect::<String>())?;
+        writeln!(out, "|---|{}", "---|".repeat(ANSWERS))?;
+        let damaging = fault::FORMS.iter().map(|(letter, _)| *letter).filter(|letter| *letter != b'f');
+        for letter in CAUSES.iter().map(|(letter, _)| *letter).chain([b'X']).chain(damaging) {
+            writeln!(out, "| {} |{}", letter as char, counts(self.answers[letter as usize].iter().copied()))?;
+        }
+        writeln!(out)
+    }
+
+    /// For each part of a cause, the calls whose answer hung on it alone.
+    fn write_parts(&self, out: &mut fmt::Formatter) -> fmt::Result {
+        let letters = b"fRSUPACEG";
+        let head = letters.iter().map(|letter| format!(" {} |", *letter as char)).collect::<String>();
+        writeln!(out, "| answer | hung alone on |{head}")?;
+        writeln!(out, "|---|---|{}", "---|".repeat(letters.len()))?;
+        for (number, part) in parts() {
+            let row = counts(letters.iter().map(|letter| self.part(part, *letter)));
+            writeln!(out, "| {number} | {part} |{row}")?;
         }
         writeln!(out)
     }
 }
 
+/// Counts as the cells of a table, empty for 0.
+fn counts(row: impl Iterator<Item = u64>) -> String {
+    row.map(|count| if count == 0 { "  |".into() } else { format!(" {count} |") }).collect()
+}
+
 impl fmt::Display for Reached {
     fn fmt(&self, out: &mut fmt::Formatter) -> fmt::Result {
         writeln!(out, "{} scripts, {} lines\n", self.scripts, self.lines)?;
-        writeln!(out, "| call |{}", (0..ANSWERS).map(|number| format!(" {number} |")).collect::<String>())?;
-        writeln!(out, "|---|{}", "---|".repeat(ANSWERS))?;
-        let damaging = fault::FORMS.iter().map(|(letter, _)| *letter).filter(|letter| *letter != b'f');
-        for letter in CAUSES.iter().map(|(letter, _)| *letter).chain([b'X']).chain(damaging) {
-            self.row(letter, out)?;
-        }
-        writeln!(out, "\n| why a line printed ? | lines |\n|---|---|")?;
+        self.write_answers(out)?;
+        self.write_parts(out)?;
+        writeln!(out, "| why a line printed ? | lines |\n|---|---|")?;
         for ((_, words), count) in UNREAD.iter().zip(self.unread) {
             writeln!(out, "| {words} | {count} |")?;
         }

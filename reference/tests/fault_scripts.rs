@@ -8,6 +8,7 @@ use reference::call::{Answer, Call};
 use reference::drill;
 use reference::explore::answered;
 use reference::explore::check::Checks;
+use reference::explore::table::parts;
 use reference::fault::{Command, Fault};
 use reference::fault_script::script;
 use reference::program::{answer, Program};
@@ -36,6 +37,53 @@ fn two_hundred_scripts_reach_every_cause_of_every_call_and_every_kind_of_questio
     }
     for ((_, words), count) in UNREAD.iter().zip(reached.unread) {
         assert!(count >= 50, "{words}: {count}");
+    }
+}
+
+/// Each part of a cause, and the calls whose answer can hang on it alone.
+const PARTS: [(&str, &[u8]); 31] = [
+    ("a format's L or W", b"f"),
+    ("phase", b"SUPACEG"),
+    ("a full list", b"A"),
+    ("a worker's cell", b"SUPACEG"),
+    ("place in a checkpoint", b"SUPACEG"),
+    ("place in a recovery", b"SE"),
+    ("place in a format", b"S"),
+    ("record's list length", b"SUPACEG"),
+    ("record's L or W", b"SUPACEG"),
+    ("list entry used", b"S"),
+    ("list's length", b"fSUPACEG"),
+    ("cache's length", b"fSUPACEG"),
+    ("memory's length", b"fSUPACEG"),
+    ("list's length at recovery", b"R"),
+    ("cache's length at recovery", b"R"),
+    ("memory's length at recovery", b"R"),
+    ("header's words 3 to 7", b"R"),
+    ("header's W", b"R"),
+    ("header's L", b"R"),
+    ("header's epoch", b"R"),
+    ("worker W or more", b"UPA"),
+    ("line over L", b"E"),
+    ("cell 2L or more", b"UG"),
+    ("cell under W", b"U"),
+    ("worker without update", b"A"),
+    ("worker not free", b"UP"),
+    ("another's update of the cell", b"UP"),
+    ("a worker not waiting", b"S"),
+    ("no request", b"S"),
+    ("request while one stands", b"C"),
+    ("the last epoch", b"SC"),
+];
+
+#[test]
+fn two_hundred_scripts_reach_every_part_of_every_cause_by_itself() {
+    let reached = reached(200, 400);
+    assert!(parts().all(|(_, part)| PARTS.iter().any(|(known, _)| *known == part)));
+    for (part, letters) in PARTS {
+        for letter in *b"fRSUPACEG" {
+            let count = reached.part(part, letter);
+            assert_eq!(count > 0, letters.contains(&letter), "{part}, {}: {count}", letter as char);
+        }
     }
 }
 

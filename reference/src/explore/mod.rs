@@ -9,7 +9,7 @@ mod key;
 mod outcome;
 mod promise;
 mod stores;
-mod table;
+pub mod table;
 mod tally;
 mod watched;
 

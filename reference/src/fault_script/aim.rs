@@ -17,7 +17,8 @@ impl Script {
     /// A call that would be taken, damage that turns it down, and often the damage repaired bit by bit.
     pub(super) fn aimed(&mut self) {
         let (letter, causes) = self.random.pick(&CAUSES);
-        let first = self.random.pick(causes);
+        let later = if self.random.chance(1, 3) { self.random.pick(causes) } else { 0 };
+        let first = self.random.pick(causes).max(later);
         let mut aims = vec![first];
         for _ in 0..self.random.pick(&[0, 0, 0, 1, 2, 3]) {
             aims.push(self.random.pick(causes));
@@ -83,10 +84,7 @@ impl Script {
                 Call::RestartPoint { worker, value: self.word() }
             }
             b'A' => self.prepare_advance(worker),
-            b'C' => {
-                self.field(6, 0);
-                Call::Request
-            }
+            b'C' => self.prepare_request(),
             b'E' => Call::WriteBack { line: self.random.below(self.lines() + 1) },
             _ => Call::Read { cell: self.random.below(self.cells()) },
         }
@@ -98,6 +96,16 @@ impl Script {
             self.format(0);
         }
         Call::Recovery
+    }
+
+    /// A request where none stands, over a place that no checkpoint left.
+    fn prepare_request(&mut self) -> Call {
+        self.field(6, 0);
+        if self.random.chance(1, 3) {
+            self.field(4, self.random.pick(&[1, self.listed() + 2, self.listed() + 3, 65_535]));
+        }
+        self.odd_undo();
+        Call::Request
     }
 
     /// A worker made free if it is not.
@@ -129,6 +137,7 @@ impl Script {
             0 if !checkpoint => {
                 self.field(0, 1);
                 self.field(4, self.random.pick(&[0, lines, lines + 1, self.random.below(lines + 2)]));
+                self.odd_undo();
             }
             1 if !checkpoint => {
                 self.field(0, 2);
@@ -151,6 +160,7 @@ impl Script {
         self.field(3, length);
         self.field(4, place);
         self.field(6, 1);
+        self.odd_undo();
         for _ in 0..self.random.below(3) {
             let at = self.random.pick(&[place.min(cells - 1), self.random.below(cells)]);
             self.damage(Damage::Entry { at, cell: self.random.below(cells) });

@@ -64,7 +64,7 @@ impl Script {
 
     /// A checksum.
     fn sum(&mut self) {
-        self.until_sum = 7 + self.random.below(8);
+        self.until_sum = 8 + self.random.below(8);
         if self.left > 1 {
             self.put(line('T', &[]));
         }

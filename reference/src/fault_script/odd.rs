@@ -2,7 +2,7 @@
 
 use super::Script;
 use crate::call::Call;
-use crate::damage::{Damage, ROOM_ENTRIES};
+use crate::damage::{Damage, ROOM_ENTRIES, ROOM_WORDS};
 use crate::record::FIELDS;
 
 impl Script {
@@ -84,6 +84,11 @@ impl Script {
     /// List entries that may name no cell, about the list's length.
     fn odd_entries(&mut self) {
         let last = self.cells() - 1;
+        if self.random.chance(1, 2) {
+            let length = 1 + self.random.below(last + 1);
+            self.field(3, length);
+            self.field(4, self.random.below(length));
+        }
         for _ in 0..1 + self.random.below(4) {
             let at =
                 self.random.pick(&[0, self.listed(), self.listed().saturating_sub(1), self.random.below(last + 1)]);
@@ -95,7 +100,7 @@ impl Script {
     pub(super) fn odd_places(&mut self) {
         self.ground(0);
         let cells = self.cells();
-        match self.random.below(10) {
+        match self.random.below(11) {
             0 => self.field(3, cells),
             1 => self.damage(Damage::Lengths {
                 memory: self.board.memory.len() as u64,
@@ -105,6 +110,7 @@ impl Script {
             2 => self.field(2, 1 + self.random.below(8.min(cells - 1))),
             3 | 4 => self.odd_entries(),
             5 => self.field(4, self.random.below(65_536)),
+            6 => self.one_line_too_many(),
             _ => self.odd_place(),
         }
         for _ in 0..self.random.pick(&[0, 0, 1, 3]) {
@@ -124,6 +130,23 @@ impl Script {
         self.call(Call::Advance { worker });
     }
 
+    /// A board of 512 lines with rows that fit it: nothing is wrong but that L is over its limit.
+    fn one_line_too_many(&mut self) {
+        self.damage(Damage::Lengths { memory: ROOM_WORDS, cache: ROOM_WORDS, list: ROOM_ENTRIES });
+        self.field(1, 512);
+        if self.random.chance(1, 2) {
+            self.damage(Damage::Memory { at: 1, word: 512 });
+            self.call(self.random.pick(&[Call::Recovery, Call::Format { lines: 512, workers: 1 }]));
+        }
+    }
+
+    /// A recovery's step other than the first, in whatever phase.
+    pub(super) fn odd_undo(&mut self) {
+        if self.random.chance(1, 3) {
+            self.field(5, 1 + self.random.below(2));
+        }
+    }
+
     /// A format, a recovery or a checkpoint at the last place that it may have, or just past it.
     fn odd_place(&mut self) {
         let past = self.random.below(3);
@@ -131,6 +154,7 @@ impl Script {
             0 => {
                 self.field(0, 1);
                 self.field(4, self.lines() + past);
+                self.odd_undo();
             }
             1 => {
                 self.field(0, 2);
@@ -140,6 +164,7 @@ impl Script {
             _ => {
                 self.field(6, 1);
                 self.field(4, self.listed() + 1 + past);
+                self.odd_undo();
             }
         }
     }

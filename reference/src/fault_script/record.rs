@@ -57,7 +57,7 @@ impl Script {
     /// Rows that do not fit: for a format's start also by its own L, for a checkpoint's step also by an entry.
     pub(super) fn rows_fault(&mut self, call: &mut Call) -> Vec<Damage> {
         match *call {
-            Call::Format { workers, .. } if self.random.chance(1, 2) => {
+            Call::Format { workers, .. } if self.random.chance(1, 4) => {
                 let other = self.random.pick(&[self.lines() + 1, self.lines().saturating_sub(1), 511, 5]);
                 *call = Call::Format { lines: other, workers: workers.min(2 * other.max(1) - 1) };
                 Vec::new()

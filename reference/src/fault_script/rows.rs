@@ -16,9 +16,9 @@ impl Script {
                 cache = memory;
             }
             3 => {
-                memory = self.random.pick(&[0, 8, 15, 16, 17, 4088, 4096, 4097, ROOM_WORDS]);
+                memory = self.random.pick(&[0, 8, 8, 15, 16, 17, 4088, 4096, ROOM_WORDS, ROOM_WORDS]);
                 cache = memory;
-                list = self.random.pick(&[list, ROOM_ENTRIES]);
+                list = self.random.pick(&[list, ROOM_ENTRIES, ROOM_ENTRIES]);
             }
             _ => list = self.random.pick(&[0, 1, self.cells().saturating_sub(1)]),
         }
@@ -53,7 +53,7 @@ impl Script {
         let lines = (self.board.memory.len() as u64 / 8).saturating_sub(1);
         let (at, word) = match random.below(8) {
             0 => (0, 0),
-            1 | 2 => (1, random.pick(&[0, lines.wrapping_sub(1), lines + 1, lines + 65_536, u64::MAX])),
+            1 | 2 => (1, random.pick(&[0, lines.wrapping_sub(1), lines + 1, lines + 65_536, lines + 65_536, u64::MAX])),
             3 | 4 => (2, random.pick(&[0, 9, 2 * lines, 2 * lines + 1, 257, 65_537, u64::MAX])),
             _ => (3 + random.below(5), random.pick(&[1, random.word(), u64::MAX, 1 << 32])),
         };

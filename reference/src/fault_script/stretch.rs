@@ -10,7 +10,7 @@ use crate::say::{drill_line, line};
 use crate::work::{good_call, some_workers};
 
 impl Script {
-    /// One stretch.
+    /// One stretch, and a checksum after it.
     pub(super) fn stretch(&mut self) {
         match self.random.below(32) {
             0..=5 => self.work(50),
@@ -22,9 +22,7 @@ impl Script {
             25 | 26 => self.other_forms(),
             _ => self.odd_places(),
         }
-        if self.random.chance(1, 2) {
-            self.sum();
-        }
+        self.sum();
     }
 
     /// Sensible work on a board that runs, with cuts, recoveries and whole checkpoints.
