@@ -4,8 +4,9 @@ use std::collections::HashMap;
 use std::fmt;
 
 use crate::board::Board;
+use crate::call::Call;
 use crate::drill;
-use crate::explore::table::{deciding_part, parts};
+use crate::explore::table::{causes, deciding_part, parts};
 use crate::fault::{self, Command, Fault};
 use crate::fault_script::script;
 use crate::program::Program;
@@ -39,6 +40,8 @@ pub struct Reached {
     pub unread: [u64; UNREAD.len()],
     /// For each part of a cause and each letter, how often an answer hung on that part alone.
     pub parts: HashMap<(&'static str, u8), u64>,
+    /// For each letter and two causes, how often the first answered while the second held too.
+    pub orders: HashMap<(u8, u8, u8), u64>,
 }
 
 /// The counts over the scripts of seeds 1 to `seeds`, each of so many lines.
@@ -49,6 +52,7 @@ pub fn reached(seeds: u64, lines: u64) -> Reached {
         answers: vec![[0; ANSWERS]; 256],
         unread: [0; UNREAD.len()],
         parts: HashMap::new(),
+        orders: HashMap::new(),
     };
     for seed in 1..=seeds {
         let text = script(seed, lines);
@@ -62,6 +66,17 @@ pub fn reached(seeds: u64, lines: u64) -> Reached {
 }
 
 impl Reached {
+    /// The pairs of causes of each letter, the lower having answered.
+    fn write_orders(&self, out: &mut fmt::Formatter) -> fmt::Result {
+        writeln!(out, "| call | one cause answered while a later one held too |\n|---|---|")?;
+        for (letter, _) in CAUSES.iter().filter(|(letter, _)| *letter != b'F') {
+            let pairs = orders().filter(|(known, ..)| known == letter);
+            let counts = pairs.map(|(letter, a, b)| format!("{a} over {b}: {}", self.order(letter, a, b)));
+            writeln!(out, "| {} | {} |", *letter as char, counts.collect::<Vec<_>>().join(", "))?;
+        }
+        writeln!(out)
+    }
+
     /// Run one line and count what came of it.
     fn count(&mut self, board: &mut Board, line: &[u8]) {
         self.lines += 1;
@@ -76,13 +91,28 @@ impl Reached {
         let fields = fields(line)?;
         let command = Fault::command(&fields)?;
         if let Command::Drill(drill::Command::Call(call)) = command {
-            if let Some(part) = deciding_part(&call, &board.state, board.lent()) {
-                *self.parts.entry((part, fields.letter)).or_default() += 1;
-            }
+            self.count_causes(board, &call, fields.letter);
         }
         let reply = Fault::execute(board, &command)?;
         self.answers[fields.letter as usize][reply.number as usize] += 1;
         Ok(())
+    }
+
+    /// Count which causes hold for a call, and the part that its answer hangs on.
+    fn count_causes(&mut self, board: &Board, call: &Call, letter: u8) {
+        if let Some(part) = deciding_part(call, &board.state, board.lent()) {
+            *self.parts.entry((part, letter)).or_default() += 1;
+        }
+        if let [first, others @ ..] = causes(call, &board.state, board.lent()).as_slice() {
+            for other in others {
+                *self.orders.entry((letter, *first, *other)).or_default() += 1;
+            }
+        }
+    }
+
+    /// How often an answer to this letter was this cause while that one held too.
+    pub fn order(&self, letter: u8, first: u8, other: u8) -> u64 {
+        self.orders.get(&(letter, first, other)).copied().unwrap_or(0)
     }
 
     /// How often an answer to this letter hung on this part alone.
@@ -115,6 +145,23 @@ impl Reached {
     }
 }
 
+/// Two causes of one call that cannot both hold: a step is a checkpoint's only when running.
+fn apart(letter: u8, first: u8, other: u8) -> bool {
+    letter == b'S' && first == 2 && other >= 10
+}
+
+/// Each letter of a call with every two of its causes that can both hold, the lower first.
+pub fn orders() -> impl Iterator<Item = (u8, u8, u8)> {
+    CAUSES.iter().flat_map(|(letter, causes)| {
+        let later =
+            move |first: u8| causes.iter().filter(move |other| **other > first).map(move |other| (first, *other));
+        let pairs = causes.iter().filter(|first| **first > 0).flat_map(move |first| later(*first));
+        pairs
+            .map(|(first, other)| (*letter, first, other))
+            .filter(|(letter, a, b)| *letter != b'F' && !apart(*letter, *a, *b))
+    })
+}
+
 /// Counts as the cells of a table, empty for 0.
 fn counts(row: impl Iterator<Item = u64>) -> String {
     row.map(|count| if count == 0 { "  |".into() } else { format!(" {count} |") }).collect()
@@ -125,6 +172,7 @@ impl fmt::Display for Reached {
         writeln!(out, "{} scripts, {} lines\n", self.scripts, self.lines)?;
         self.write_answers(out)?;
         self.write_parts(out)?;
+        self.write_orders(out)?;
         writeln!(out, "| why a line printed ? | lines |\n|---|---|")?;
         for ((_, words), count) in UNREAD.iter().zip(self.unread) {
             writeln!(out, "| {words} | {count} |")?;

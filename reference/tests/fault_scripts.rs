@@ -12,7 +12,7 @@ use reference::explore::table::parts;
 use reference::fault::{Command, Fault};
 use reference::fault_script::script;
 use reference::program::{answer, Program};
-use reference::reached::{reached, CAUSES};
+use reference::reached::{orders, reached, CAUSES};
 use reference::say::{damage_line, drill_line};
 use reference::text::{fields, UNREAD};
 
@@ -84,6 +84,15 @@ fn two_hundred_scripts_reach_every_part_of_every_cause_by_itself() {
             let count = reached.part(part, letter);
             assert_eq!(count > 0, letters.contains(&letter), "{part}, {}: {count}", letter as char);
         }
+    }
+}
+
+#[test]
+fn two_hundred_scripts_show_the_order_of_every_two_causes() {
+    let reached = reached(200, 400);
+    for (letter, first, other) in orders() {
+        let count = reached.order(letter, first, other);
+        assert!(count > 0, "{}: {first} over {other}", letter as char);
     }
 }
 

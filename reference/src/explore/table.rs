@@ -87,6 +87,15 @@ pub fn answer(call: &Call, state: &State, rows: Lent) -> u8 {
     TABLE.iter().filter(|(.., holds)| holds(&case)).map(|(number, ..)| *number).min().unwrap_or(0)
 }
 
+/// The numbers of all causes that hold, rising.
+pub fn causes(call: &Call, state: &State, rows: Lent) -> Vec<u8> {
+    let case = Case { call: *call, state, rows };
+    let mut numbers: Vec<u8> = TABLE.iter().filter(|(.., holds)| holds(&case)).map(|(number, ..)| *number).collect();
+    numbers.sort_unstable();
+    numbers.dedup();
+    numbers
+}
+
 /// The words of the part that an answer hangs on: the only one that holds of the cause that answers.
 pub fn deciding_part(call: &Call, state: &State, rows: Lent) -> Option<&'static str> {
     let number = answer(call, state, rows);

@@ -14,15 +14,22 @@ const FREE: [u64; 4] = [0; 4];
 const WAITING: [u64; 4] = [1, 0, 0, 0];
 
 impl Script {
-    /// A call that would be taken, damage that turns it down, and often the damage repaired bit by bit.
-    pub(super) fn aimed(&mut self) {
-        let (letter, causes) = self.random.pick(&CAUSES);
+    /// A call's letter and the causes aimed at, the later ones more often; each call as often as it has causes.
+    fn target(&self) -> (u8, Vec<u8>) {
+        let calls: Vec<(u8, &[u8])> =
+            CAUSES.iter().flat_map(|(letter, of)| of.iter().map(|_| (*letter, *of))).collect();
+        let (letter, causes) = self.random.pick(&calls);
         let later = if self.random.chance(1, 3) { self.random.pick(causes) } else { 0 };
-        let first = self.random.pick(causes).max(later);
-        let mut aims = vec![first];
-        for _ in 0..self.random.pick(&[0, 0, 0, 1, 2, 3]) {
+        let mut aims = vec![self.random.pick(causes).max(later)];
+        for _ in 0..self.random.pick(&[0, 0, 0, 1, 1, 1, 2, 3]) {
             aims.push(self.random.pick(causes));
         }
+        (letter, aims)
+    }
+
+    /// A call that would be taken, damage that turns it down, and often the damage repaired bit by bit.
+    pub(super) fn aimed(&mut self) {
+        let (letter, aims) = self.target();
         if self.random.chance(1, 4) {
             self.work(12);
         }
@@ -161,6 +168,10 @@ impl Script {
         self.field(4, place);
         self.field(6, 1);
         self.odd_undo();
+        if self.random.chance(1, 2) {
+            let damage = self.worker_from_w_on();
+            self.damage(damage);
+        }
         for _ in 0..self.random.below(3) {
             let at = self.random.pick(&[place.min(cells - 1), self.random.below(cells)]);
             self.damage(Damage::Entry { at, cell: self.random.below(cells) });

@@ -65,6 +65,13 @@ impl Script {
         Damage::Worker { worker, numbers }
     }
 
+    /// A worker that is not under W, if there is one, in the middle of an update.
+    pub(super) fn worker_from_w_on(&mut self) -> Damage {
+        let workers = self.workers().min(7);
+        let worker = workers + self.random.below(8 - workers);
+        Damage::Worker { worker, numbers: [2, self.random.below(3), self.about(self.cells()), self.word()] }
+    }
+
     /// A record put together field by field, then calls of every kind.
     pub(super) fn odd_record(&mut self) {
         if self.random.chance(2, 3) {

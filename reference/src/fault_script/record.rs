@@ -43,15 +43,19 @@ impl Script {
         damages
     }
 
-    /// A full list while an advance must add a cell.
+    /// A full list while an advance must add a cell, now and then with rows that do not fit.
     fn full_list(&mut self, call: &Call) -> Vec<Damage> {
         let Call::Advance { worker } = *call else { return Vec::new() };
         let cells = self.cells();
         let cell = self.random.below(cells.max(1)).min(65_535);
-        vec![
+        let mut damages = vec![
             Damage::Field { k: 3, number: cells.min(65_535) },
             Damage::Worker { worker: worker.min(7), numbers: [2, 1, cell, self.word()] },
-        ]
+        ];
+        if self.random.chance(1, 3) {
+            damages.push(self.lengths_fault());
+        }
+        damages
     }
 
     /// Rows that do not fit: for a format's start also by its own L, for a checkpoint's step also by an entry.

@@ -167,6 +167,7 @@ impl Script {
         let lines = self.lines();
         let workers = some_workers(&self.random, lines);
         self.call(Call::Format { lines, workers });
+        self.odd_undo();
         self.steps(self.random.below(lines.min(12) + 3));
         match self.random.below(5) {
             0 => self.put(drill_line(&Command::Cut)),
