@@ -1,5 +1,7 @@
 //! Damage aimed at one cause of one call, alone or among others of that call.
 
+use std::cmp::Reverse;
+
 use super::Script;
 use crate::board::Condition;
 use crate::call::Call;
@@ -14,16 +16,18 @@ const FREE: [u64; 4] = [0; 4];
 const WAITING: [u64; 4] = [1, 0, 0, 0];
 
 impl Script {
-    /// A call's letter and the causes aimed at, the later ones more often; each call as often as it has causes.
+    /// A call's letter and the causes aimed at, late ones more often and seldom alone: arguments first, which others may go by,
+    /// then the later causes before the earlier, so that repairs uncover one after the other.
     fn target(&self) -> (u8, Vec<u8>) {
-        let calls: Vec<(u8, &[u8])> =
-            CAUSES.iter().flat_map(|(letter, of)| of.iter().map(|_| (*letter, *of))).collect();
-        let (letter, causes) = self.random.pick(&calls);
-        let later = if self.random.chance(1, 3) { self.random.pick(causes) } else { 0 };
-        let mut aims = vec![self.random.pick(causes).max(later)];
-        for _ in 0..self.random.pick(&[0, 0, 0, 1, 1, 1, 2, 3]) {
-            aims.push(self.random.pick(causes));
-        }
+        let random = &self.random;
+        let (one, other) = (random.pick(&CAUSES), random.pick(&CAUSES));
+        let (letter, causes) = if one.1.len() < other.1.len() && random.chance(1, 2) { other } else { one };
+        let later = if random.chance(1, 3) { random.pick(causes) } else { 0 };
+        let first = random.pick(causes).max(later);
+        let others = if first >= 9 { random.pick(&[0, 1, 1, 2]) } else { random.pick(&[0, 0, 0, 1, 1, 2, 3]) };
+        let mut aims = vec![first];
+        (0..others).for_each(|_| aims.push(random.pick(causes)));
+        aims.sort_by_key(|cause| Reverse(if matches!(cause, 6 | 7) { u8::MAX } else { *cause }));
         (letter, aims)
     }
 

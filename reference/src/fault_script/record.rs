@@ -66,7 +66,9 @@ impl Script {
                 *call = Call::Format { lines: other, workers: workers.min(2 * other.max(1) - 1) };
                 Vec::new()
             }
-            Call::Step if self.running() && self.random.chance(1, 2) => self.entry_fault(),
+            Call::Step if self.running() && self.board.cache.first() != Some(&u64::MAX) && self.random.chance(1, 2) => {
+                self.entry_fault()
+            }
             _ => vec![self.lengths_fault()],
         }
     }
