@@ -130,10 +130,8 @@ impl Board {
         self.list.resize(cells(lines) as usize, 0);
     }
 
-    /// Rows made anew for a board of so many lines, all 0.
+    /// Rows made anew for a format of so many lines: the list all 0, memory and cache as the format will overwrite them.
     pub fn renew(&mut self, lines: u64) {
-        self.memory.clear();
-        self.cache.clear();
         self.list.clear();
         self.resize(lines);
     }

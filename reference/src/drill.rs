@@ -29,6 +29,7 @@ pub struct Drill;
 impl Program for Drill {
     type Command = Command;
 
+    #[inline]
     fn command(fields: &Fields) -> Result<Command, Unread> {
         let [a, b, c, ..] = fields.numbers;
         let call = match (fields.letter, fields.count) {
@@ -47,6 +48,7 @@ impl Program for Drill {
         Ok(Command::Call(call))
     }
 
+    #[inline]
     fn execute(board: &mut Board, command: &Command) -> Result<Reply, Unread> {
         Ok(match *command {
             Command::Format { lines, workers } => Reply { number: format(board, lines, workers).number, value: None },

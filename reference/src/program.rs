@@ -25,6 +25,7 @@ pub trait Program {
 }
 
 /// What a line without its line feed does to a board, and its reply.
+#[inline]
 pub fn answer<P: Program>(board: &mut Board, line: &[u8]) -> Result<Reply, Unread> {
     P::execute(board, &P::command(&fields(line)?)?)
 }

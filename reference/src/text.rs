@@ -50,6 +50,7 @@ pub struct Fields {
 }
 
 /// "fields parted by tabs, numbers decimal"
+#[inline(always)]
 pub fn fields(line: &[u8]) -> Result<Fields, Unread> {
     if line.len() > MOST_BYTES {
         return Err(Unread::Long);
@@ -69,6 +70,7 @@ pub fn fields(line: &[u8]) -> Result<Fields, Unread> {
 }
 
 /// "numbers decimal", not "past 2^64 − 1"
+#[inline]
 fn number(field: &[u8]) -> Result<u64, Unread> {
     if field.is_empty() {
         return Err(Unread::NoNumber);
@@ -84,6 +86,7 @@ fn number(field: &[u8]) -> Result<u64, Unread> {
 
 impl Fields {
     /// Why fields are no line of a program whose letters have so many numbers each.
+    #[cold]
     pub fn other_form(&self, forms: &[(u8, usize)]) -> Unread {
         match forms.iter().find(|(letter, _)| *letter == self.letter) {
             None => Unread::Letter,
@@ -94,6 +97,7 @@ impl Fields {
 }
 
 /// The next line without its line feed, of a line too long only so much as shows that; false at the end.
+#[inline(always)]
 pub fn next_line(input: &mut impl BufRead, line: &mut Vec<u8>) -> Done<bool> {
     line.clear();
     let mut any = false;

@@ -11,6 +11,7 @@ use reference::explore::check::Checks;
 use reference::explore::table::parts;
 use reference::fault::{Command, Fault};
 use reference::fault_script::script;
+use reference::mistake::{Mistake, MISTAKES};
 use reference::program::{answer, Program};
 use reference::reached::{orders, reached, CAUSES};
 use reference::say::{damage_line, drill_line};
@@ -165,5 +166,22 @@ fn a_command_said_is_the_command_read() {
             };
             assert_eq!(fields(&said).and_then(|fields| Fault::command(&fields)), Ok(command));
         }
+    }
+}
+
+/// What the board, right or mistaken, answers to a script.
+fn answers(text: &[u8], mistake: Option<Mistake>) -> Vec<Option<(u8, Option<u64>)>> {
+    let mut board = Board::empty(mistake);
+    let reply = |line| answer::<Fault>(&mut board, line).ok().map(|reply| (reply.number, reply.value));
+    lines(text).into_iter().map(reply).collect()
+}
+
+#[test]
+fn every_mistake_shows_in_many_scripts() {
+    let scripts: Vec<Vec<u8>> = (1..=200).map(|seed| script(seed, 400)).collect();
+    for (name, mistake, _) in MISTAKES {
+        let shows = |text: &&Vec<u8>| answers(text, None) != answers(text, Some(mistake));
+        let count = scripts.iter().filter(shows).count();
+        assert!(count >= 20, "{name} shows in {count} scripts");
     }
 }
