@@ -16,8 +16,8 @@ const FREE: [u64; 4] = [0; 4];
 const WAITING: [u64; 4] = [1, 0, 0, 0];
 
 impl Script {
-    /// A call's letter and the causes aimed at, late ones more often and seldom alone: arguments first, which others may go by,
-    /// then the later causes before the earlier, so that repairs uncover one after the other.
+    /// A call's letter and the causes aimed at, late ones more often and seldom alone: arguments first, which others may
+    /// go by, then the later causes before the earlier, so that repairs uncover one after the other.
     fn target(&self) -> (u8, Vec<u8>) {
         let random = &self.random;
         let (one, other) = (random.pick(&CAUSES), random.pick(&CAUSES));
@@ -273,19 +273,28 @@ impl Script {
         if self.random.chance(1, 3) {
             return vec![Damage::Field { k: 6, number: 0 }];
         }
+        vec![self.not_waiting()]
+    }
+
+    /// A worker under W that does not wait.
+    fn not_waiting(&self) -> Damage {
         let worker = self.random.below(self.workers().clamp(1, 8));
         let cell = self.random.below(self.cells().max(1));
         let numbers = self.random.pick(&[FREE, [2, self.random.below(3), cell, self.word()]]);
-        vec![Damage::Worker { worker, numbers }]
+        Damage::Worker { worker, numbers }
     }
 
-    /// The cache's epoch 2^64 − 1, or just under; for a step at the epoch's store, or at a place beside it.
+    /// The cache's epoch 2^64 − 1, or just under; for a step at the epoch's store, or at a place beside it,
+    /// now and then with a worker that does not wait.
     fn last_epoch(&mut self, call: &Call) -> Vec<Damage> {
         let word = self.random.pick(&[u64::MAX, u64::MAX, u64::MAX, u64::MAX - 1]);
         let mut damages = vec![Damage::Cache { at: 0, word }];
         if *call == Call::Step {
             let place = self.random.pick(&[0, 0, 0, 0, 1, 2]);
             damages.push(Damage::Field { k: 4, number: self.listed() + place });
+            if self.random.chance(1, 3) {
+                damages.push(self.not_waiting());
+            }
         }
         damages
     }

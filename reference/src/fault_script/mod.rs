@@ -62,10 +62,10 @@ impl Script {
         }
     }
 
-    /// A checksum.
+    /// A checksum, unless the last line was one.
     fn sum(&mut self) {
         self.until_sum = 8 + self.random.below(8);
-        if self.left > 1 {
+        if self.left > 1 && !self.text.ends_with(b"\nT\n") {
             self.put(line('T', &[]));
         }
     }

@@ -6,7 +6,7 @@ use crate::call::Call;
 use crate::damage::Damage;
 use crate::drill::Command;
 use crate::line::{line_of, mark_at, record_at, row_words};
-use crate::say::{drill_line, line};
+use crate::say::drill_line;
 use crate::work::{good_call, some_workers};
 
 impl Script {
@@ -158,7 +158,7 @@ impl Script {
         }
         self.call(if self.random.chance(3, 4) { Call::Recovery } else { Call::Format { lines, workers } });
         self.steps(25);
-        self.put(line('T', &[]));
+        self.sum();
     }
 
     /// A format's start on rows as they are, some of its steps, and perhaps something between.
