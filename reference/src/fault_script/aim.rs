@@ -16,8 +16,8 @@ const FREE: [u64; 4] = [0; 4];
 const WAITING: [u64; 4] = [1, 0, 0, 0];
 
 impl Script {
-    /// A call's letter and the causes aimed at, late ones more often and seldom alone: arguments first, which others may
-    /// go by, then the later causes before the earlier, so that repairs uncover one after the other.
+    /// A call's letter and the causes aimed at, late ones more often: arguments first, which others may go by, then the
+    /// later causes before the earlier, so that repairs uncover one after the other.
     fn target(&self) -> (u8, Vec<u8>) {
         let random = &self.random;
         let (one, other) = (random.pick(&CAUSES), random.pick(&CAUSES));
