@@ -130,6 +130,12 @@ impl Board {
         self.list.resize(cells(lines) as usize, 0);
     }
 
+    /// Rows made anew for a format of so many lines: the list all 0; memory and cache the format itself overwrites.
+    pub fn renew(&mut self, lines: u64) {
+        self.list.clear();
+        self.resize(lines);
+    }
+
     /// The rows, lent for reading.
     pub fn lent(&self) -> Lent<'_> {
         Lent { memory: &self.memory, cache: &self.cache, list: &self.list }

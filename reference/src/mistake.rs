@@ -31,26 +31,26 @@ pub enum Mistake {
     Unlisted,
 }
 
-/// Every mistake with its name.
-pub const MISTAKES: [(&str, Mistake); 13] = [
-    ("mark-first", Mistake::MarkFirst),
-    ("recovery-mark-first", Mistake::RecoveryMarkFirst),
-    ("recovery-cache-only", Mistake::RecoveryCacheOnly),
-    ("recovery-keeps-marks", Mistake::RecoveryKeepsMarks),
-    ("early-release", Mistake::EarlyRelease),
-    ("recovery-zeros", Mistake::RecoveryZeros),
-    ("format-at-once", Mistake::FormatAtOnce),
-    ("recovery-at-once", Mistake::RecoveryAtOnce),
-    ("complete-early", Mistake::CompleteEarly),
-    ("write-back-nothing", Mistake::WriteBackNothing),
-    ("refuse-all", Mistake::RefuseAll),
-    ("no-cause-9", Mistake::NoCause9),
-    ("unlisted", Mistake::Unlisted),
+/// Every mistake with its name and a few words.
+pub const MISTAKES: [(&str, Mistake, &str); 13] = [
+    ("mark-first", Mistake::MarkFirst, "an update stores the mark before the backup"),
+    ("recovery-mark-first", Mistake::RecoveryMarkFirst, "recovery clears a mark before it restores the record"),
+    ("recovery-cache-only", Mistake::RecoveryCacheOnly, "recovered lines are not written back"),
+    ("recovery-keeps-marks", Mistake::RecoveryKeepsMarks, "recovery leaves the marks"),
+    ("early-release", Mistake::EarlyRelease, "workers are released before line 0 is in memory"),
+    ("recovery-zeros", Mistake::RecoveryZeros, "recovery always gives zeros"),
+    ("format-at-once", Mistake::FormatAtOnce, "a format does all in its first step"),
+    ("recovery-at-once", Mistake::RecoveryAtOnce, "a recovery does all in its first step"),
+    ("complete-early", Mistake::CompleteEarly, "a checkpoint is complete before its writes"),
+    ("write-back-nothing", Mistake::WriteBackNothing, "a write-back copies nothing"),
+    ("refuse-all", Mistake::RefuseAll, "every call is turned down"),
+    ("no-cause-9", Mistake::NoCause9, "two workers may update one cell"),
+    ("unlisted", Mistake::Unlisted, "a marked cell is not added to the list"),
 ];
 
 impl Mistake {
     /// The mistake of that name.
     pub fn named(name: &str) -> Option<Mistake> {
-        MISTAKES.iter().find(|(known, _)| *known == name).map(|(_, mistake)| *mistake)
+        MISTAKES.iter().find(|(known, ..)| *known == name).map(|(_, mistake, _)| *mistake)
     }
 }

@@ -2,9 +2,11 @@
 
 use crate::board::{Board, Phase};
 use crate::call::Call;
-use crate::drill::{execute, parse, Command, MOST_BYTES};
+use crate::drill::{Command, Drill};
 use crate::line::cells;
+use crate::program::answer;
 use crate::random::Random;
+use crate::say::{drill_line, spoil};
 use crate::work::{good_call, some_workers};
 
 /// A script being written.
@@ -25,10 +27,8 @@ pub fn script(seed: u64, lines: u64, size: Option<(u64, u64)>) -> Vec<u8> {
     let mut text = Vec::new();
     for at in 0..lines {
         let line = script.next(at);
-        if let Some(command) = parse(&line) {
-            let answer = execute(&mut script.board, &command);
-            script.formatted |= matches!(command, Command::Format { .. }) && answer.number == 0;
-        }
+        let reply = answer::<Drill>(&mut script.board, &line);
+        script.formatted |= line.first() == Some(&b'F') && reply.is_ok_and(|reply| reply.number == 0);
         text.extend_from_slice(&line);
         let bare = at + 1 == lines && seed % 2 == 1 && !line.is_empty();
         if !bare {
@@ -38,32 +38,11 @@ pub fn script(seed: u64, lines: u64, size: Option<(u64, u64)>) -> Vec<u8> {
     text
 }
 
-/// A command as a line of a script.
-fn line_of(command: &Command) -> Vec<u8> {
-    let text = match *command {
-        Command::Format { lines, workers } | Command::Call(Call::Format { lines, workers }) => {
-            format!("F\t{lines}\t{workers}")
-        }
-        Command::Cut => "X".into(),
-        Command::Call(call) => match call {
-            Call::Update { worker, cell, value } => format!("U\t{worker}\t{cell}\t{value}"),
-            Call::RestartPoint { worker, value } => format!("P\t{worker}\t{value}"),
-            Call::Advance { worker } => format!("A\t{worker}"),
-            Call::WriteBack { line } => format!("E\t{line}"),
-            Call::Read { cell } => format!("G\t{cell}"),
-            Call::Request => "C".into(),
-            Call::Recovery => "R".into(),
-            _ => "S".into(),
-        },
-    };
-    text.into_bytes()
-}
-
 impl Script {
     /// The next line.
     fn next(&mut self, at: u64) -> Vec<u8> {
         if at == 0 && self.size.is_some() {
-            return line_of(&self.format());
+            return drill_line(&self.format());
         }
         if self.random.chance(1, 200) {
             self.requests = self.random.pick(&[3, 30, 150]);
@@ -71,8 +50,8 @@ impl Script {
         let roll = self.random.below(1000);
         match roll {
             0..=29 => self.damaged(),
-            30..=69 => line_of(&self.bad()),
-            _ => line_of(&self.good()),
+            30..=69 => drill_line(&self.bad()),
+            _ => drill_line(&self.good()),
         }
     }
 
@@ -138,36 +117,7 @@ impl Script {
 
     /// A good line damaged, some of them only to the edge.
     fn damaged(&self) -> Vec<u8> {
-        let random = &self.random;
-        let mut line = line_of(&if random.chance(1, 2) { self.good() } else { self.bad() });
-        let tab = line.iter().rposition(|byte| *byte == b'\t');
-        match (random.below(14), tab) {
-            (0, _) => line.clear(),
-            (1, _) => line.push(b'\r'),
-            (2, _) => line.push(b'\t'),
-            (3, _) => line.extend_from_slice(b"\t1"),
-            (4, _) => line[0] = line[0].to_ascii_lowercase(),
-            (5, _) => line.insert(0, b' '),
-            (6, _) => line = (0..random.below(90)).map(|_| random.word() as u8).filter(|byte| *byte != b'\n').collect(),
-            (7, Some(tab)) => line[tab] = b' ',
-            (8, Some(tab)) => line.insert(tab + 1, random.pick(b"+-\t ")),
-            (9, Some(tab)) => line.truncate(tab),
-            (10, Some(tab)) => {
-                line.truncate(tab + 1);
-                line.extend_from_slice(
-                    random
-                        .pick(&["18446744073709551616", "18446744073709551615", "99999999999999999999", "1e3"])
-                        .as_bytes(),
-                );
-            }
-            (_, Some(tab)) => {
-                let length = MOST_BYTES as u64 - 1 + random.below(3);
-                while (line.len() as u64) < length {
-                    line.insert(tab + 1, b'0');
-                }
-            }
-            _ => line.push(b'x'),
-        }
-        line
+        let command = if self.random.chance(1, 2) { self.good() } else { self.bad() };
+        spoil(&self.random, drill_line(&command))
     }
 }

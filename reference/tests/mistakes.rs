@@ -41,7 +41,7 @@ fn each_check_alone_catches_what_it_is_there_for() {
 
 #[test]
 fn every_mistake_is_caught() {
-    for (name, mistake) in MISTAKES {
+    for (name, mistake, _) in MISTAKES {
         assert!(CATCHERS.iter().any(|(known, _)| *known == mistake), "{name} is in the table");
         assert!(violated(mistake, None).is_some(), "{name}");
     }
@@ -49,7 +49,7 @@ fn every_mistake_is_caught() {
 
 #[test]
 fn the_smallest_board_shows_every_mistake_of_one_worker() {
-    for (name, mistake) in MISTAKES {
+    for (name, mistake, _) in MISTAKES {
         let caught = exhaustive::exhaust(Some(mistake), None).err();
         assert_eq!(caught.is_some(), mistake != Mistake::NoCause9, "{name}: cause 9 needs two workers");
     }
@@ -57,7 +57,7 @@ fn the_smallest_board_shows_every_mistake_of_one_worker() {
 
 #[test]
 fn the_program_names_the_statement_and_fails() {
-    for (name, _) in MISTAKES {
+    for (name, ..) in MISTAKES {
         let arguments = ["explore", "3", "400000", "--mistake", name];
         let output = Command::new(env!("CARGO_BIN_EXE_reference")).args(arguments).output().unwrap();
         assert_eq!(output.status.code(), Some(1), "{name}");

@@ -23,28 +23,28 @@ pub enum Check {
     Invariant,
 }
 
-/// Every check with its name.
-pub const CHECKS: [(&str, Check); 9] = [
-    ("causes", Check::Causes),
-    ("outcome", Check::Outcome),
-    ("reads", Check::Reads),
-    ("recovery", Check::Recovery),
-    ("completion", Check::Completion),
-    ("two-boards", Check::TwoBoards),
-    ("progress", Check::Progress),
-    ("stores", Check::Stores),
-    ("invariant", Check::Invariant),
+/// Every check with its name and a few words.
+pub const CHECKS: [(&str, Check, &str); 9] = [
+    ("causes", Check::Causes, "the table of causes; a refused call leaves all as it was"),
+    ("outcome", Check::Outcome, "the complete outcome of a taken call"),
+    ("reads", Check::Reads, "a taken read gives the machine's current value"),
+    ("recovery", Check::Recovery, "after a recovery each cell reads as checkpointed"),
+    ("completion", Check::Completion, "complete in the machine is the new epoch in memory"),
+    ("two-boards", Check::TwoBoards, "two boards read alike where their checkpointed values are equal"),
+    ("progress", Check::Progress, "steps that are owed are taken, as many as foretold"),
+    ("stores", Check::Stores, "one store or one write-back a call"),
+    ("invariant", Check::Invariant, "the design page's invariant"),
 ];
 
 impl Check {
     /// The check of that name.
     pub fn named(name: &str) -> Option<Check> {
-        CHECKS.iter().find(|(known, _)| *known == name).map(|(_, check)| *check)
+        CHECKS.iter().find(|(known, ..)| *known == name).map(|(_, check, _)| *check)
     }
 
     /// The name of this check.
     pub fn name(self) -> &'static str {
-        CHECKS.iter().find(|(_, check)| *check == self).map_or("", |(name, _)| name)
+        CHECKS.iter().find(|(_, check, _)| *check == self).map_or("", |(name, ..)| name)
     }
 }
 

@@ -3,17 +3,18 @@
 pub mod check;
 mod choose;
 pub mod exhaustive;
-mod garbage;
+pub(crate) mod garbage;
 mod invariant;
 mod key;
 mod outcome;
 mod promise;
 mod stores;
-mod table;
+pub mod table;
 mod tally;
 mod watched;
 
 use std::collections::HashMap;
+use std::io::{stderr, Write};
 
 use crate::board::Board;
 use crate::call::Call;
@@ -24,7 +25,8 @@ use check::{ensure, Check, Checks, Violation};
 use choose::{Choice, Temper};
 use promise::Finished;
 pub use tally::Tally;
-use watched::{answered, Watched};
+pub use watched::answered;
+use watched::Watched;
 
 /// What to explore.
 #[derive(Clone, Copy, Debug)]
@@ -76,7 +78,7 @@ pub fn explore(options: &Options) -> Result<Tally, Caught> {
             return Err(Caught { violation, trace: explorer.trace });
         }
         if explorer.tally.calls / 1_000_000 > told {
-            eprintln!("{} calls, {} sequences", explorer.tally.calls, explorer.tally.sequences);
+            let _ = writeln!(stderr(), "{} calls, {} sequences", explorer.tally.calls, explorer.tally.sequences);
         }
     }
     Ok(explorer.tally)

@@ -117,7 +117,7 @@ impl Told<'_> {
     /// The word that a format's step puts into both rows.
     fn formatted(&self, index: usize) -> Option<u64> {
         let state = &self.board.state;
-        let last = state.place == state.lines + 1;
+        let last = u32::from(state.place) == u32::from(state.lines) + 1;
         let line = if last { 0 } else { state.place as usize };
         let word = match index {
             0 if last => 1,

@@ -11,41 +11,102 @@ struct Case<'a> {
     rows: Lent<'a>,
 }
 
-/// Whether a cause holds.
-type Cause = fn(&Case) -> bool;
+/// A part of a cause: the cause's number, a few words, and whether it holds.
+type Part = (u8, &'static str, fn(&Case) -> bool);
 
-/// Every cause with its number.
-const TABLE: [(u8, Cause); 22] = [
-    (11, |case| case.rows.cache.first() == Some(&u64::MAX) && (case.call == Call::Request || case.at_epoch_store())),
-    (10, |case| case.call == Call::Request && case.state.requested),
-    (10, |case| case.running_step() && !case.state.requested),
-    (10, |case| case.running_step() && case.under_w().any(|(_, condition)| *condition != Condition::Waiting)),
-    (9, |case| {
+/// Every part of every cause.
+const TABLE: [Part; 31] = [
+    (11, "the last epoch", |case| {
+        case.rows.cache.first() == Some(&u64::MAX) && (case.call == Call::Request || case.at_epoch_store())
+    }),
+    (10, "request while one stands", |case| case.call == Call::Request && case.state.requested),
+    (10, "no request", |case| case.running_step() && !case.state.requested),
+    (10, "a worker not waiting", |case| {
+        case.running_step() && case.under_w().any(|(_, condition)| *condition != Condition::Waiting)
+    }),
+    (9, "another's update of the cell", |case| {
         case.begins().is_some_and(|(worker, cell)| case.updates().any(|(w, u)| w != worker && u.cell as u64 == cell))
     }),
-    (8, |case| case.begins().is_some_and(|(worker, _)| case.condition(worker) != Some(Condition::Free))),
-    (8, |case| matches!(case.call, Call::Advance { worker } if !case.updates().any(|(w, _)| w == worker))),
-    (7, |case| matches!(case.call, Call::Update { cell, .. } if cell < case.w())),
-    (7, |case| matches!(case.call, Call::Update { cell, .. } | Call::Read { cell } if cell as u128 >= case.two_l())),
-    (7, |case| matches!(case.call, Call::WriteBack { line } if line > case.l())),
-    (6, |case| case.named_worker().is_some_and(|worker| worker >= case.w())),
-    (5, |case| case.call == Call::Recovery && !case.header_good()),
-    (4, |case| case.call == Call::Recovery && !case.recovery_rows_good()),
-    (4, |case| case.fitting_lines().is_some_and(|lines| !case.rows_of(lines as u128))),
-    (4, |case| case.used_entry().is_some_and(|entry| entry as u128 >= case.two_l())),
-    (3, |case| case.not_start() && !limits(case.l() as u128, case.w() as u128)),
-    (3, |case| case.not_start() && case.state.list_length as u128 > case.two_l()),
-    (3, |case| case.not_start() && case.misplaced()),
-    (3, |case| case.not_start() && case.updates().any(|(_, update)| update.cell as u128 >= case.two_l())),
-    (3, |case| case.adds_a_cell() && case.state.list_length as u128 == case.two_l()),
-    (2, |case| !case.phase_allows()),
-    (1, |case| matches!(case.call, Call::Format { lines, workers } if !limits(lines as u128, workers as u128))),
+    (8, "worker not free", |case| {
+        case.begins().is_some_and(|(worker, _)| case.condition(worker) != Some(Condition::Free))
+    }),
+    (
+        8,
+        "worker without update",
+        |case| matches!(case.call, Call::Advance { worker } if !case.updates().any(|(w, _)| w == worker)),
+    ),
+    (7, "cell under W", |case| matches!(case.call, Call::Update { cell, .. } if cell < case.w())),
+    (
+        7,
+        "cell 2L or more",
+        |case| matches!(case.call, Call::Update { cell, .. } | Call::Read { cell } if cell as u128 >= case.two_l()),
+    ),
+    (7, "line over L", |case| matches!(case.call, Call::WriteBack { line } if line > case.l())),
+    (6, "worker W or more", |case| case.named_worker().is_some_and(|worker| worker >= case.w())),
+    (5, "header's epoch", |case| case.header().is_some_and(|header| header[0] == 0)),
+    (5, "header's L", |case| case.header().is_some_and(|header| header[1] as u128 + 1 != case.memory_lines())),
+    (5, "header's W", |case| {
+        case.header().is_some_and(|header| !limits(case.memory_lines().saturating_sub(1), header[2] as u128))
+    }),
+    (5, "header's words 3 to 7", |case| case.header().is_some_and(|header| header[3..].iter().any(|word| *word != 0))),
+    (4, "memory's length at recovery", |case| {
+        case.call == Call::Recovery && !(2..=512).any(|lines| 8 * lines == case.rows.memory.len())
+    }),
+    (4, "cache's length at recovery", |case| {
+        case.call == Call::Recovery && case.rows.cache.len() != case.rows.memory.len()
+    }),
+    (4, "list's length at recovery", |case| {
+        case.call == Call::Recovery && case.rows.list.len() + 2 < case.rows.memory.len() / 4
+    }),
+    (4, "memory's length", |case| case.row_words().is_some_and(|words| case.rows.memory.len() as u128 != words)),
+    (4, "cache's length", |case| case.row_words().is_some_and(|words| case.rows.cache.len() as u128 != words)),
+    (4, "list's length", |case| {
+        case.fitting_lines().is_some_and(|lines| (case.rows.list.len() as u128) < 2 * lines as u128)
+    }),
+    (4, "list entry used", |case| case.used_entry().is_some_and(|entry| entry as u128 >= case.two_l())),
+    (3, "record's L or W", |case| case.not_start() && !limits(case.l() as u128, case.w() as u128)),
+    (3, "record's list length", |case| case.not_start() && case.state.list_length as u128 > case.two_l()),
+    (3, "place in a format", |case| case.misplaced(Phase::Formatting)),
+    (3, "place in a recovery", |case| case.misplaced(Phase::Recovering)),
+    (3, "place in a checkpoint", |case| case.misplaced(Phase::Running)),
+    (3, "a worker's cell", |case| {
+        case.not_start() && case.updates().any(|(_, update)| update.cell as u128 >= case.two_l())
+    }),
+    (3, "a full list", |case| case.adds_a_cell() && case.state.list_length as u128 == case.two_l()),
+    (2, "phase", |case| !case.phase_allows()),
+    (
+        1,
+        "a format's L or W",
+        |case| matches!(case.call, Call::Format { lines, workers } if !limits(lines as u128, workers as u128)),
+    ),
 ];
 
 /// The answer that the table gives.
 pub fn answer(call: &Call, state: &State, rows: Lent) -> u8 {
     let case = Case { call: *call, state, rows };
-    TABLE.iter().filter(|(_, holds)| holds(&case)).map(|(number, _)| *number).min().unwrap_or(0)
+    TABLE.iter().filter(|(.., holds)| holds(&case)).map(|(number, ..)| *number).min().unwrap_or(0)
+}
+
+/// The numbers of all causes that hold, rising.
+pub fn causes(call: &Call, state: &State, rows: Lent) -> Vec<u8> {
+    let case = Case { call: *call, state, rows };
+    let mut numbers: Vec<u8> = TABLE.iter().filter(|(.., holds)| holds(&case)).map(|(number, ..)| *number).collect();
+    numbers.sort_unstable();
+    numbers.dedup();
+    numbers
+}
+
+/// The words of the part that an answer hangs on: the only one that holds of the cause that answers.
+pub fn deciding_part(call: &Call, state: &State, rows: Lent) -> Option<&'static str> {
+    let number = answer(call, state, rows);
+    let case = Case { call: *call, state, rows };
+    let mut parts = TABLE.iter().filter(|(known, _, holds)| *known == number && holds(&case));
+    parts.next().filter(|_| parts.next().is_none()).map(|(_, words, _)| *words)
+}
+
+/// Every part of every cause in a few words, with the cause's number.
+pub fn parts() -> impl Iterator<Item = (u8, &'static str)> {
+    TABLE.iter().rev().map(|(number, words, _)| (*number, *words))
 }
 
 /// "L ... is 1 to 511. ... W ... is 1 to 8, and W < 2L."
@@ -137,14 +198,15 @@ impl Case<'_> {
     }
 
     /// "place over L+1 in a format, a cell over 2L−1 in a recovery, over n+2 ... when running with ..."
-    fn misplaced(&self) -> bool {
+    fn misplaced(&self, phase: Phase) -> bool {
         let (place, n) = (self.state.place as u128, self.state.list_length as u128);
-        match self.state.phase {
+        let past = match phase {
             Phase::Off => false,
             Phase::Formatting => place > self.l() as u128 + 1,
             Phase::Recovering => place + 1 > self.two_l(),
             Phase::Running => self.state.requested && place > n + 2,
-        }
+        };
+        self.not_start() && self.state.phase == phase && past
     }
 
     /// "an advance by a worker under W must add a cell"
@@ -164,33 +226,18 @@ impl Case<'_> {
         }
     }
 
-    /// "cache or memory not 8×(L+1) words, list under 2L", turned round
-    fn rows_of(&self, lines: u128) -> bool {
-        let words = 8 * (lines + 1);
-        self.rows.cache.len() as u128 == words
-            && self.rows.memory.len() as u128 == words
-            && self.rows.list.len() as u128 >= 2 * lines
+    /// "8×(L+1) words", of the L that the rows must fit.
+    fn row_words(&self) -> Option<u128> {
+        self.fitting_lines().map(|lines| 8 * (lines as u128 + 1))
     }
 
-    /// "memory not a multiple of 8 in 16 to 4,096 words, cache of another length, list ...", turned round
-    fn recovery_rows_good(&self) -> bool {
-        let words = self.rows.memory.len();
-        (2..=512).any(|lines| 8 * lines == words)
-            && self.rows.cache.len() == words
-            && self.rows.list.len() + 2 >= words / 4
+    /// Memory's header at recovery's start, where there is a line.
+    fn header(&self) -> Option<&[u64]> {
+        self.rows.memory.get(..8).filter(|_| self.call == Call::Recovery)
     }
 
-    /// "epoch 0, L not (words div 8) − 1, W outside the limits, or words 3 to 7 not all zero", turned round
-    fn header_good(&self) -> bool {
-        let words = self.rows.memory.len() as u128;
-        match self.rows.memory.get(..8) {
-            Some([epoch, lines, workers, rest @ ..]) => {
-                *epoch != 0
-                    && *lines as u128 + 1 == words / 8
-                    && limits(*lines as u128, *workers as u128)
-                    && rest.iter().all(|word| *word == 0)
-            }
-            _ => false,
-        }
+    /// "words div 8"
+    fn memory_lines(&self) -> u128 {
+        self.rows.memory.len() as u128 / 8
     }
 }

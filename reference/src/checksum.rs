@@ -1,0 +1,24 @@
+//! The checksum of the fault program.
+
+use crate::board::Board;
+use crate::record::{condition_numbers, field, FIELDS};
+
+/// "h is 14695981039346656037; for each number x in turn h := ((h xor x) × 1099511628211) mod 2^64"
+pub fn of_numbers(numbers: impl Iterator<Item = u64>) -> u64 {
+    numbers.fold(14_695_981_039_346_656_037, |sum, number| (sum ^ number).wrapping_mul(1_099_511_628_211))
+}
+
+/// "the fields of `B` ...; for each of the eight workers ...; then for memory, for the cache and ... for the list"
+pub fn of_board(board: &Board) -> u64 {
+    let fields = (0..FIELDS).map(|k| field(&board.state, k));
+    let workers = board.state.worker.iter().flat_map(condition_numbers);
+    let memory = row(board.memory.len(), board.memory.iter().copied());
+    let cache = row(board.cache.len(), board.cache.iter().copied());
+    let list = row(board.list.len(), board.list.iter().map(|entry| u64::from(*entry)));
+    of_numbers(fields.chain(workers).chain(memory).chain(cache).chain(list))
+}
+
+/// "its length, then its words"
+fn row(length: usize, words: impl Iterator<Item = u64>) -> impl Iterator<Item = u64> {
+    std::iter::once(length as u64).chain(words)
+}

@@ -1,0 +1,63 @@
+//! The fault program: the drill with damage.
+
+use std::io::{BufRead, Result as Done, Write};
+
+use crate::board::Board;
+use crate::call::Call;
+use crate::checksum::of_board;
+use crate::damage::Damage;
+use crate::drill::{self, Drill};
+use crate::program::{self, Program, Reply};
+use crate::text::{Fields, Unread};
+
+/// One line of a script.
+#[derive(Clone, Copy, PartialEq, Eq, Debug)]
+pub enum Command {
+    /// A letter of the drill, or `f`, a format's start alone.
+    Drill(drill::Command),
+    /// `W M N Q B K`
+    Damage(Damage),
+    /// `T`
+    Checksum,
+}
+
+/// The letters that the drill has not, and how many numbers each has.
+pub const FORMS: [(u8, usize); 8] =
+    [(b'f', 2), (b'W', 3), (b'M', 2), (b'N', 2), (b'Q', 2), (b'B', 2), (b'K', 5), (b'T', 0)];
+
+/// The fault program as a program.
+pub struct Fault;
+
+impl Program for Fault {
+    type Command = Command;
+
+    fn command(fields: &Fields) -> Result<Command, Unread> {
+        let [a, b, c, d, e] = fields.numbers;
+        let damage = match (fields.letter, fields.count) {
+            (b'f', 2) => return Ok(Command::Drill(drill::Command::Call(Call::Format { lines: a, workers: b }))),
+            (b'T', 0) => return Ok(Command::Checksum),
+            (b'W', 3) => Damage::Lengths { memory: a, cache: b, list: c },
+            (b'M', 2) => Damage::Memory { at: a, word: b },
+            (b'N', 2) => Damage::Cache { at: a, word: b },
+            (b'Q', 2) => Damage::Entry { at: a, cell: b },
+            (b'B', 2) => Damage::Field { k: a, number: b },
+            (b'K', 5) => Damage::Worker { worker: a, numbers: [b, c, d, e] },
+            (letter, _) if FORMS.iter().any(|(known, _)| *known == letter) => return Err(fields.other_form(&FORMS)),
+            _ => return Ok(Command::Drill(Drill::command(fields)?)),
+        };
+        Ok(Command::Damage(damage))
+    }
+
+    fn execute(board: &mut Board, command: &Command) -> Result<Reply, Unread> {
+        match command {
+            Command::Drill(command) => Drill::execute(board, command),
+            Command::Damage(damage) => damage.apply(board).map(|()| Reply { number: 0, value: None }),
+            Command::Checksum => Ok(Reply { number: 0, value: Some(of_board(board)) }),
+        }
+    }
+}
+
+/// Run a whole script.
+pub fn run(input: impl BufRead, output: impl Write) -> Done<()> {
+    program::run::<Fault>(input, output)
+}

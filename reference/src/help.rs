@@ -1,0 +1,48 @@
+//! What `reference --help` says.
+
+use reference::explore::check::CHECKS;
+use reference::mistake::MISTAKES;
+
+/// Every command's form.
+pub const USAGE: &str = "usage: reference drill
+       reference fault
+       reference fault --reached SEEDS LINES
+       reference script SEED LINES [L W]
+       reference script --fault SEED LINES
+       reference explore SEED COUNT [--mistake NAME] [--only CHECK]
+       reference explore --exhaustive [--mistake NAME] [--only CHECK]
+       reference bench WORKLOAD L W N ROUNDS SEED
+       reference help";
+
+/// Every command in a few words.
+const COMMANDS: [(&str, &str); 8] = [
+    ("drill", "01's drill: a script on standard input, its answers on standard output"),
+    ("fault", "the same with damage, as fault.md says"),
+    ("fault --reached", "how often the scripts of seeds 1 to SEEDS met each answer and each kind of ?"),
+    ("script", "a random script for the drill, on boards of any size or of L and W"),
+    ("script --fault", "a random script for the fault program"),
+    ("explore", "COUNT calls in random sequences with cuts, every check made after each event"),
+    ("explore --exhaustive", "every state of the smallest board"),
+    ("bench", "a workload's checksum: update, again, checkpoint, recovery or write-back"),
+];
+
+/// The commands, the checks and the mistakes.
+pub fn help() -> String {
+    let commands = COMMANDS.iter().map(|(name, words)| entry(name, words)).collect::<String>();
+    format!("{USAGE}\n\ncommands\n{commands}\nchecks (--only)\n{}\nmistakes (--mistake)\n{}", checks(), mistakes())
+}
+
+/// The checks, one a line.
+pub fn checks() -> String {
+    CHECKS.iter().map(|(name, _, words)| entry(name, words)).collect()
+}
+
+/// The mistakes, one a line.
+pub fn mistakes() -> String {
+    MISTAKES.iter().map(|(name, _, words)| entry(name, words)).collect()
+}
+
+/// A name and a few words.
+fn entry(name: &str, words: &str) -> String {
+    format!("  {name:<20}  {words}\n")
+}

@@ -1,0 +1,182 @@
+//! What random fault scripts reach: how often each call got each answer, and each kind of `?`.
+
+use std::collections::HashMap;
+use std::fmt;
+
+use crate::board::Board;
+use crate::call::Call;
+use crate::drill;
+use crate::explore::table::{causes, deciding_part, parts};
+use crate::fault::{self, Command, Fault};
+use crate::fault_script::script;
+use crate::program::Program;
+use crate::text::{fields, Unread, UNREAD};
+
+/// The letters of calls with the answers that 01's table has for each.
+pub const CAUSES: [(u8, &[u8]); 10] = [
+    (b'f', &[0, 1, 4]),
+    (b'F', &[0, 1]),
+    (b'R', &[0, 4, 5]),
+    (b'S', &[0, 2, 3, 4, 10, 11]),
+    (b'U', &[0, 2, 3, 4, 6, 7, 8, 9]),
+    (b'P', &[0, 2, 3, 4, 6, 8, 9]),
+    (b'A', &[0, 2, 3, 4, 6, 8]),
+    (b'C', &[0, 2, 3, 4, 10, 11]),
+    (b'E', &[0, 2, 3, 4, 7]),
+    (b'G', &[0, 2, 3, 4, 7]),
+];
+
+/// How many answers there are: 0, and the causes 1 to 11.
+const ANSWERS: usize = 12;
+
+/// The counts over some scripts.
+#[derive(Clone, PartialEq, Eq, Debug)]
+pub struct Reached {
+    pub scripts: u64,
+    pub lines: u64,
+    /// For each byte, how often the line of that letter got each answer.
+    pub answers: Vec<[u64; ANSWERS]>,
+    /// For each kind of `?` in the order of `UNREAD`, how often it was met.
+    pub unread: [u64; UNREAD.len()],
+    /// For each part of a cause and each letter, how often an answer hung on that part alone.
+    pub parts: HashMap<(&'static str, u8), u64>,
+    /// For each letter and two causes, how often the first answered while the second held too.
+    pub orders: HashMap<(u8, u8, u8), u64>,
+}
+
+/// The counts over the scripts of seeds 1 to `seeds`, each of so many lines.
+pub fn reached(seeds: u64, lines: u64) -> Reached {
+    let mut reached = Reached {
+        scripts: seeds,
+        lines: 0,
+        answers: vec![[0; ANSWERS]; 256],
+        unread: [0; UNREAD.len()],
+        parts: HashMap::new(),
+        orders: HashMap::new(),
+    };
+    for seed in 1..=seeds {
+        let text = script(seed, lines);
+        let text = text.strip_suffix(b"\n").unwrap_or(&text);
+        let mut board = Board::empty(None);
+        for line in text.split(|byte| *byte == b'\n') {
+            reached.count(&mut board, line);
+        }
+    }
+    reached
+}
+
+impl Reached {
+    /// The pairs of causes of each letter, the lower having answered.
+    fn write_orders(&self, out: &mut fmt::Formatter) -> fmt::Result {
+        writeln!(out, "| call | one cause answered while a later one held too |\n|---|---|")?;
+        for (letter, _) in CAUSES.iter().filter(|(letter, _)| *letter != b'F') {
+            let pairs = orders().filter(|(known, ..)| known == letter);
+            let counts = pairs.map(|(letter, a, b)| format!("{a} over {b}: {}", self.order(letter, a, b)));
+            writeln!(out, "| {} | {} |", *letter as char, counts.collect::<Vec<_>>().join(", "))?;
+        }
+        writeln!(out)
+    }
+
+    /// Run one line and count what came of it.
+    fn count(&mut self, board: &mut Board, line: &[u8]) {
+        self.lines += 1;
+        if let Err(unread) = self.count_read(board, line) {
+            let kind = UNREAD.iter().position(|(known, _)| *known == unread);
+            self.unread[kind.unwrap_or(0)] += 1;
+        }
+    }
+
+    /// Run a line that is read, and count its answer and what that hung on.
+    fn count_read(&mut self, board: &mut Board, line: &[u8]) -> Result<(), Unread> {
+        let fields = fields(line)?;
+        let command = Fault::command(&fields)?;
+        if let Command::Drill(drill::Command::Call(call)) = command {
+            self.count_causes(board, &call, fields.letter);
+        }
+        let reply = Fault::execute(board, &command)?;
+        self.answers[fields.letter as usize][reply.number as usize] += 1;
+        Ok(())
+    }
+
+    /// Count which causes hold for a call, and the part that its answer hangs on.
+    fn count_causes(&mut self, board: &Board, call: &Call, letter: u8) {
+        if let Some(part) = deciding_part(call, &board.state, board.lent()) {
+            *self.parts.entry((part, letter)).or_default() += 1;
+        }
+        if let [first, others @ ..] = causes(call, &board.state, board.lent()).as_slice() {
+            for other in others {
+                *self.orders.entry((letter, *first, *other)).or_default() += 1;
+            }
+        }
+    }
+
+    /// How often an answer to this letter was this cause while that one held too.
+    pub fn order(&self, letter: u8, first: u8, other: u8) -> u64 {
+        self.orders.get(&(letter, first, other)).copied().unwrap_or(0)
+    }
+
+    /// How often an answer to this letter hung on this part alone.
+    pub fn part(&self, part: &'static str, letter: u8) -> u64 {
+        self.parts.get(&(part, letter)).copied().unwrap_or(0)
+    }
+
+    /// The answers of each letter.
+    fn write_answers(&self, out: &mut fmt::Formatter) -> fmt::Result {
+        writeln!(out, "| line |{}", (0..ANSWERS).map(|number| format!(" {number} |")).collect::<String>())?;
+        writeln!(out, "|---|{}", "---|".repeat(ANSWERS))?;
+        let damaging = fault::FORMS.iter().map(|(letter, _)| *letter).filter(|letter| *letter != b'f');
+        for letter in CAUSES.iter().map(|(letter, _)| *letter).chain([b'X']).chain(damaging) {
+            writeln!(out, "| {} |{}", letter as char, counts(self.answers[letter as usize].iter().copied()))?;
+        }
+        writeln!(out)
+    }
+
+    /// For each part of a cause, the calls whose answer hung on it alone.
+    fn write_parts(&self, out: &mut fmt::Formatter) -> fmt::Result {
+        let letters = b"fRSUPACEG";
+        let head = letters.iter().map(|letter| format!(" {} |", *letter as char)).collect::<String>();
+        writeln!(out, "| answer | hung alone on |{head}")?;
+        writeln!(out, "|---|---|{}", "---|".repeat(letters.len()))?;
+        for (number, part) in parts() {
+            let row = counts(letters.iter().map(|letter| self.part(part, *letter)));
+            writeln!(out, "| {number} | {part} |{row}")?;
+        }
+        writeln!(out)
+    }
+}
+
+/// Two causes of one call that cannot both hold: a step is a checkpoint's only when running.
+fn apart(letter: u8, first: u8, other: u8) -> bool {
+    letter == b'S' && first == 2 && other >= 10
+}
+
+/// Each letter of a call with every two of its causes that can both hold, the lower first.
+pub fn orders() -> impl Iterator<Item = (u8, u8, u8)> {
+    CAUSES.iter().flat_map(|(letter, causes)| {
+        let later =
+            move |first: u8| causes.iter().filter(move |other| **other > first).map(move |other| (first, *other));
+        let pairs = causes.iter().filter(|first| **first > 0).flat_map(move |first| later(*first));
+        pairs
+            .map(|(first, other)| (*letter, first, other))
+            .filter(|(letter, a, b)| *letter != b'F' && !apart(*letter, *a, *b))
+    })
+}
+
+/// Counts as the cells of a table, empty for 0.
+fn counts(row: impl Iterator<Item = u64>) -> String {
+    row.map(|count| if count == 0 { "  |".into() } else { format!(" {count} |") }).collect()
+}
+
+impl fmt::Display for Reached {
+    fn fmt(&self, out: &mut fmt::Formatter) -> fmt::Result {
+        writeln!(out, "{} scripts, {} lines\n", self.scripts, self.lines)?;
+        self.write_answers(out)?;
+        self.write_parts(out)?;
+        self.write_orders(out)?;
+        writeln!(out, "| why a line printed ? | lines |\n|---|---|")?;
+        for ((_, words), count) in UNREAD.iter().zip(self.unread) {
+            writeln!(out, "| {words} | {count} |")?;
+        }
+        Ok(())
+    }
+}

@@ -1,0 +1,229 @@
+//! The fault program, letter by letter.
+#![deny(warnings)]
+
+use reference::fault::run;
+
+/// What the fault program prints for a script with blanks for tabs, its header and line numbers taken off.
+fn fault(script: &str) -> Vec<String> {
+    bytes(script.replace(' ', "\t").as_bytes())
+}
+
+/// The same for a script as it is.
+fn bytes(script: &[u8]) -> Vec<String> {
+    let mut output = Vec::new();
+    run(script, &mut output).unwrap();
+    let text = String::from_utf8(output).unwrap();
+    let lines = text.strip_prefix("line\tcall\tanswer\tvalue\n").expect("the header comes first").lines();
+    let answer = |(at, line): (usize, &str)| {
+        let (number, rest) = line.split_once('\t').unwrap();
+        assert_eq!(number, (at + 1).to_string());
+        rest.replace('\t', " ")
+    };
+    lines.enumerate().map(answer).collect()
+}
+
+/// What the last line of a script gives.
+fn last(script: &str) -> String {
+    fault(script).pop().unwrap()
+}
+
+/// The last answer's number.
+fn number(script: &str) -> String {
+    last(script).split(' ').nth(1).unwrap().into()
+}
+
+/// The checksum that a script ends with.
+fn sum(script: &str) -> u64 {
+    last(&format!("{script}\nT")).strip_prefix("T 0 ").unwrap().parse().unwrap()
+}
+
+/// The checksum of these numbers, by arithmetic without a wrap.
+fn sum_of(numbers: &[u64]) -> u64 {
+    let mut sum: u128 = 14_695_981_039_346_656_037;
+    for number in numbers {
+        sum = ((sum ^ u128::from(*number)) * 1_099_511_628_211) % (1 << 64);
+    }
+    sum as u64
+}
+
+/// The numbers of a board after `F 1 1`: seven fields, eight workers, memory, cache and list.
+fn small_board() -> Vec<u64> {
+    let mut numbers = vec![0; 7 + 32];
+    numbers[..3].copy_from_slice(&[3, 1, 1]);
+    for _ in 0..2 {
+        numbers.push(16);
+        numbers.extend([1, 1, 1]);
+        numbers.extend([0; 13]);
+    }
+    numbers.extend([2, 0, 0]);
+    numbers
+}
+
+/// The small board's checksum with some of its numbers changed.
+fn small_board_with(changes: &[(usize, u64)]) -> u64 {
+    let mut numbers = small_board();
+    for (at, number) in changes {
+        numbers[*at] = *number;
+    }
+    sum_of(&numbers)
+}
+
+#[test]
+fn the_drills_letters_mean_the_same() {
+    let script = "F 1 1\nU 0 1 7\nA 0\nA 0\nA 0\nE 1\nX\nR\nS\nS\nS\nS\nG 1\n";
+    let expected = "F 0 -,U 0 -,A 0 -,A 0 -,A 0 -,E 0 -,X 0 -,R 0 -,S 0 -,S 0 -,S 0 -,S 0 -,G 0 0";
+    assert_eq!(fault(script).join(","), expected);
+}
+
+#[test]
+fn a_random_script_of_the_drill_gives_the_same_answers_where_the_drill_reads_it() {
+    for seed in 0..20 {
+        let script = reference::script::script(seed, 500, None);
+        let known: Vec<&[u8]> = script.split(|byte| *byte == b'\n').filter(|line| drill_reads(line)).collect();
+        let script = known.join(&b'\n');
+        let mut drill = Vec::new();
+        reference::drill::run(&script[..], &mut drill).unwrap();
+        let mut fault = Vec::new();
+        run(&script[..], &mut fault).unwrap();
+        assert_eq!(drill, fault);
+    }
+}
+
+/// The line begins with a letter that the drill has.
+fn drill_reads(line: &[u8]) -> bool {
+    line.first().is_some_and(|letter| b"FUAPCSEGXR".contains(letter))
+}
+
+#[test]
+fn the_checksum_of_the_empty_board() {
+    assert_eq!(sum(""), sum_of(&[0; 7 + 32 + 3]));
+    assert_eq!(last("T"), "T 0 3040257032563193357");
+}
+
+#[test]
+fn the_checksum_of_a_small_board() {
+    assert_eq!(sum("F 1 1"), 640_608_966_353_289_868);
+    assert_eq!(sum("F 1 1"), sum_of(&small_board()));
+    assert_eq!(sum("F 1 1\nU 0 1 7"), small_board_with(&[(7, 2), (9, 1), (10, 7)]));
+    let listed = [(3, 1), (7, 2), (8, 2), (9, 1), (10, 7), (57 + 13, 1), (74, 1)];
+    assert_eq!(sum("F 1 1\nU 0 1 7\nA 0\nA 0"), small_board_with(&listed));
+}
+
+#[test]
+fn each_field_is_summed_where_it_stands() {
+    for (line, at, number) in [
+        ("B 0 2", 0, 2),
+        ("B 1 65535", 1, 65_535),
+        ("B 2 255", 2, 255),
+        ("B 3 65535", 3, 65_535),
+        ("B 4 65535", 4, 65_535),
+        ("B 5 2", 5, 2),
+        ("B 6 1", 6, 1),
+        ("K 0 1 0 0 0", 7, 1),
+        ("K 7 1 0 0 0", 35, 1),
+        ("M 15 18446744073709551615", 40 + 15, u64::MAX),
+        ("N 15 18446744073709551615", 57 + 15, u64::MAX),
+        ("Q 0 65535", 74, 65_535),
+        ("Q 1 65535", 75, 65_535),
+    ] {
+        assert_eq!(fault(&format!("F 1 1\n{line}"))[1], format!("{} 0 -", &line[..1]));
+        assert_eq!(sum(&format!("F 1 1\n{line}")), small_board_with(&[(at, number)]), "{line}");
+    }
+    let update = [(7 + 12, 2), (8 + 12, 1), (9 + 12, 65_535), (10 + 12, u64::MAX)];
+    assert_eq!(sum("F 1 1\nK 3 2 1 65535 18446744073709551615"), small_board_with(&update));
+    assert_eq!(sum("F 1 1\nK 3 2 1 65535 9\nK 3 0 0 0 0"), sum("F 1 1"));
+}
+
+#[test]
+fn a_formats_start_alone() {
+    assert_eq!(number("f 1 1"), "4");
+    assert_eq!(number("f 1 2"), "1");
+    assert_eq!(number("W 16 16 2\nf 1 1"), "0");
+    assert_eq!(number("W 16 16 3\nf 1 1"), "0");
+    assert_eq!(number("W 16 16 1\nf 1 1"), "4");
+    assert_eq!(number("W 16 24 2\nf 1 1"), "4");
+    assert_eq!(number("F 2 1\nf 1 1"), "4");
+    assert_eq!(number("f 18446744073709551615 18446744073709551615"), "1");
+    assert_eq!(number("f 65537 1"), "1");
+    assert_eq!(number("f 1 257"), "1");
+    assert_eq!(sum("F 1 1\nf 1 1"), small_board_with(&[(0, 1)]));
+    assert_eq!(sum("F 1 1\nf 1 1\nS\nS\nS"), sum("F 1 1"));
+}
+
+#[test]
+fn a_format_makes_the_rows_anew() {
+    let dirty = "F 1 1\nQ 0 9\nQ 1 9\nM 6 5\nN 15 5\nB 4 7\nK 5 1 0 0 0";
+    assert_eq!(sum(&format!("{dirty}\nF 1 1")), sum("F 1 1"));
+    assert_eq!(sum(&format!("{dirty}\nW 17 3 1100\nF 1 1")), sum("F 1 1"));
+    assert_eq!(sum(&format!("{dirty}\nF 1 2")), sum(dirty));
+}
+
+#[test]
+fn a_cut_leaves_list_and_record_but_the_phase() {
+    let board = "F 1 1\nU 0 1 7\nA 0\nA 0\nC";
+    let kept = [(0, 0), (3, 1), (6, 1), (7, 2), (8, 2), (9, 1), (10, 7), (74, 1), (57, 0), (58, 0), (59, 0)];
+    assert_eq!(sum(&format!("{board}\nX")), small_board_with(&kept));
+}
+
+#[test]
+fn rows_keep_the_words_that_stay() {
+    assert_eq!(sum("F 1 1\nW 4104 4104 1100\nW 16 16 2"), sum("F 1 1"));
+    assert_eq!(sum("F 1 1\nW 2 16 2\nW 16 16 2"), small_board_with(&[(42, 0)]));
+    assert_eq!(sum("F 1 1\nW 16 0 2\nW 16 16 2"), small_board_with(&[(57, 0), (58, 0), (59, 0)]));
+    assert_eq!(sum("F 1 1\nQ 0 3\nQ 1 4\nW 16 16 1\nW 16 16 2"), small_board_with(&[(74, 3)]));
+}
+
+#[test]
+fn a_number_that_cannot_be_put_there_does_nothing() {
+    let lines = "W 4105 0 0,W 0 4105 0,W 0 0 1101,W 18446744073709551615 0 0,M 16 1,N 16 1,Q 2 1,Q 0 65536,\
+        M 18446744073709551615 1,N 4294967296 1,Q 65536 1,B 0 4,B 1 65536,B 2 256,B 3 65536,B 4 65536,B 5 3,B 6 2,\
+        B 7 0,B 18446744073709551615 0,K 8 0 0 0 0,K 256 0 0 0 0,K 0 3 0 0 0,K 0 2 3 0 0,K 0 2 0 65536 0,K 0 0 1 0 0,\
+        K 0 0 0 1 0,K 0 0 0 0 1,K 0 1 1 0 0,K 0 1 0 1 0,K 0 1 0 0 1,M 0 18446744073709551616,Q 2 65536,W 16 16 1101";
+    for line in lines.split(',').map(str::trim) {
+        let answers = fault(&format!("F 1 1\n{line}\nT"));
+        assert_eq!(answers[1], "? ? -", "{line}");
+        assert_eq!(answers[2], format!("T 0 {}", sum_of(&small_board())), "{line}");
+    }
+}
+
+#[test]
+fn lines_of_another_form_do_nothing() {
+    let lines =
+        "f 1,f 1 1 1,W 16 16,W 16 16 2 0,M 0,M 0 0 0,N 0,N 0 0 0,Q 0,Q 0 0 0,B 0,B 0 0 0,K 0 0 0 0,K 0 0 0 0 0 0,\
+        K 0 0,T 0,p 0,a 0,b 0,n,H 0 0,V 0 0,O 0 0,u 0 1 7,w 16 16 2,m 0 0,q 0 0,k 0 0 0 0 0,t,TT,M +1 0,M 0x1 0,\
+        B 0 3 ,K  0 0 0 0";
+    for line in lines.split(',').map(|line| line.trim_start_matches("        ")) {
+        let answers = fault(&format!("F 1 1\n{line}\nT"));
+        assert_eq!(answers[1], "? ? -", "{line}");
+        assert_eq!(answers[2], format!("T 0 {}", sum_of(&small_board())), "{line}");
+    }
+    for line in [&b""[..], b"T\r", b" T", b"M 0 0", b"\t", b"\xff", b"T\t"] {
+        assert_eq!(bytes(&[line, b"\n"].concat()), ["? ? -"], "{line:?}");
+    }
+    let long = |zeros: usize| format!("F 1 1\nM 0 {}1\nT", "0".repeat(zeros));
+    assert_eq!(fault(&long(74))[1], "M 0 -");
+    assert_eq!(fault(&long(75))[1], "? ? -");
+}
+
+#[test]
+fn a_list_of_another_length_and_its_entries() {
+    assert_eq!(number("F 1 1\nB 3 3\nG 0"), "3");
+    assert_eq!(number("F 1 1\nW 16 16 1\nG 0"), "4");
+    assert_eq!(number("F 1 1\nW 16 16 1100\nG 0"), "0");
+    let step = "F 1 1\nB 3 1\nB 6 1\nK 0 1 0 0 0";
+    assert_eq!(number(&format!("{step}\nQ 0 2\nS")), "4");
+    assert_eq!(number(&format!("{step}\nQ 0 1\nS")), "0");
+    assert_eq!(number(&format!("{step}\nQ 0 2\nB 4 1\nS")), "0");
+}
+
+#[test]
+fn foreign_memory() {
+    let board = "W 16 16 2\nM 1 1\nM 2 1";
+    assert_eq!(number(&format!("{board}\nR")), "5");
+    assert_eq!(number(&format!("{board}\nM 0 9\nR")), "0");
+    for line in ["M 0 0", "M 1 2", "M 2 2", "M 2 0", "M 3 1", "M 4 1", "M 5 1", "M 6 1", "M 7 1"] {
+        assert_eq!(number(&format!("{board}\nM 0 9\n{line}\nR")), "5", "{line}");
+    }
+    assert_eq!(last(&format!("{board}\nM 0 9\nM 11 5\nM 12 6\nM 13 9\nR\nS\nS\nS\nS\nG 1")), "G 0 6");
+    assert_eq!(number("W 4104 4104 1100\nM 0 1\nM 1 512\nM 2 1\nR"), "4");
+}

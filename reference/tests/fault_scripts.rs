@@ -1,0 +1,187 @@
+//! Random scripts for the fault program: what they reach, and that the board answers them as the table says.
+#![deny(warnings)]
+
+use std::collections::HashSet;
+
+use reference::board::Board;
+use reference::call::{Answer, Call};
+use reference::drill;
+use reference::explore::answered;
+use reference::explore::check::Checks;
+use reference::explore::table::parts;
+use reference::fault::{Command, Fault};
+use reference::fault_script::script;
+use reference::mistake::{Mistake, MISTAKES};
+use reference::program::{answer, Program};
+use reference::reached::{orders, reached, CAUSES};
+use reference::say::{damage_line, drill_line};
+use reference::text::{fields, UNREAD};
+
+/// The lines of a script.
+fn lines(text: &[u8]) -> Vec<&[u8]> {
+    text.strip_suffix(b"\n").unwrap_or(text).split(|byte| *byte == b'\n').collect()
+}
+
+#[test]
+fn two_hundred_scripts_reach_every_cause_of_every_call_and_every_kind_of_question_mark() {
+    let reached = reached(200, 400);
+    assert_eq!(reached.lines, 80_000);
+    for (letter, causes) in CAUSES {
+        for (number, count) in reached.answers[letter as usize].iter().enumerate() {
+            let possible = causes.contains(&(number as u8));
+            assert_eq!(*count > 0, possible, "{} answers {number}: {count} times", letter as char);
+            assert!(!possible || *count >= 20, "{} answers {number} only {count} times", letter as char);
+        }
+    }
+    for letter in *b"XWMNQBKT" {
+        assert!(reached.answers[letter as usize][0] >= 100, "{}", letter as char);
+    }
+    for ((_, words), count) in UNREAD.iter().zip(reached.unread) {
+        assert!(count >= 50, "{words}: {count}");
+    }
+}
+
+/// Each part of a cause, and the calls whose answer can hang on it alone.
+const PARTS: [(&str, &[u8]); 31] = [
+    ("a format's L or W", b"f"),
+    ("phase", b"SUPACEG"),
+    ("a full list", b"A"),
+    ("a worker's cell", b"SUPACEG"),
+    ("place in a checkpoint", b"SUPACEG"),
+    ("place in a recovery", b"SE"),
+    ("place in a format", b"S"),
+    ("record's list length", b"SUPACEG"),
+    ("record's L or W", b"SUPACEG"),
+    ("list entry used", b"S"),
+    ("list's length", b"fSUPACEG"),
+    ("cache's length", b"fSUPACEG"),
+    ("memory's length", b"fSUPACEG"),
+    ("list's length at recovery", b"R"),
+    ("cache's length at recovery", b"R"),
+    ("memory's length at recovery", b"R"),
+    ("header's words 3 to 7", b"R"),
+    ("header's W", b"R"),
+    ("header's L", b"R"),
+    ("header's epoch", b"R"),
+    ("worker W or more", b"UPA"),
+    ("line over L", b"E"),
+    ("cell 2L or more", b"UG"),
+    ("cell under W", b"U"),
+    ("worker without update", b"A"),
+    ("worker not free", b"UP"),
+    ("another's update of the cell", b"UP"),
+    ("a worker not waiting", b"S"),
+    ("no request", b"S"),
+    ("request while one stands", b"C"),
+    ("the last epoch", b"SC"),
+];
+
+#[test]
+fn two_hundred_scripts_reach_every_part_of_every_cause_by_itself() {
+    let reached = reached(200, 400);
+    assert!(parts().all(|(_, part)| PARTS.iter().any(|(known, _)| *known == part)));
+    for (part, letters) in PARTS {
+        for letter in *b"fRSUPACEG" {
+            let count = reached.part(part, letter);
+            assert_eq!(count > 0, letters.contains(&letter), "{part}, {}: {count}", letter as char);
+        }
+    }
+}
+
+#[test]
+fn two_hundred_scripts_show_the_order_of_every_two_causes() {
+    let reached = reached(200, 400);
+    for (letter, first, other) in orders() {
+        let count = reached.order(letter, first, other);
+        assert!(count > 0, "{}: {first} over {other}", letter as char);
+    }
+}
+
+#[test]
+fn a_script_is_a_function_of_seed_and_lines() {
+    let mut seen = HashSet::new();
+    for seed in 0..20 {
+        for count in [0, 1, 2, 3, 50, 400] {
+            let text = script(seed, count);
+            assert_eq!(text, script(seed, count));
+            if count == 0 {
+                assert!(text.is_empty());
+                continue;
+            }
+            assert_eq!(lines(&text).len() as u64, count);
+            assert_eq!(lines(&text).last(), Some(&&b"T"[..]));
+            assert_eq!(text.last() == Some(&b'\n'), seed % 2 == 0);
+            assert!(count < 50 || seen.insert(text));
+        }
+    }
+}
+
+#[test]
+fn a_checksum_comes_every_few_lines() {
+    for seed in 1..50 {
+        let text = script(seed, 400);
+        let longest = lines(&text).split(|line| *line == b"T").map(<[_]>::len).max();
+        assert!(longest < Some(16), "seed {seed}: {longest:?} lines without one");
+    }
+}
+
+/// The call that a line makes by itself.
+fn call_of(command: &Command) -> Option<Call> {
+    match command {
+        Command::Drill(drill::Command::Call(call)) => Some(*call),
+        _ => None,
+    }
+}
+
+#[test]
+fn every_call_of_every_script_answers_as_the_table_says() {
+    for seed in 1..=200 {
+        let mut board = Board::empty(None);
+        for line in lines(&script(seed, 400)) {
+            let command = fields(line).and_then(|fields| Fault::command(&fields));
+            let before = board.clone();
+            let reply = answer::<Fault>(&mut board, line);
+            let Ok(reply) = reply else {
+                assert_eq!(before, board);
+                continue;
+            };
+            if let Some(call) = command.ok().as_ref().and_then(call_of) {
+                let answer = Answer { number: reply.number, value: reply.value.unwrap_or(0) };
+                let held = answered(Checks { only: None }, &call, &before, &board, answer);
+                assert!(held.is_ok(), "seed {seed}: {held:?}");
+            }
+        }
+    }
+}
+
+#[test]
+fn a_command_said_is_the_command_read() {
+    for seed in 1..20 {
+        for line in lines(&script(seed, 400)) {
+            let Ok(command) = fields(line).and_then(|fields| Fault::command(&fields)) else { continue };
+            let said = match &command {
+                Command::Drill(command) => drill_line(command),
+                Command::Damage(damage) => damage_line(damage),
+                Command::Checksum => b"T".to_vec(),
+            };
+            assert_eq!(fields(&said).and_then(|fields| Fault::command(&fields)), Ok(command));
+        }
+    }
+}
+
+/// What the board, right or mistaken, answers to a script.
+fn answers(text: &[u8], mistake: Option<Mistake>) -> Vec<Option<(u8, Option<u64>)>> {
+    let mut board = Board::empty(mistake);
+    let reply = |line| answer::<Fault>(&mut board, line).ok().map(|reply| (reply.number, reply.value));
+    lines(text).into_iter().map(reply).collect()
+}
+
+#[test]
+fn every_mistake_shows_in_many_scripts() {
+    let scripts: Vec<Vec<u8>> = (1..=200).map(|seed| script(seed, 400)).collect();
+    for (name, mistake, _) in MISTAKES {
+        let shows = |text: &&Vec<u8>| answers(text, None) != answers(text, Some(mistake));
+        let count = scripts.iter().filter(shows).count();
+        assert!(count >= 20, "{name} shows in {count} scripts");
+    }
+}

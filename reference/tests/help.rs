@@ -1,0 +1,74 @@
+//! What the program says of itself, and of words that it does not know.
+#![deny(warnings)]
+
+use std::process::{Command, Output};
+
+use reference::explore::check::CHECKS;
+use reference::mistake::MISTAKES;
+
+/// The program with these words.
+fn run(words: &[&str]) -> Output {
+    Command::new(env!("CARGO_BIN_EXE_reference")).args(words).output().unwrap()
+}
+
+/// Status, standard output and standard error.
+fn ended(words: &[&str]) -> (Option<i32>, String, String) {
+    let output = run(words);
+    let text = |bytes| String::from_utf8(bytes).unwrap();
+    (output.status.code(), text(output.stdout), text(output.stderr))
+}
+
+#[test]
+fn help_lists_commands_checks_and_mistakes() {
+    let help = ended(&["help"]).1;
+    for words in [&["help"][..], &["--help"], &["explore", "--help"], &["fault", "--help"]] {
+        assert_eq!(ended(words), (Some(0), help.clone(), String::new()), "{words:?}");
+    }
+    let names = CHECKS.iter().map(|check| check.0).chain(MISTAKES.iter().map(|mistake| mistake.0));
+    for name in names.chain(["drill", "fault", "fault --reached", "script --fault", "explore --exhaustive", "bench"]) {
+        assert!(help.contains(&format!("\n  {name} ")), "{name}");
+    }
+}
+
+#[test]
+fn an_unknown_check_or_mistake_lists_the_known_ones() {
+    let (code, out, error) = ended(&["explore", "1", "10", "--only", "everything"]);
+    assert_eq!((code, out.as_str()), (Some(2), ""));
+    assert!(CHECKS.iter().all(|check| error.contains(check.0)), "{error}");
+    let (code, out, error) = ended(&["explore", "--exhaustive", "--mistake", "none"]);
+    assert_eq!((code, out.as_str()), (Some(2), ""));
+    assert!(MISTAKES.iter().all(|mistake| error.contains(mistake.0)), "{error}");
+}
+
+#[test]
+fn an_unknown_command_prints_the_usage() {
+    let unknown: [&[&str]; 13] = [
+        &[],
+        &["dril"],
+        &["drill", "1"],
+        &["fault", "x"],
+        &["fault", "--reached", "1"],
+        &["script"],
+        &["script", "1"],
+        &["script", "--fault", "1"],
+        &["script", "--fault", "1", "x"],
+        &["explore", "1"],
+        &["explore", "1", "2", "--only"],
+        &["bench", "update", "1"],
+        &["bench", "nothing", "1", "1", "1", "1", "1"],
+    ];
+    for words in unknown {
+        let (code, out, error) = ended(words);
+        assert_eq!((code, out.as_str()), (Some(2), ""), "{words:?}");
+        assert!(error.starts_with("usage: reference drill\n"), "{words:?}");
+    }
+}
+
+#[test]
+fn scripts_and_counts_are_printed() {
+    let script = run(&["script", "--fault", "5", "40"]).stdout;
+    assert_eq!(script, reference::fault_script::script(5, 40));
+    let (code, counts, _) = ended(&["fault", "--reached", "3", "40"]);
+    assert_eq!(code, Some(0));
+    assert!(counts.starts_with("3 scripts, 120 lines\n"));
+}
