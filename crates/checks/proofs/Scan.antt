@@ -1,7 +1,7 @@
 -- A scan may stop at W: no worker from there on is what is sought.
 use Prim.Native.Nat.{ℕ, zero, suc, _≤_, _<_, min}
 use mathlib.Core.Path.{_≡_, refl, sym, ap, subst, _∙_}
-use mathlib.Core.Bool.{Bool, true, false, not, _&&_, _||_, true≢false}
+use mathlib.Core.Bool.{Bool, true, false, cond, not, _&&_, _||_, true≢false}
 use native.Mathlib.Omega.{arith}
 use native.Mathlib.Decide.{decLe}
 use mathlib.Core.List.{List, map}
@@ -14,7 +14,7 @@ use Rattle.board.specs.declared.Condition.the-variants.{Free, Waiting, Updating
 use Rattle.board.specs.Board.{cells}
 use Rattle.board.specs.State.{anyUnder, anyWorker, conditionOf, isWaiting, isRunning, updates, othersUpdate}
 use Rattle.board.specs.Causes.{badRecord, notReady}
-use Rattle.board.proofs.Laws.Bools.{and-off, and-left, and-right, and-not, or-right, not-of, none-under, under-none}
+use Rattle.board.proofs.Laws.Bools.{split, chosen, passedOver, and-off, and-left, and-right, and-not, or-right, not-of, none-under, under-none}
 use Rattle.checks.specs.declared.workers.Sought.{Sought}
 use Rattle.checks.specs.declared.workers.Sought.the-variants.{UpdateOf}
 use Rattle.checks.specs.Sought.{soughtIn, soughtAt}
@@ -71,14 +71,24 @@ waits-idle Bool.true Free test e = refl
 waits-idle Bool.true Waiting test e = refl
 waits-idle Bool.true (Updating next c v) test e = absurd (true≢false e)
 
--- The record of a running step that is ready is told by its sizes: all workers under W wait, so that none has an update.
-pub ready-record : {running unready : Bool} (s : State) → running ≡ isRunning (s .phase) → unready ≡ notReady s → running && not unready ≡ true → badSizes s ≡ badRecord s
-unfolding badRecord
-ready-record {running} {unready} s p q t =
+-- Some worker under W has an update of a cell that is not there.
+abbrev past : State → Bool
+past s = anyWorker s (updates (leb (cells (s .lines))))
+
+-- Where a running step is ready, all workers under W wait, so that none has an update.
+none-past : {running unready : Bool} (s : State) → running ≡ isRunning (s .phase) → unready ≡ notReady s → running && not unready ≡ true → past s ≡ false
+none-past {running} {unready} s p q t =
     let waits = anyWorker s (λ condition. not (isWaiting condition)) in
     let on : isRunning (s .phase) ≡ true = sym p ∙ and-left running (not unready) t in
     let ready : notReady s ≡ false = sym q ∙ not-of unready (and-right running (not unready) t) in
     let all : waits ≡ false = or-right (not (s .requested)) waits (and-not (isRunning (s .phase)) (not (s .requested) || waits) ready on) in
-    sym
-    (or-off (badSizes s) _
-    (under-none 8 _ (λ i h. waits-idle (ltb i (s .workers)) (conditionOf s i) (leb (cells (s .lines))) (none-under 8 _ all i h))))
+    under-none 8 _ (λ i h. waits-idle (ltb i (s .workers)) (conditionOf s i) (leb (cells (s .lines))) (none-under 8 _ all i h))
+
+-- A step's record needs no look at the updates where the step runs and is ready.
+pub step-record : {running unready : Bool} (s : State) → running ≡ isRunning (s .phase) → unready ≡ notReady s → badSizes s || cond (running && not unready) false (past s) ≡ badRecord s
+unfolding badRecord
+step-record {running} {unready} s p q =
+    ap (λ (t : Bool). badSizes s || t)
+    (split (running && not unready)
+    (λ t. chosen (running && not unready) false (past s) t ∙ sym (none-past s p q t))
+    (λ f. passedOver (running && not unready) false (past s) f))

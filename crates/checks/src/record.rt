@@ -6,7 +6,10 @@ use crate::workers::Sought;
 use board::Phase;
 use board::State;
 ghost use mathlib.Core.Path.{_≡_};
-ghost use Rattle.board.specs.State.{othersUpdate};
+ghost use mathlib.Core.Bool.{false, cond};
+ghost use lib.Dec.{leb};
+ghost use Rattle.board.specs.Board.{cells};
+ghost use Rattle.board.specs.State.{anyWorker, updates, othersUpdate};
 ghost use Rattle.checks.specs.Sizes.{badSizes};
 ghost use Rattle.board.specs.Causes.{placePast, badRecord, listFull, noWorker, noDataCell, noCell, noLine, busy, idle, notReady, checkpointing};
 
@@ -32,25 +35,31 @@ fn bad_sizes(state: State) -> bool
         | place_past(state)
 }
 
-// "..; cell 2L or more in an update of a worker under W"
+// "..; cell 2L or more in an update of a worker under W"; where all of them wait there is no update to look for
+fn updates_past(state: State, waiting: bool) -> bool
+    ensures { λ r. ⌜ r ≡ cond waiting false (anyWorker state (updates (leb (cells (state .lines))))) ⌝ }
+{
+    if waiting {
+        return false;
+    }
+    workers::any_worker(state, Sought::CellFrom(board::cells(state.lines)))
+}
+
+// Cause 3 of every call that it is looked at for.
 pub fn bad_record(state: State) -> bool
     ensures { λ r. ⌜ r ≡ badRecord state ⌝ }
 {
-    let cells = board::cells(state.lines);
-    bad_sizes(state) | workers::any_worker(state, Sought::CellFrom(cells))
+    bad_sizes(state) | updates_past(state, false)
 }
 
-// The same of a step, once it is known whether it is ready: all workers of a running step that is ready wait, so that
-// there is no update to look for.
+// The same of a step, once it is known whether it is ready: all workers of a running step that is ready wait.
 pub fn bad_step_record(state: State, unready: bool) -> bool
     requires { ⌜ unready ≡ notReady state ⌝ }
     ensures { λ r. ⌜ r ≡ badRecord state ⌝ }
 {
     let phase = state.phase;
-    if phases::is_running(phase) & !unready {
-        return bad_sizes(state);
-    }
-    bad_record(state)
+    let waiting = phases::is_running(phase) & !unready;
+    bad_sizes(state) | updates_past(state, waiting)
 }
 
 // "an advance by a worker under W must add a cell and the length is 2L"
