@@ -1,24 +1,20 @@
 -- A scan may stop at W: no worker from there on is what is sought.
-use Prim.Native.Nat.{ℕ, zero, suc, _≤_, _<_, min}
+use Prim.Native.Nat.{ℕ, zero, suc, _+_, _≤_, _<_, min}
 use mathlib.Core.Path.{_≡_, refl, sym, ap, subst, _∙_}
-use mathlib.Core.Bool.{Bool, true, false, cond, not, _&&_, _||_, true≢false}
+use mathlib.Core.Bool.{Bool, false, not, _&&_, _||_}
 use native.Mathlib.Omega.{arith}
 use native.Mathlib.Decide.{decLe}
 use mathlib.Core.List.{List, map}
-use lib.Dec.{leb, ltb, eqb}
+use lib.Dec.{ltb, eqb}
 use lib.ListN.{length, length-map}
 use borrow.Author.Tests.{le-ltb, lt-ltb}
 use Rattle.board.specs.declared.State.{State}
 use Rattle.board.specs.declared.Condition.{Condition}
-use Rattle.board.specs.declared.Condition.the-variants.{Free, Waiting, Updating}
-use Rattle.board.specs.Board.{cells}
-use Rattle.board.specs.State.{anyUnder, anyWorker, conditionOf, isWaiting, isRunning, updates, othersUpdate}
-use Rattle.board.specs.Causes.{badRecord, notReady}
-use Rattle.board.proofs.Laws.Bools.{split, chosen, passedOver, and-off, and-left, and-right, and-not, or-right, not-of, none-under, under-none}
-use Rattle.checks.specs.declared.workers.Sought.{Sought}
+use Rattle.board.specs.State.{anyUnder, conditionOf, updates, othersUpdate}
+use Rattle.board.proofs.Laws.Bools.{and-off}
 use Rattle.checks.specs.declared.workers.Sought.the-variants.{UpdateOf}
-use Rattle.checks.specs.Sought.{soughtIn, soughtAt}
-use Rattle.checks.specs.Sizes.{badSizes}
+use Rattle.checks.proofs.Tests.{under-more}
+use Rattle.checks.specs.Sought.{passesAt, soughtAt}
 
 -- What is known of an array of structs speaks of the list of what they are made of, which is as long.
 pub length-unmade : (A B : Type 0) (f : A → B) (xs : List A) (n : ℕ) → length (map f xs) ≡ n → length xs ≡ n
@@ -39,18 +35,23 @@ under-past n (suc m) test h f =
       | no b ↦ ap (λ (k : ℕ). anyUnder k test) (let z : suc m ≡ n = omega arith in z)
     ]
 
--- A worker from W on is not what is sought.
-past-workers : (s : State) (sought : Sought) (j : ℕ) → s .workers ≤ j → soughtAt s sought j ≡ false
-past-workers s sought j h = and-off (ltb j (s .workers)) (soughtIn sought j (conditionOf s j)) (le-ltb j (s .workers) h)
+-- A worker from W on does not pass.
+past-workers : (s : State) (test : ℕ → Condition → Bool) (j : ℕ) → s .workers ≤ j → passesAt s test j ≡ false
+past-workers s test j h = and-off (ltb j (s .workers)) (test j (conditionOf s j)) (le-ltb j (s .workers) h)
 
 -- For a worker under W it is told by its condition.
-pub sought-under : (s : State) (sought : Sought) (i : ℕ) → i < s .workers → soughtAt s sought i ≡ soughtIn sought i (conditionOf s i)
-sought-under s sought i h = rw (lt-ltb i (s .workers) h)
+passes-under : (s : State) (test : ℕ → Condition → Bool) (i : ℕ) → i < s .workers → passesAt s test i ≡ test i (conditionOf s i)
+passes-under s test i h = rw (lt-ltb i (s .workers) h)
+
+-- A scan of one worker more.
+pub scan-more : (s : State) (test : ℕ → Condition → Bool) (i : ℕ) {found passed : Bool} → i < s .workers → found ≡ anyUnder i (passesAt s test) → passed ≡ test i (conditionOf s i) → found || passed ≡ anyUnder (i + 1) (passesAt s test)
+scan-more s test i h p q =
+    (λ j. p j || (q ∙ sym (passes-under s test i h)) j) ∙ sym (under-more i (passesAt s test))
 
 -- The scan up to W, or eight, is the scan of all eight.
-pub scan-end : (s : State) (sought : Sought) (i : ℕ) → i ≡ min (s .workers) 8 → anyUnder 8 (soughtAt s sought) ≡ anyUnder i (soughtAt s sought)
-scan-end s sought i e =
-    under-past i 8 (soughtAt s sought) (omega arith) (λ j p q. past-workers s sought j (omega arith))
+pub scan-end : (s : State) (test : ℕ → Condition → Bool) (i : ℕ) → i ≡ min (s .workers) 8 → anyUnder 8 (passesAt s test) ≡ anyUnder i (passesAt s test)
+scan-end s test i e =
+    under-past i 8 (passesAt s test) (omega arith) (λ j p q. past-workers s test j (omega arith))
 
 -- Three tests, in two ways of bracketing.
 and-regroup : (a b c : Bool) → a && (b && c) ≡ (a && b) && c
@@ -61,34 +62,3 @@ and-regroup Bool.false b c = refl
 pub others-sought : (s : State) (w c : ℕ) → anyUnder 8 (soughtAt s (UpdateOf c w)) ≡ othersUpdate s w c
 others-sought s w c =
     ap (anyUnder 8) (λ k i. and-regroup (ltb i (s .workers)) (not (eqb i w)) (updates (eqb c) (conditionOf s i)) k)
-
--- ---- a step that is ready
-
--- A worker that is not there, or waits, has no update.
-waits-idle : (under : Bool) (condition : Condition) (test : ℕ → Bool) → under && not (isWaiting condition) ≡ false → under && updates test condition ≡ false
-waits-idle Bool.false condition test e = refl
-waits-idle Bool.true Free test e = refl
-waits-idle Bool.true Waiting test e = refl
-waits-idle Bool.true (Updating next c v) test e = absurd (true≢false e)
-
--- Some worker under W has an update of a cell that is not there.
-abbrev past : State → Bool
-past s = anyWorker s (updates (leb (cells (s .lines))))
-
--- Where a running step is ready, all workers under W wait, so that none has an update.
-none-past : {running unready : Bool} (s : State) → running ≡ isRunning (s .phase) → unready ≡ notReady s → running && not unready ≡ true → past s ≡ false
-none-past {running} {unready} s p q t =
-    let waits = anyWorker s (λ condition. not (isWaiting condition)) in
-    let on : isRunning (s .phase) ≡ true = sym p ∙ and-left running (not unready) t in
-    let ready : notReady s ≡ false = sym q ∙ not-of unready (and-right running (not unready) t) in
-    let all : waits ≡ false = or-right (not (s .requested)) waits (and-not (isRunning (s .phase)) (not (s .requested) || waits) ready on) in
-    under-none 8 _ (λ i h. waits-idle (ltb i (s .workers)) (conditionOf s i) (leb (cells (s .lines))) (none-under 8 _ all i h))
-
--- A step's record needs no look at the updates where the step runs and is ready.
-pub step-record : {running unready : Bool} (s : State) → running ≡ isRunning (s .phase) → unready ≡ notReady s → badSizes s || cond (running && not unready) false (past s) ≡ badRecord s
-unfolding badRecord
-step-record {running} {unready} s p q =
-    ap (λ (t : Bool). badSizes s || t)
-    (split (running && not unready)
-    (λ t. chosen (running && not unready) false (past s) t ∙ sym (none-past s p q t))
-    (λ f. passedOver (running && not unready) false (past s) f))

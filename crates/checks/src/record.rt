@@ -6,10 +6,7 @@ use crate::workers::Sought;
 use board::Phase;
 use board::State;
 ghost use mathlib.Core.Path.{_≡_};
-ghost use mathlib.Core.Bool.{false, cond};
-ghost use lib.Dec.{leb};
-ghost use Rattle.board.specs.Board.{cells};
-ghost use Rattle.board.specs.State.{anyWorker, updates, othersUpdate};
+ghost use Rattle.board.specs.State.{othersUpdate};
 ghost use Rattle.checks.specs.Sizes.{badSizes};
 ghost use Rattle.board.specs.Causes.{placePast, badRecord, listFull, noWorker, noDataCell, noCell, noLine, busy, idle, notReady, checkpointing};
 
@@ -35,31 +32,30 @@ fn bad_sizes(state: State) -> bool
         | place_past(state)
 }
 
-// "..; cell 2L or more in an update of a worker under W"; where all of them wait there is no update to look for
-fn updates_past(state: State, waiting: bool) -> bool
-    ensures { λ r. ⌜ r ≡ cond waiting false (anyWorker state (updates (leb (cells (state .lines))))) ⌝ }
-{
-    if waiting {
-        return false;
-    }
-    workers::any_worker(state, Sought::CellFrom(board::cells(state.lines)))
-}
-
-// Cause 3 of every call that it is looked at for.
+// "..; cell 2L or more in an update of a worker under W"
 pub fn bad_record(state: State) -> bool
     ensures { λ r. ⌜ r ≡ badRecord state ⌝ }
 {
-    bad_sizes(state) | updates_past(state, false)
+    let cells = board::cells(state.lines);
+    bad_sizes(state) | workers::any_worker(state, Sought::CellFrom(cells))
 }
 
-// The same of a step, once it is known whether it is ready: all workers of a running step that is ready wait.
-pub fn bad_step_record(state: State, unready: bool) -> bool
-    requires { ⌜ unready ≡ notReady state ⌝ }
-    ensures { λ r. ⌜ r ≡ badRecord state ⌝ }
+// What a step's causes 3 and 10 ask of the state record.
+pub struct StepRecord {
+    pub bad: bool,
+    pub unready: bool,
+}
+
+// Both of one scan of the workers; 10 is "running step with none requested, or with a worker under W not waiting"
+pub fn step_record(state: State) -> StepRecord
+    ensures { λ r. ⌜ (r .bad ≡ badRecord state) × (r .unready ≡ notReady state) ⌝ }
 {
     let phase = state.phase;
-    let waiting = phases::is_running(phase) & !unready;
-    bad_sizes(state) | updates_past(state, waiting)
+    let scan = workers::scanned(state, board::cells(state.lines));
+    StepRecord {
+        bad: bad_sizes(state) | scan.past,
+        unready: phases::is_running(phase) & (!state.requested | scan.awake),
+    }
 }
 
 // "an advance by a worker under W must add a cell and the length is 2L"
@@ -133,16 +129,4 @@ pub fn checkpointing(state: State) -> bool
 {
     let phase = state.phase;
     phases::is_running(phase) & state.requested
-}
-
-// "running step with none requested, or with a worker under W not waiting"
-pub fn not_ready(state: State) -> bool
-    ensures { λ r. ⌜ r ≡ notReady state ⌝ }
-{
-    let phase = state.phase;
-    if phases::is_running(phase) {
-        !state.requested | workers::any_worker(state, Sought::NotWaiting)
-    } else {
-        false
-    }
 }

@@ -5,7 +5,7 @@ use Rattle.checks.proofs.record.bad_record.Tie as tie
 
 returns : tie.Need-returns
 unfolding badRecord
-returns c = rw (c .before .bad-sizes .ensures, c .updates-past .ensures)
+returns c = rw (c .before .bad-sizes .ensures, c .any-worker .ensures, c .before .before .cells .ensures)
 
 pub bad-record-spec : {M : Type 1} → statement M
-bad-record-spec = tie.close (tie.spec (λ _ _. tt) (λ _ _. tt) returns)
+bad-record-spec = tie.close (tie.spec (λ _ _. tt) (λ _ _. tt) (λ _ _. tt) returns)
