@@ -7,7 +7,6 @@ use board::Phase;
 use board::State;
 ghost use mathlib.Core.Path.{_≡_};
 ghost use Rattle.board.specs.State.{othersUpdate};
-ghost use Rattle.checks.specs.Sizes.{badSizes};
 ghost use Rattle.board.specs.Causes.{placePast, badRecord, listFull, noWorker, noDataCell, noCell, noLine, busy, idle, notReady, checkpointing};
 
 // "place over L+1 in a format, a cell over 2L−1 in a recovery, over n+2 when running with a checkpoint requested"
@@ -23,39 +22,15 @@ pub fn place_past(state: State) -> bool
     }
 }
 
-// "L or W outside the limits, list length over 2L; place ..": all of cause 3 but the workers' updates
-fn bad_sizes(state: State) -> bool
-    ensures { λ r. ⌜ r ≡ badSizes state ⌝ }
-{
-    limits::outside(state.lines as u64, state.workers as u64)
-        | (board::cells(state.lines) < state.listed as u64)
-        | place_past(state)
-}
-
-// "..; cell 2L or more in an update of a worker under W"
+// "L or W outside the limits, list length over 2L; place ..; cell 2L or more in an update of a worker under W"
 pub fn bad_record(state: State) -> bool
     ensures { λ r. ⌜ r ≡ badRecord state ⌝ }
 {
     let cells = board::cells(state.lines);
-    bad_sizes(state) | workers::any_worker(state, Sought::CellFrom(cells))
-}
-
-// What a step's causes 3 and 10 ask of the state record.
-pub struct StepRecord {
-    pub bad: bool,
-    pub unready: bool,
-}
-
-// Both of one scan of the workers; 10 is "running step with none requested, or with a worker under W not waiting"
-pub fn step_record(state: State) -> StepRecord
-    ensures { λ r. ⌜ (r .bad ≡ badRecord state) × (r .unready ≡ notReady state) ⌝ }
-{
-    let phase = state.phase;
-    let scan = workers::scanned(state, board::cells(state.lines));
-    StepRecord {
-        bad: bad_sizes(state) | scan.past,
-        unready: phases::is_running(phase) & (!state.requested | scan.awake),
-    }
+    limits::outside(state.lines as u64, state.workers as u64)
+        | (cells < state.listed as u64)
+        | place_past(state)
+        | workers::any_worker(state, Sought::CellFrom(cells))
 }
 
 // "an advance by a worker under W must add a cell and the length is 2L"
@@ -129,4 +104,16 @@ pub fn checkpointing(state: State) -> bool
 {
     let phase = state.phase;
     phases::is_running(phase) & state.requested
+}
+
+// "running step with none requested, or with a worker under W not waiting"
+pub fn not_ready(state: State) -> bool
+    ensures { λ r. ⌜ r ≡ notReady state ⌝ }
+{
+    let phase = state.phase;
+    if phases::is_running(phase) {
+        !state.requested | workers::any_worker(state, Sought::NotWaiting)
+    } else {
+        false
+    }
 }

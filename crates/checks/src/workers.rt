@@ -5,15 +5,15 @@ use board::Store;
 use board::Worker;
 ghost use Prim.Native.Nat.{min};
 ghost use mathlib.Core.Path.{_≡_};
-ghost use mathlib.Core.Bool.{not};
 ghost use lib.Dec.{leb, eqb};
-ghost use Rattle.board.specs.State.{conditionOf, isFree, isWaiting, isUpdating, isMarkStore, mustList, updates, anyUnder, anyWorker};
+ghost use Rattle.board.specs.State.{conditionOf, isFree, isWaiting, isUpdating, isMarkStore, mustList, updates, anyUnder};
 ghost use Rattle.checks.specs.Sought.{soughtIn, soughtAt};
 
 // What a scan looks for in a worker under W.
 pub enum Sought {
     // an unfinished update of this cell or a later one
     CellFrom(u64),
+    NotWaiting,
     // an unfinished update of this cell, by another worker than the one excepted
     UpdateOf { cell: u64, except: u64 },
 }
@@ -127,6 +127,7 @@ fn is_sought(condition: Condition, sought: Sought, i: u64) -> bool
 {
     match sought {
         Sought::CellFrom(cells) => updates_from(condition, cells),
+        Sought::NotWaiting => !is_waiting(condition),
         Sought::UpdateOf { cell, except } => !(i == except) & updates_cell(condition, cell),
     }
 }
@@ -153,31 +154,4 @@ pub fn any_worker(state: State, sought: Sought) -> bool
         i += 1;
     }
     found
-}
-
-// What a step asks of the workers under W: whether one has an update of a cell from `cells` on, and whether one does
-// not wait.
-pub struct Scan {
-    pub past: bool,
-    pub awake: bool,
-}
-
-// Both, in one scan.
-pub fn scanned(state: State, cells: u64) -> Scan
-    ensures { λ r. ⌜ (r .past ≡ anyWorker state (updates (leb cells)))
-        × (r .awake ≡ anyWorker state (λ condition. not (isWaiting condition))) ⌝ }
-{
-    let end = looked_at(state.workers);
-    let mut past = false;
-    let mut awake = false;
-    let mut i: u64 = 0;
-    while i < end {
-        let at = i as usize;
-        let worker = state.worker[at];
-        let condition = worker.condition;
-        past = past | updates_from(condition, cells);
-        awake = awake | !is_waiting(condition);
-        i += 1;
-    }
-    Scan { past, awake }
 }

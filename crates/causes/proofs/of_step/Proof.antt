@@ -7,16 +7,15 @@ use Rattle.causes.proofs.of_step.Tie as tie
 returns : tie.Need-returns
 unfolding cause causes firstStanding
 returns c =
-    let asked = c .before .before .before .before .before .step-record .ensures in
     rw (
       c .first .ensures,
       c .before .stores-spent-epoch .ensures [] [],
-      c .before .before .bad-entry .ensures [] [],
-      c .before .before .before .bad-rows .ensures (c .before .before .before .before .before .before .before .before .before .args .state),
-      c .before .before .before .before .not-on .ensures [] [] [],
-      asked .0,
-      asked .1,
+      c .before .before .not-ready .ensures,
+      c .before .before .before .bad-entry .ensures [] [],
+      c .before .before .before .before .bad-rows .ensures (c .before .before .before .before .before .before .before .before .before .before .args .state),
+      c .before .before .before .before .before .bad-record .ensures,
+      c .before .before .before .before .before .before .not-on .ensures [] [] [],
     )
 
 pub of-step-spec : {M : Type 1} → statement M
-of-step-spec = tie.close (tie.spec (λ _ _. tt) (λ _ _. tt) (λ _ _. tt) (λ _ _. tt) (λ _ _. tt) (λ _ _. tt) returns)
+of-step-spec = tie.close (tie.spec (λ _ _. tt) (λ _ _. tt) (λ _ _. tt) (λ _ _. tt) (λ _ _. tt) (λ _ _. tt) (λ _ _. tt) returns)

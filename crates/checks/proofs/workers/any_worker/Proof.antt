@@ -4,8 +4,9 @@ use Prim.Native.Nat.{_≤_, _-_, min}
 use mathlib.Core.Path.{_≡_, refl, sym, _∙_}
 use native.Mathlib.Omega.{arith}
 use Rattle.board.specs.State.{anyUnder}
-use Rattle.checks.specs.Sought.{soughtIn, soughtAt}
-use Rattle.checks.proofs.Scan.{scan-end, scan-more}
+use Rattle.checks.specs.Sought.{soughtAt}
+use Rattle.checks.proofs.Tests.{under-more}
+use Rattle.checks.proofs.Scan.{scan-end, sought-under}
 use Rattle.checks.proofs.workers.any_worker.Statement.{statement}
 use Rattle.checks.proofs.workers.any_worker.Tie as tie
 
@@ -29,13 +30,13 @@ loop-again c =
     let start = c .before .before .before .before .before .args in (
       search needs,
       at .inv .1,
-      scan-more (start .t1) (soughtIn (start .sought)) (at .i) (omega (arith, at .inv)) (at .inv .2) (c .is-sought .ensures),
+      rw (under-more, c .is-sought .ensures, at .inv .2, sought-under (start .t1) (start .sought) (at .i) (omega (arith, at .inv))),
     )
 
 returns : tie.Need-returns Inv-loop μ-loop
 returns c =
     let at = c .before .loop in
-    at .inv .2 ∙ sym (scan-end (c .before .before .before .args .t1) (soughtIn (c .before .before .before .args .sought)) (at .i) (omega (arith, at .inv)))
+    at .inv .2 ∙ sym (scan-end (c .before .before .before .args .t1) (c .before .before .before .args .sought) (at .i) (omega (arith, at .inv)))
 
 pub any-worker-spec : {M : Type 1} → statement M
 any-worker-spec = tie.close (tie.spec Inv-loop μ-loop (λ _ _. tt) loop-holds (λ c. omega (arith, c .before .loop .inv)) below (λ _ _. tt) (λ c. omega (arith, c .before .before .before .loop .inv)) (λ c. omega (arith, c .before .before .before .loop .inv)) loop-again returns)
