@@ -7,7 +7,7 @@ use Rattle.board.specs.declared.State.{State}
 use Rattle.board.specs.declared.Phase.{Phase}
 use Rattle.board.specs.declared.Phase.the-variants.{Formatting, Recovering}
 use Rattle.board.specs.declared.Condition.{Condition}
-use Rattle.board.specs.declared.Call.the-variants.{FormatStart, RecoveryStart, Step, Update, RestartPoint, Advance, Request, WriteBack, Read}
+use Rattle.board.specs.declared.Call.{Call}
 use Rattle.board.specs.Board.{Board, linesOf, workersOf}
 use Rattle.board.specs.State.{conditionOf, started, requesting}
 use Rattle.board.specs.Effects.{noted, advanceOf, step, effect}
@@ -17,42 +17,42 @@ use Rattle.effects.proofs.Effects.{same-board}
 -- ---- the step and the advance, whole
 
 -- A step in the phase that the board is in.
-pub in-phase : (s : State) (m c es : List ℕ) {phase : Phase} {b′ : Board} → s .phase ≡ phase → b′ ≡ step phase s (lent s m c es) → b′ ≡ effect Step (lent s m c es)
+pub in-phase : (s : State) (m c es : List ℕ) {phase : Phase} {b′ : Board} → s .phase ≡ phase → b′ ≡ step phase s (lent s m c es) → b′ ≡ effect Call.Step (lent s m c es)
 unfolding effect
 in-phase s m c es p e = e ∙ ap (λ (x : Phase). step x s (lent s m c es)) (sym p)
 
 -- An advance in the condition that the worker is in.
-pub in-condition : (w : ℕ) (s : State) (m c es : List ℕ) {k : Condition} {b′ : Board} → conditionOf s w ≡ k → b′ ≡ advanceOf k w s (lent s m c es) → b′ ≡ effect (Advance w) (lent s m c es)
+pub in-condition : (w : ℕ) (s : State) (m c es : List ℕ) {k : Condition} {b′ : Board} → conditionOf s w ≡ k → b′ ≡ advanceOf k w s (lent s m c es) → b′ ≡ effect (Call.Advance w) (lent s m c es)
 unfolding effect
 in-condition w s m c es p e = e ∙ ap (λ (x : Condition). advanceOf x w s (lent s m c es)) (sym p)
 
 -- ---- the other calls
 
 module _ (s : State) (m c es : List ℕ) where
-  pub starts-format : {s′ : State} (l w : ℕ) → s′ ≡ started Formatting l w → lent s′ m c es ≡ effect (FormatStart l w) (lent s m c es)
+  pub starts-format : {s′ : State} (l w : ℕ) → s′ ≡ started Formatting l w → lent s′ m c es ≡ effect (Call.FormatStart l w) (lent s m c es)
   unfolding effect
   starts-format l w p = same-board p refl refl refl
 
-  pub starts-recovery : {s′ : State} {c′ : List ℕ} → s′ ≡ started Recovering (linesOf m) (workersOf m) → c′ ≡ m → lent s′ m c′ es ≡ effect RecoveryStart (lent s m c es)
+  pub starts-recovery : {s′ : State} {c′ : List ℕ} → s′ ≡ started Recovering (linesOf m) (workersOf m) → c′ ≡ m → lent s′ m c′ es ≡ effect Call.RecoveryStart (lent s m c es)
   unfolding effect
   starts-recovery p q = same-board p refl q refl
 
-  pub starts-update : {b′ : Board} (w cell v : ℕ) → b′ ≡ noted w cell v (lent s m c es) → b′ ≡ effect (Update w cell v) (lent s m c es)
+  pub starts-update : {b′ : Board} (w cell v : ℕ) → b′ ≡ noted w cell v (lent s m c es) → b′ ≡ effect (Call.Update w cell v) (lent s m c es)
   unfolding effect
   starts-update w cell v e = e
 
-  pub starts-restart : {b′ : Board} (w v : ℕ) → b′ ≡ noted w w v (lent s m c es) → b′ ≡ effect (RestartPoint w v) (lent s m c es)
+  pub starts-restart : {b′ : Board} (w v : ℕ) → b′ ≡ noted w w v (lent s m c es) → b′ ≡ effect (Call.RestartPoint w v) (lent s m c es)
   unfolding effect
   starts-restart w v e = e
 
-  pub requests : {s′ : State} → s′ ≡ requesting s → lent s′ m c es ≡ effect Request (lent s m c es)
+  pub requests : {s′ : State} → s′ ≡ requesting s → lent s′ m c es ≡ effect Call.Request (lent s m c es)
   unfolding effect
   requests p = same-board p refl refl refl
 
-  pub writes-back : {m′ : List ℕ} (l : ℕ) → m′ ≡ withLine m l (lineOf c l) → lent s m′ c es ≡ effect (WriteBack l) (lent s m c es)
+  pub writes-back : {m′ : List ℕ} (l : ℕ) → m′ ≡ withLine m l (lineOf c l) → lent s m′ c es ≡ effect (Call.WriteBack l) (lent s m c es)
   unfolding effect
   writes-back l q = same-board refl q refl refl
 
-  pub reads : (cell : ℕ) → lent s m c es ≡ effect (Read cell) (lent s m c es)
+  pub reads : (cell : ℕ) → lent s m c es ≡ effect (Call.Read cell) (lent s m c es)
   unfolding effect
   reads cell = refl

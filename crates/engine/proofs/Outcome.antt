@@ -7,7 +7,6 @@ use Rattle.line.specs.declared.Field.{Field}
 use Rattle.line.specs.Cell.{fieldOf}
 use Rattle.board.specs.declared.State.{State}
 use Rattle.board.specs.declared.Call.{Call}
-use Rattle.board.specs.declared.Call.the-variants.{Read}
 use Rattle.board.specs.Board.{Board}
 use Rattle.board.specs.Causes.{cause}
 use Rattle.board.specs.Effects.{effect}
@@ -36,14 +35,14 @@ module _ (k : Call) (s : State) (m c es : List ℕ) {v : ℕ} (given : v ≡ val
   done-by z p f = done z (same-board p refl refl refl ∙ f)
 
 -- A refused read gives 0.
-pub reads-nothing : {n : ℕ} (cell : ℕ) (b : Board) → n ≡ cause (Read cell) b → (n ≡ 0 → ⊥) → 0 ≡ valueOf (Read cell) b
+pub reads-nothing : {n : ℕ} (cell : ℕ) (b : Board) → n ≡ cause (Call.Read cell) b → (n ≡ 0 → ⊥) → 0 ≡ valueOf (Call.Read cell) b
 unfolding valueOf valueRead
-reads-nothing cell b e o = sym (passedOver (taken (Read cell) b) (fieldOf (b .cache) cell Field.Record) 0 (ne-eqb (cause (Read cell) b) 0 (λ t. o (e ∙ t))))
+reads-nothing cell b e o = sym (passedOver (taken (Call.Read cell) b) (fieldOf (b .cache) cell Field.Record) 0 (ne-eqb (cause (Call.Read cell) b) 0 (λ t. o (e ∙ t))))
 
 -- A taken read gives the cell's record in the cache.
-pub reads-record : {n v : ℕ} (cell : ℕ) (b : Board) → n ≡ cause (Read cell) b → n ≡ 0 → v ≡ fieldOf (b .cache) cell Field.Record → v ≡ valueOf (Read cell) b
+pub reads-record : {n v : ℕ} (cell : ℕ) (b : Board) → n ≡ cause (Call.Read cell) b → n ≡ 0 → v ≡ fieldOf (b .cache) cell Field.Record → v ≡ valueOf (Call.Read cell) b
 unfolding valueOf valueRead
-reads-record cell b e z f = f ∙ sym (chosen (taken (Read cell) b) (fieldOf (b .cache) cell Field.Record) 0 (eq-eqb (cause (Read cell) b) 0 (sym e ∙ z)))
+reads-record cell b e z f = f ∙ sym (chosen (taken (Call.Read cell) b) (fieldOf (b .cache) cell Field.Record) 0 (eq-eqb (cause (Call.Read cell) b) 0 (sym e ∙ z)))
 
 -- ---- a call by its name
 

@@ -15,7 +15,7 @@ use Rattle.board.specs.declared.Store.{Store}
 use Rattle.board.specs.declared.Store.the-variants.{Mark}
 use Rattle.board.specs.declared.Condition.{Condition}
 use Rattle.board.specs.declared.Condition.the-variants.{Updating}
-use Rattle.board.specs.declared.Call.the-variants.{FormatStart, RecoveryStart, Step, Update, RestartPoint, Advance, WriteBack, Read}
+use Rattle.board.specs.declared.Call.{Call}
 use Rattle.board.specs.Board.{Board, cells, rowWords, listWords, linesOutside, workersOutside, outside, epochOf, linesOf, workersOf, restNotZero, lastEpoch}
 use Rattle.board.specs.State.{conditionOf, isRunning, isWaiting, updates, mustList, anyWorker}
 use Rattle.board.specs.Causes.{causes, badRecord, badRows, badEntry, placePast, listFull, checkpointing, epochSpent}
@@ -76,26 +76,26 @@ long l b e =
 -- ---- the starts
 
 -- L and W of a taken format are within the limits.
-pub format-limits : (l w : ℕ) (b : Board) → Taken (FormatStart l w) b → (l ≤ 511) × (w ≤ 8)
+pub format-limits : (l w : ℕ) (b : Board) → Taken (Call.FormatStart l w) b → (l ≤ 511) × (w ≤ 8)
 unfolding standsAt causes
 format-limits l w b t =
-    let e = passed (FormatStart l w) b t 1 in
+    let e = passed (Call.FormatStart l w) b t 1 in
     (lines-in l (or-left (linesOutside l) (workersOutside l w) e) .1, workers-in l w (or-right (linesOutside l) (workersOutside l w) e) .1)
 
 -- A taken recovery has two rows of one length and a header within the limits.
-pub recovery-restarts : (b : Board) → Taken RecoveryStart b → Restarts (b .memory) (b .cache)
+pub recovery-restarts : (b : Board) → Taken Call.RecoveryStart b → Restarts (b .memory) (b .cache)
 unfolding standsAt causes
 recovery-restarts b t =
     let n = length (b .memory) in
     let whole = eqb (n % 8) 0 && leb 16 n && leb n 4096 in
     let same = eqb (length (b .cache)) n in
     let list = ltb (length (b .entries)) (n / 4 - 2) in
-    let e = passed RecoveryStart b t 4 in
+    let e = passed Call.RecoveryStart b t 4 in
     let rows = or-left (not whole || not same) list e in
     let fits = not-off whole (or-left (not whole) (not same) rows) in
     let least = leb-true 16 n (and-right (eqb (n % 8) 0) (leb 16 n) (and-left (eqb (n % 8) 0 && leb 16 n) (leb n 4096) fits)) in
     let most = leb-true n 4096 (and-right (eqb (n % 8) 0 && leb 16 n) (leb n 4096) fits) in
-    let h = passed RecoveryStart b t 5 in
+    let h = passed Call.RecoveryStart b t 5 in
     let empty = eqb (epochOf (b .memory)) 0 in
     let size = eqb (linesOf (b .memory)) (n / 8 - 1) in
     let w = workersOutside (linesOf (b .memory)) (workersOf (b .memory)) in
@@ -111,14 +111,14 @@ recovery-restarts b t =
 
 -- ---- the step, by phase
 
-module _ (b : Board) (t : Taken Step b) where
+module _ (b : Board) (t : Taken Call.Step b) where
   step-sound : Sound (b .state)
   unfolding standsAt causes
-  step-sound = sound (b .state) (passed Step b t 3)
+  step-sound = sound (b .state) (passed Call.Step b t 3)
 
   step-long : Long (b .state .lines) b
   unfolding standsAt causes
-  step-long = long (b .state .lines) b (or-left (badRows (b .state .lines) b) (badEntry b) (passed Step b t 4))
+  step-long = long (b .state .lines) b (or-left (badRows (b .state .lines) b) (badEntry b) (passed Call.Step b t 4))
 
   step-rows : Rows (b .state) (b .memory) (b .cache)
   step-rows = record { limit = step-sound .lines; inMemory = step-long .memory; inCache = step-long .cache }
@@ -139,7 +139,7 @@ module _ (b : Board) (t : Taken Step b) where
       let s = b .state in
       let running : isRunning (s .phase) ≡ true = ap isRunning e in
       let waits = anyWorker s (λ condition. not (isWaiting condition)) in
-      let asked = not-off (s .requested) (or-left (not (s .requested)) waits (and-not (isRunning (s .phase)) (not (s .requested) || waits) (passed Step b t 10) running)) in
+      let asked = not-off (s .requested) (or-left (not (s .requested)) waits (and-not (isRunning (s .phase)) (not (s .requested) || waits) (passed Call.Step b t 10) running)) in
       let on = and-both (isRunning (s .phase)) (s .requested) running asked in
       let entry = getD (b .entries) (s .place) 0 in
       record {
@@ -147,8 +147,8 @@ module _ (b : Board) (t : Taken Step b) where
         listed = step-sound .listed;
         list = step-long .entries;
         place = ltb-false (s .listed + 2) (s .place) (and-not (s .requested) (ltb (s .listed + 2) (s .place)) (place-at e) asked);
-        entry = λ h. leb-false (cells (s .lines)) entry (and-not (checkpointing s && ltb (s .place) (s .listed)) (leb (cells (s .lines)) entry) (or-right (badRows (s .lines) b) (badEntry b) (passed Step b t 4)) (and-both (checkpointing s) (ltb (s .place) (s .listed)) on (lt-ltb (s .place) (s .listed) h)));
-        epoch = λ h. eqb-false (epochOf (b .cache)) lastEpoch (and-not (checkpointing s && eqb (s .place) (s .listed)) (epochSpent b) (passed Step b t 11) (and-both (checkpointing s) (eqb (s .place) (s .listed)) on (eq-eqb (s .place) (s .listed) h)));
+        entry = λ h. leb-false (cells (s .lines)) entry (and-not (checkpointing s && ltb (s .place) (s .listed)) (leb (cells (s .lines)) entry) (or-right (badRows (s .lines) b) (badEntry b) (passed Call.Step b t 4)) (and-both (checkpointing s) (ltb (s .place) (s .listed)) on (lt-ltb (s .place) (s .listed) h)));
+        epoch = λ h. eqb-false (epochOf (b .cache)) lastEpoch (and-not (checkpointing s && eqb (s .place) (s .listed)) (epochSpent b) (passed Call.Step b t 11) (and-both (checkpointing s) (eqb (s .place) (s .listed)) on (eq-eqb (s .place) (s .listed) h)));
       }
 
 -- ---- updates, restart points, advances
@@ -157,37 +157,37 @@ module _ (b : Board) (t : Taken Step b) where
 stores-of : (b : Board) (w c : ℕ) → Sound (b .state) → Long (b .state .lines) b → w < b .state .workers → c < cells (b .state .lines) → Stores (b .cache) w c × (c < 1022)
 stores-of b w c s l p q = (record { byWorker = omega arith; ofCell = omega arith }, omega arith)
 
-pub update-stores : (w c v : ℕ) (b : Board) → Taken (Update w c v) b → Stores (b .cache) w c × (c < 1022)
+pub update-stores : (w c v : ℕ) (b : Board) → Taken (Call.Update w c v) b → Stores (b .cache) w c × (c < 1022)
 unfolding standsAt causes
 update-stores w c v b t =
-    let k = Update w c v in
+    let k = Call.Update w c v in
     stores-of b w c (sound (b .state) (passed k b t 3)) (long (b .state .lines) b (passed k b t 4))
     (leb-false (b .state .workers) w (passed k b t 6))
     (leb-false (cells (b .state .lines)) c (or-right (ltb c (b .state .workers)) (leb (cells (b .state .lines)) c) (passed k b t 7)))
 
-pub restart-stores : (w v : ℕ) (b : Board) → Taken (RestartPoint w v) b → Stores (b .cache) w w × (w < 1022)
+pub restart-stores : (w v : ℕ) (b : Board) → Taken (Call.RestartPoint w v) b → Stores (b .cache) w w × (w < 1022)
 unfolding standsAt causes
 restart-stores w v b t =
-    let k = RestartPoint w v in
+    let k = Call.RestartPoint w v in
     let s = sound (b .state) (passed k b t 3) in
     let under = leb-false (b .state .workers) w (passed k b t 6) in
     stores-of b w w s (long (b .state .lines) b (passed k b t 4)) under (omega arith)
 
-module _ (w : ℕ) (b : Board) (t : Taken (Advance w) b) where
+module _ (w : ℕ) (b : Board) (t : Taken (Call.Advance w) b) where
   advance-sound : Sound (b .state)
   unfolding standsAt causes
-  advance-sound = sound (b .state) (or-left (badRecord (b .state)) (listFull (b .state) w) (passed (Advance w) b t 3))
+  advance-sound = sound (b .state) (or-left (badRecord (b .state)) (listFull (b .state) w) (passed (Call.Advance w) b t 3))
 
   advance-under : w < b .state .workers
   unfolding standsAt causes
-  advance-under = leb-false (b .state .workers) w (passed (Advance w) b t 6)
+  advance-under = leb-false (b .state .workers) w (passed (Call.Advance w) b t 6)
 
   -- Where the list is full the next store is not the mark's.
   advance-room : {c v : ℕ} {next : Store} → conditionOf (b .state) w ≡ Updating next c v → next ≡ Mark → b .state .listed < cells (b .state .lines)
   unfolding standsAt causes
   advance-room {c} {v} e m =
       let s = b .state in
-      let full = or-right (badRecord s) (listFull s w) (passed (Advance w) b t 3) in
+      let full = or-right (badRecord s) (listFull s w) (passed (Call.Advance w) b t 3) in
       let lists : mustList (conditionOf s w) ≡ true = ap mustList (e ∙ ap (λ (x : Store). Updating x c v) m) in
       let adds = and-both (ltb w (s .workers)) (mustList (conditionOf s w)) (lt-ltb w (s .workers) advance-under) lists in
       let room = eqb-false (s .listed) (cells (s .lines)) (and-not (ltb w (s .workers) && mustList (conditionOf s w)) (eqb (s .listed) (cells (s .lines))) full adds) in
@@ -197,7 +197,7 @@ module _ (w : ℕ) (b : Board) (t : Taken (Advance w) b) where
   unfolding standsAt causes
   advance-advances {c} {v} {next} e =
       let s = b .state in
-      let l = long (s .lines) b (passed (Advance w) b t 4) in
+      let l = long (s .lines) b (passed (Call.Advance w) b t 4) in
       let in-range = leb-false (cells (s .lines)) c (subst (λ (k : Condition). updates (leb (cells (s .lines))) k ≡ false) e (advance-sound .update w advance-under)) in
       record {
         stores = stores-of b w c advance-sound l advance-under in-range .0;
@@ -207,15 +207,15 @@ module _ (w : ℕ) (b : Board) (t : Taken (Advance w) b) where
 -- ---- write-back and read
 
 -- The line of a taken write-back is in both rows.
-pub line-in-rows : (l : ℕ) (b : Board) → Taken (WriteBack l) b → (lineStart l + 8 ≤ length (b .memory)) × (lineStart l + 8 ≤ length (b .cache))
+pub line-in-rows : (l : ℕ) (b : Board) → Taken (Call.WriteBack l) b → (lineStart l + 8 ≤ length (b .memory)) × (lineStart l + 8 ≤ length (b .cache))
 unfolding standsAt causes
 line-in-rows l b t =
-    let k = WriteBack l in
+    let k = Call.WriteBack l in
     omega (arith, long (b .state .lines) b (passed k b t 4), ltb-false (b .state .lines) l (passed k b t 7))
 
 -- The cell of a taken read is in the cache.
-pub cell-in-cache : (c : ℕ) (b : Board) → Taken (Read c) b → lineStart (cellLine c) + 8 ≤ length (b .cache)
+pub cell-in-cache : (c : ℕ) (b : Board) → Taken (Call.Read c) b → lineStart (cellLine c) + 8 ≤ length (b .cache)
 unfolding standsAt causes
 cell-in-cache c b t =
-    let k = Read c in
+    let k = Call.Read c in
     omega (arith, long (b .state .lines) b (passed k b t 4), leb-false (cells (b .state .lines)) c (passed k b t 7))
