@@ -40,9 +40,11 @@ line-leaves program b after n text number k d hn hk ha hd =
 
 -- ---- 80 bytes of a line
 
+-- What a line asks for is told by its first 80 bytes.
 asks-kept : (program : Program) (text : List ℕ) → asks program (take 80 text) ≡ asks program text
 asks-kept Drill text = meaning-kept text
 
+-- So is its call column.
 letter-kept : (text : List ℕ) (k : Line) → letterOf (take 80 text) k ≡ letterOf text k
 letter-kept text (line.Format l w) = getD-take 80 text 0 0 (omega arith)
 letter-kept text (line.Make call) = getD-take 80 text 0 0 (omega arith)
