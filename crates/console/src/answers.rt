@@ -72,11 +72,11 @@ fn answer_line(
 {
     let number = std::num::wrapping_add_u64(answered, 1);
     let call = asked(program, line);
-    let letter = script::letter(line, call);
     let done = session::act(session, memory, cache, entries, call);
     let next = done.session;
     let answer = done.answer;
     let value = done.value;
+    let letter = script::letter(line, answer);
     let end = script::put_answer(out, at, number, letter, answer, value);
     Ended {
         progress: Progress {
