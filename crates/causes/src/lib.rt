@@ -53,11 +53,12 @@ pub fn of_step(state: State, memory: &[u64], cache: &[u64], entries: &[u16]) -> 
     ensures { λ r. ⌜ r ≡ cause Call.Step
         (lent state (now (memory .entry)) (now (cache .entry)) (now (entries .entry))) ⌝ }
 {
+    let unready = record::not_ready(state);
     first(Causes {
         phase: phases::not_on(state),
-        state: record::bad_record(state),
+        state: record::bad_step_record(state, unready),
         rows: rows::bad_rows(state.lines, memory, cache, entries) | rows::bad_entry(state, entries),
-        checkpoint: record::not_ready(state),
+        checkpoint: unready,
         epoch: rows::stores_spent_epoch(state, cache),
         ..NONE
     })

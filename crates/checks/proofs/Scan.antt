@@ -1,19 +1,24 @@
 -- A scan may stop at W: no worker from there on is what is sought.
 use Prim.Native.Nat.{ℕ, zero, suc, _≤_, _<_, min}
 use mathlib.Core.Path.{_≡_, refl, sym, ap, subst, _∙_}
-use mathlib.Core.Bool.{Bool, false, not, _&&_, _||_}
+use mathlib.Core.Bool.{Bool, true, false, not, _&&_, _||_, true≢false}
 use native.Mathlib.Omega.{arith}
 use native.Mathlib.Decide.{decLe}
 use mathlib.Core.List.{List, map}
-use lib.Dec.{ltb, eqb}
+use lib.Dec.{leb, ltb, eqb}
 use lib.ListN.{length, length-map}
 use borrow.Author.Tests.{le-ltb, lt-ltb}
 use Rattle.board.specs.declared.State.{State}
-use Rattle.board.specs.State.{anyUnder, conditionOf, updates, othersUpdate}
-use Rattle.board.proofs.Laws.Bools.{and-off, or-none}
+use Rattle.board.specs.declared.Condition.{Condition}
+use Rattle.board.specs.declared.Condition.the-variants.{Free, Waiting, Updating}
+use Rattle.board.specs.Board.{cells}
+use Rattle.board.specs.State.{anyUnder, anyWorker, conditionOf, isWaiting, isRunning, updates, othersUpdate}
+use Rattle.board.specs.Causes.{badRecord, notReady}
+use Rattle.board.proofs.Laws.Bools.{and-off, and-left, and-right, and-not, or-right, not-of, none-under, under-none}
 use Rattle.checks.specs.declared.workers.Sought.{Sought}
 use Rattle.checks.specs.declared.workers.Sought.the-variants.{UpdateOf}
 use Rattle.checks.specs.Sought.{soughtIn, soughtAt}
+use Rattle.checks.specs.Sizes.{badSizes}
 
 -- What is known of an array of structs speaks of the list of what they are made of, which is as long.
 pub length-unmade : (A B : Type 0) (f : A → B) (xs : List A) (n : ℕ) → length (map f xs) ≡ n → length xs ≡ n
@@ -56,3 +61,24 @@ and-regroup Bool.false b c = refl
 pub others-sought : (s : State) (w c : ℕ) → anyUnder 8 (soughtAt s (UpdateOf c w)) ≡ othersUpdate s w c
 others-sought s w c =
     ap (anyUnder 8) (λ k i. and-regroup (ltb i (s .workers)) (not (eqb i w)) (updates (eqb c) (conditionOf s i)) k)
+
+-- ---- a step that is ready
+
+-- A worker that is not there, or waits, has no update.
+waits-idle : (under : Bool) (condition : Condition) (test : ℕ → Bool) → under && not (isWaiting condition) ≡ false → under && updates test condition ≡ false
+waits-idle Bool.false condition test e = refl
+waits-idle Bool.true Free test e = refl
+waits-idle Bool.true Waiting test e = refl
+waits-idle Bool.true (Updating next c v) test e = absurd (true≢false e)
+
+-- The record of a running step that is ready is told by its sizes: all workers under W wait, so that none has an update.
+pub ready-record : {running unready : Bool} (s : State) → running ≡ isRunning (s .phase) → unready ≡ notReady s → running && not unready ≡ true → badSizes s ≡ badRecord s
+unfolding badRecord
+ready-record {running} {unready} s p q t =
+    let waits = anyWorker s (λ condition. not (isWaiting condition)) in
+    let on : isRunning (s .phase) ≡ true = sym p ∙ and-left running (not unready) t in
+    let ready : notReady s ≡ false = sym q ∙ not-of unready (and-right running (not unready) t) in
+    let all : waits ≡ false = or-right (not (s .requested)) waits (and-not (isRunning (s .phase)) (not (s .requested) || waits) ready on) in
+    sym
+    (or-off (badSizes s) _
+    (under-none 8 _ (λ i h. waits-idle (ltb i (s .workers)) (conditionOf s i) (leb (cells (s .lines))) (none-under 8 _ all i h))))

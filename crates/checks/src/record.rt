@@ -7,6 +7,7 @@ use board::Phase;
 use board::State;
 ghost use mathlib.Core.Path.{_≡_};
 ghost use Rattle.board.specs.State.{othersUpdate};
+ghost use Rattle.checks.specs.Sizes.{badSizes};
 ghost use Rattle.board.specs.Causes.{placePast, badRecord, listFull, noWorker, noDataCell, noCell, noLine, busy, idle, notReady, checkpointing};
 
 // "place over L+1 in a format, a cell over 2L−1 in a recovery, over n+2 when running with a checkpoint requested"
@@ -22,15 +23,34 @@ pub fn place_past(state: State) -> bool
     }
 }
 
-// "L or W outside the limits, list length over 2L; place ..; cell 2L or more in an update of a worker under W"
+// "L or W outside the limits, list length over 2L; place ..": all of cause 3 but the workers' updates
+fn bad_sizes(state: State) -> bool
+    ensures { λ r. ⌜ r ≡ badSizes state ⌝ }
+{
+    limits::outside(state.lines as u64, state.workers as u64)
+        | (board::cells(state.lines) < state.listed as u64)
+        | place_past(state)
+}
+
+// "..; cell 2L or more in an update of a worker under W"
 pub fn bad_record(state: State) -> bool
     ensures { λ r. ⌜ r ≡ badRecord state ⌝ }
 {
     let cells = board::cells(state.lines);
-    limits::outside(state.lines as u64, state.workers as u64)
-        | (cells < state.listed as u64)
-        | place_past(state)
-        | workers::any_worker(state, Sought::CellFrom(cells))
+    bad_sizes(state) | workers::any_worker(state, Sought::CellFrom(cells))
+}
+
+// The same of a step, once it is known whether it is ready: all workers of a running step that is ready wait, so that
+// there is no update to look for.
+pub fn bad_step_record(state: State, unready: bool) -> bool
+    requires { ⌜ unready ≡ notReady state ⌝ }
+    ensures { λ r. ⌜ r ≡ badRecord state ⌝ }
+{
+    let phase = state.phase;
+    if phases::is_running(phase) & !unready {
+        return bad_sizes(state);
+    }
+    bad_record(state)
 }
 
 // "an advance by a worker under W must add a cell and the length is 2L"

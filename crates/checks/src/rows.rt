@@ -55,21 +55,21 @@ pub fn bad_recovery_rows(memory: &[u64], cache: &[u64], entries: &[u16]) -> bool
 fn rest_not_zero(row: &[u64]) -> bool
     ensures { λ r. ⌜ r ≡ restNotZero (now (row .entry)) ⌝ }
 {
-    !((line::header_word(row, 3) == 0)
-        & (line::header_word(row, 4) == 0)
-        & (line::header_word(row, 5) == 0)
-        & (line::header_word(row, 6) == 0)
-        & (line::header_word(row, 7) == 0))
+    !((line::header_word_or_zero(row, 3) == 0)
+        & (line::header_word_or_zero(row, 4) == 0)
+        & (line::header_word_or_zero(row, 5) == 0)
+        & (line::header_word_or_zero(row, 6) == 0)
+        & (line::header_word_or_zero(row, 7) == 0))
 }
 
 // "epoch 0, L not (words div 8) − 1, W outside the limits, or words 3 to 7 not all zero"
 pub fn bad_header(row: &[u64]) -> bool
     ensures { λ r. ⌜ r ≡ badHeader (now (row .entry)) ⌝ }
 {
-    let lines = line::header_word(row, 1);
-    (line::header_word(row, 0) == 0)
+    let lines = line::header_word_or_zero(row, 1);
+    (line::header_word_or_zero(row, 0) == 0)
         | !(lines == limits::less(row.len() / 8, 1) as u64)
-        | limits::workers_outside(lines, line::header_word(row, 2))
+        | limits::workers_outside(lines, line::header_word_or_zero(row, 2))
         | rest_not_zero(row)
 }
 
@@ -77,7 +77,7 @@ pub fn bad_header(row: &[u64]) -> bool
 pub fn epoch_spent(cache: &[u64]) -> bool
     ensures { λ r. ⌜ ((s : State) (m e : List ℕ) → r ≡ epochSpent (lent s m (now (cache .entry)) e)) ⌝ }
 {
-    line::header_word(cache, 0) == LAST_EPOCH
+    line::header_word_or_zero(cache, 0) == LAST_EPOCH
 }
 
 // "or at the epoch's store"

@@ -9,6 +9,7 @@ pub use cell::store_field;
 pub use cell::store_in_line;
 pub use row::copy;
 pub use row::header_word;
+pub use row::header_word_or_zero;
 pub use row::store_header_word;
 pub use row::store_line;
 pub use row::write_back;

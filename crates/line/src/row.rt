@@ -61,22 +61,24 @@ pub fn store_line(row: &mut [u64], line: usize, words: [u64; 8])
     copy(&mut row[start..start + 8], &words);
 }
 
-// A word of a part, 0 past its end.
-fn word_in(part: &[u64], k: usize) -> u64
-    ensures { λ r. ⌜ r ≡ getD (now (part .entry)) k 0 ⌝ }
+// A word of the header, read in line 0's part of the row.
+pub fn header_word(row: &[u64], k: usize) -> u64
+    requires { ⌜ (8 ≤ length (now row)) × (k < 8) ⌝ }
+    ensures { λ r. ⌜ r ≡ getD (now (row .entry)) k 0 ⌝ }
 {
-    if k < part.len() { part[k] } else { 0 }
+    let header = &row[0..8];
+    header[k]
 }
 
-// A word of the header, read in line 0's part of the row; where the row is shorter than a line, in all of it.
-pub fn header_word(row: &[u64], k: usize) -> u64
+// The same of a row that may be shorter than a line: a word that is not there is 0.
+pub fn header_word_or_zero(row: &[u64], k: usize) -> u64
     requires { ⌜ k < 8 ⌝ }
     ensures { λ r. ⌜ r ≡ getD (now (row .entry)) k 0 ⌝ }
 {
-    if row.len() < 8 {
-        return word_in(row, k);
+    if 8 <= row.len() {
+        return header_word(row, k);
     }
-    word_in(&row[0..8], k)
+    if k < row.len() { row[k] } else { 0 }
 }
 
 // A word of the header, stored in line 0's part of the row.

@@ -4,10 +4,10 @@ use Rattle.line.proofs.Part.{header-read}
 use Rattle.line.proofs.row.header_word.Statement.{statement}
 use Rattle.line.proofs.row.header_word.Tie as tie
 
-returns-2 : tie.Need-returns-2
-returns-2 c = search (needs, header-read)
+returns : tie.Need-returns
+returns c = search (needs, header-read)
 
 pub header-word-spec : {M : Type 1} → statement M
 header-word-spec =
     tie.close
-    (tie.spec (search needs) (search needs) (search needs) (search needs) (search needs) (search needs) returns-2)
+    (tie.spec (search needs) (search needs) (search needs) (search needs) (search needs) returns)
