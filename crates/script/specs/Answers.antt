@@ -4,8 +4,6 @@ use mathlib.Core.List.{List, [], _∷_, _++_}
 use mathlib.Core.Bool.{cond}
 use lib.Dec.{ltb}
 use lib.ListN.{getD}
-use Rattle.script.specs.declared.Line.{Line}
-use Rattle.script.specs.declared.Line.the-variants as line
 use Rattle.script.specs.declared.Shown.{Shown}
 use Rattle.script.specs.declared.Shown.the-variants as shown
 use Rattle.script.specs.Ascii.{tab, feed, '-', '0', '?'}
@@ -35,10 +33,8 @@ abbrev pub headerText : List ℕ
 headerText =
     (108 ∷ 105 ∷ 110 ∷ 101 ∷ []) ++ (tab ∷ []) ++ (99 ∷ 97 ∷ 108 ∷ 108 ∷ []) ++ (tab ∷ []) ++ (97 ∷ 110 ∷ 115 ∷ 119 ∷ 101 ∷ 114 ∷ []) ++ (tab ∷ []) ++ (118 ∷ 97 ∷ 108 ∷ 117 ∷ 101 ∷ []) ++ (feed ∷ [])
 
--- The call column: the line's own first byte, `?` where the line is unknown.
-abbrev pub letterOf : List ℕ → Line → ℕ
-letterOf text (line.Format l w) = getD text 0 0
-letterOf text (line.Make call) = getD text 0 0
-letterOf text (line.Show call) = getD text 0 0
-letterOf text line.Cut = getD text 0 0
-letterOf text line.Unknown = '?'
+-- The call column: the line's own first byte, `?` where the answer is unknown.
+abbrev pub letterOf : List ℕ → Shown → ℕ
+letterOf text shown.Unknown = '?'
+letterOf text shown.Nothing = getD text 0 0
+letterOf text (shown.Number n) = getD text 0 0

@@ -5,14 +5,13 @@ ghost use Prim.Native.Nat.{_+_, _<_, _≤_};
 ghost use lib.ListN.{length};
 ghost use Rattle.script.specs.Answers.{numberText, shownText, answerText, headerText, letterOf};
 ghost use Rattle.script.specs.Writing.{put, Put};
-use crate::Line;
 use crate::Shown;
 
-// The call column: the line's own first byte, `?` where the line is unknown.
-pub fn letter(line: &[u8], asked: Line) -> u8
-    ensures { λ r. ⌜ r ≡ letterOf (now (line .entry)) asked ⌝ }
+// The call column: the line's own first byte, `?` where the answer is unknown.
+pub fn letter(line: &[u8], answer: Shown) -> u8
+    ensures { λ r. ⌜ r ≡ letterOf (now (line .entry)) answer ⌝ }
 {
-    if let Line::Unknown = asked {
+    if let Shown::Unknown = answer {
         return b'?';
     }
     if line.len() == 0 {
