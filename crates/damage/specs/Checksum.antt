@@ -17,7 +17,7 @@ use Rattle.board.specs.Board.{Board}
 use Rattle.board.specs.State.{conditionOf}
 
 -- "h := ((h xor x) × 1099511628211) mod 2^64".
-abbrev pub mixed : ℕ → ℕ → ℕ
+unfoldable pub mixed : ℕ → ℕ → ℕ
 mixed h x = (bitXor h x * 1099511628211) % 2 ^ 64
 
 -- "for each number x in turn".

@@ -2,7 +2,7 @@
 use Prim.Native.Nat.{ℕ, _≤_}
 use mathlib.Core.Bool.{Bool, cond, _&&_}
 use mathlib.Core.List.{List}
-use lib.Dec.{leb, ltb}
+use lib.Dec.{leb}
 use lib.ListN.{length, take}
 use Rattle.board.specs.declared.State.{State}
 use Rattle.board.specs.Board.{Board}
@@ -14,7 +14,7 @@ use Rattle.script.specs.declared.Shown.the-variants.{Unknown, Nothing, Number}
 use Rattle.damage.specs.declared.Sizes.{Sizes}
 use Rattle.damage.specs.declared.Damaged.{Damaged}
 use Rattle.damage.specs.Record.{fieldFits, fieldPut, workerFits, workerPut}
-use Rattle.damage.specs.Rows.{resized, storedIf}
+use Rattle.damage.specs.Rows.{resized, wordFits, entryFits, storedIf}
 use Rattle.damage.specs.Checksum.{checksum}
 
 -- What a line leaves and shows: the board, the answer and the value.
@@ -38,14 +38,6 @@ roomFor m c e = leb m 4104 && (leb c 4104 && leb e 1100)
 -- "the rows' lengths: memory, cache, list".
 abbrev pub relengthened : Board → ℕ → ℕ → ℕ → Board
 relengthened b m c e = lent (b .state) (resized (b .memory) m) (resized (b .cache) c) (resized (b .entries) e)
-
--- "i the row's length or more: `?`".
-abbrev pub wordFits : List ℕ → ℕ → Bool
-wordFits row i = ltb i (length row)
-
--- "list entry i := v, at most 65,535, i the list's length or more: `?`".
-abbrev pub entryFits : List ℕ → ℕ → ℕ → Bool
-entryFits list i v = ltb i (length list) && leb v 65535
 
 -- What a damaging line does; what cannot be put changes nothing.
 unfoldable pub outcome : Damage → Board → Outcome

@@ -3,7 +3,7 @@ ghost use mathlib.Core.Path.{_≡_};
 ghost use mathlib.Core.List.{[], _∷_};
 ghost use Prim.Native.Nat.{_*_, _%_, _^_};
 ghost use Rattle.board.specs.Next.{lent};
-ghost use Rattle.damage.specs.Checksum.{mixed, summed, phaseNumber, undoNumber, storeNumber, fieldNumbers, conditionNumbers, workersNumbers, rowNumbers, checksum};
+ghost use Rattle.damage.specs.Checksum.{mixed, summed, phaseNumber, undoNumber, requestNumber, storeNumber, fieldNumbers, conditionNumbers, workersNumbers, rowNumbers, checksum};
 use board::Condition;
 use board::Phase;
 use board::State;
@@ -84,6 +84,13 @@ fn undo_number(undo: UndoStep) -> u64
     }
 }
 
+// "request, 0 or 1".
+fn request_number(requested: bool) -> u64
+    ensures { λ r. ⌜ r ≡ requestNumber requested ⌝ }
+{
+    if requested { 1 } else { 0 }
+}
+
 // "0 backup, 1 mark, 2 record".
 fn store_number(store: Store) -> u64
     ensures { λ r. ⌜ r ≡ storeNumber store ⌝ }
@@ -111,17 +118,16 @@ fn mix_fields(sum: u64, state: State) -> u64
 {
     let phase = state.phase;
     let undo = state.undo;
-    let requested = if state.requested { 1 } else { 0 };
-    let lines = mix(sum, phase_number(phase));
+    let first = mix(sum, phase_number(phase));
     let four = mix_four(
-        lines,
+        first,
         state.lines as u64,
         state.workers as u64,
         state.listed as u64,
         state.place as u64,
     );
     let five = mix(four, undo_number(undo));
-    mix(five, requested)
+    mix(five, request_number(state.requested))
 }
 
 // "c, n, a, v as in K".

@@ -4,8 +4,8 @@ mod damages;
 mod record;
 mod rows;
 
-pub use damages::carry_out;
 use board::State;
+pub use damages::carry_out;
 use script::Shown;
 
 // How many words of the memory and cache arrays and entries of the list array are in use.

@@ -1,15 +1,13 @@
 // Words of a row put anew, and a row made longer or shorter. A row is the first `used` words of an array.
 ghost use mathlib.Core.Path.{_≡_};
-ghost use mathlib.Core.Bool.{_&&_};
 ghost use Prim.Native.Nat.{_≤_};
-ghost use lib.Dec.{ltb, leb};
 ghost use lib.ListN.{length, take};
-ghost use Rattle.damage.specs.Rows.{Stored, resized};
+ghost use Rattle.damage.specs.Rows.{wordFits, entryFits, Stored, resized};
 
 // "M i v", "N i v": a word := v. Whether there is such a word.
 pub fn store(row: &mut [u64], used: usize, at: u64, word: u64) -> bool
     requires { ⌜ used ≤ length (now row) ⌝ }
-    ensures { λ r. ⌜ Stored (ltb at used) (take used (now (row .entry))) at word r (take used (now (row .exit))) ⌝ }
+    ensures { λ r. ⌜ Stored (wordFits (take used (now (row .entry))) at) (take used (now (row .entry))) at word r (take used (now (row .exit))) ⌝ }
 {
     if at < used as u64 {
         row[at as usize] = word;
@@ -21,7 +19,7 @@ pub fn store(row: &mut [u64], used: usize, at: u64, word: u64) -> bool
 // "Q i v": list entry i := v, at most 65,535. Whether there is such an entry, and v fits it.
 pub fn store_entry(list: &mut [u16], used: usize, at: u64, entry: u64) -> bool
     requires { ⌜ used ≤ length (now list) ⌝ }
-    ensures { λ r. ⌜ Stored (ltb at used && leb entry 65535) (take used (now (list .entry))) at entry r (take used (now (list .exit))) ⌝ }
+    ensures { λ r. ⌜ Stored (entryFits (take used (now (list .entry))) at entry) (take used (now (list .entry))) at entry r (take used (now (list .exit))) ⌝ }
 {
     if at >= used as u64 {
         return false;
