@@ -7,8 +7,8 @@ use lib.ListN.{length, take, getD}
 use lib.Seq.{getD-take}
 use Rattle.board.specs.Board.{Board}
 use Rattle.script.specs.declared.Line.{Line}
-use Rattle.script.specs.declared.Line.the-variants as line
 use Rattle.script.specs.declared.Shown.{Shown}
+use Rattle.script.specs.declared.Shown.the-variants as shown
 use Rattle.script.specs.Grammar.{meaning}
 use Rattle.script.specs.Answers.{answerText, letterOf}
 use Rattle.script.proofs.NumberLaws.{meaning-kept}
@@ -25,12 +25,11 @@ asks-drill Drill text = refl
 -- ---- what is written
 
 -- The text of an answer whose parts are the line's.
-pub line-text : (program : Program) (b : Board) (n : ℕ) (text : List ℕ) (number letter : ℕ) (k : Line) (d : Done) → number ≡ following n → k ≡ asks program text → letter ≡ letterOf text k → d ≡ carriedOut k b → answerText number letter (d .answer) (d .value) ≡ lineText program (following n) b text
+pub line-text : (program : Program) (b : Board) (n : ℕ) (text : List ℕ) (number letter : ℕ) (k : Line) (d : Done) → number ≡ following n → k ≡ asks program text → letter ≡ letterOf text (d .answer) → d ≡ carriedOut k b → answerText number letter (d .answer) (d .value) ≡ lineText program (following n) b text
 line-text program b n text number letter k d hn hk hl hd =
     ap (λ (x : ℕ). answerText x letter (d .answer) (d .value)) hn
     ∙ ap (λ (x : ℕ). answerText (following n) x (d .answer) (d .value)) hl
-    ∙ ap (λ (x : Done). answerText (following n) (letterOf text k) (x .answer) (x .value)) hd
-    ∙ ap (λ (x : Line). answerText (following n) (letterOf text x) (carriedOut x b .answer) (carriedOut x b .value)) hk
+    ∙ ap (λ (x : Done). answerText (following n) (letterOf text (x .answer)) (x .answer) (x .value)) (hd ∙ ap (λ (x : Line). carriedOut x b) hk)
 
 -- What a line leaves.
 pub line-leaves : (program : Program) (b after : Board) (n : ℕ) (text : List ℕ) (number : ℕ) (k : Line) (d : Done) → number ≡ following n → k ≡ asks program text → after ≡ d .board → d ≡ carriedOut k b → carried after number [] ≡ ended program (carried b n text) .after
@@ -40,23 +39,23 @@ line-leaves program b after n text number k d hn hk ha hd =
 
 -- ---- 80 bytes of a line
 
+-- What a line asks for is told by its first 80 bytes.
 asks-kept : (program : Program) (text : List ℕ) → asks program (take 80 text) ≡ asks program text
 asks-kept Drill text = meaning-kept text
 
-letter-kept : (text : List ℕ) (k : Line) → letterOf (take 80 text) k ≡ letterOf text k
-letter-kept text (line.Format l w) = getD-take 80 text 0 0 (omega arith)
-letter-kept text (line.Make call) = getD-take 80 text 0 0 (omega arith)
-letter-kept text (line.Show call) = getD-take 80 text 0 0 (omega arith)
-letter-kept text line.Cut = getD-take 80 text 0 0 (omega arith)
-letter-kept text line.Unknown = refl
+-- So is its call column.
+letter-kept : (text : List ℕ) (answer : Shown) → letterOf (take 80 text) answer ≡ letterOf text answer
+letter-kept text shown.Unknown = refl
+letter-kept text shown.Nothing = getD-take 80 text 0 0 (omega arith)
+letter-kept text (shown.Number n) = getD-take 80 text 0 0 (omega arith)
 
 -- A line's end by its first 80 bytes.
 pub ended-kept : (program : Program) (b : Board) (n : ℕ) (text : List ℕ) → ended program (carried b n (take 80 text)) ≡ ended program (carried b n text)
 ended-kept program b n text =
-    let end : ℕ → Line → Fed = λ letter k. leaving (carried (carriedOut k b .board) (following n) []) (answerText (following n) letter (carriedOut k b .answer) (carriedOut k b .value)) in
-    ap (end (letterOf (take 80 text) (asks program (take 80 text)))) (asks-kept program text)
-    ∙ ap (λ (k : Line). end (letterOf (take 80 text) k) (asks program text)) (asks-kept program text)
-    ∙ ap (λ (letter : ℕ). end letter (asks program text)) (letter-kept text (asks program text))
+    let end : ℕ → Done → Fed = λ letter d. leaving (carried (d .board) (following n) []) (answerText (following n) letter (d .answer) (d .value)) in
+    let d = carriedOut (asks program text) b in
+    ap (λ (k : Line). end (letterOf (take 80 text) (carriedOut k b .answer)) (carriedOut k b)) (asks-kept program text)
+    ∙ ap (λ (letter : ℕ). end letter d) (letter-kept text (d .answer))
 
 -- ---- what the code does
 

@@ -33,9 +33,11 @@ pub record Zeroed (row now : List ℕ) (i : ℕ) : Type 0 where
   pub holds : now ≡ replicate i 0 ++ drop i row
   pub size : length now ≡ length row
 
+-- Before the first word.
 pub zeroed-none : (row : List ℕ) → Zeroed row row 0
 zeroed-none row = record { within = omega arith; holds = fill-none row 0; size = refl }
 
+-- A word more.
 pub zeroed-more : {row now : List ℕ} {i : ℕ} → Zeroed row now i → i < length row → Zeroed row (set now i 0) (i + 1)
 zeroed-more {row} {now} {i} z h =
     record {
@@ -44,6 +46,7 @@ zeroed-more {row} {now} {i} z h =
       size = length-set now i 0 ∙ z .size;
     }
 
+-- All of them.
 pub zeroed-all : {row now : List ℕ} {i : ℕ} → Zeroed row now i → length row ≤ i → now ≡ replicate (length row) 0
 zeroed-all {row} {now} {i} z h =
     let all : i ≡ length row = omega (arith, z .within) in

@@ -20,6 +20,7 @@ use Rattle.console.specs.Pieces.{Carried, carried, Fed, leaving, kept, e
 
 -- ---- the bytes kept of a line
 
+-- The first bytes taken again.
 pub take-again : (n : ℕ) (u z : List ℕ) → take n (take n u ++ z) ≡ take n (u ++ z)
 take-again zero u z = refl
 take-again (suc n) [] z = refl
@@ -30,6 +31,7 @@ kept-kept : (p : Carried) (x y : List ℕ) → kept (kept p x) y ≡ kept p (x +
 kept-kept p x y =
     ap (carried (p .board) (p .number)) (take-again 80 (p .begun ++ x) y ∙ ap (take 80) (append-assoc (p .begun) x y))
 
+-- At most 80 bytes are kept of a line that goes on.
 kept-short : (p : Carried) (x : List ℕ) → length (kept p x .begun) ≤ 80
 kept-short p x = omega (arith, length-take 80 (p .begun ++ x))
 
@@ -39,6 +41,7 @@ kept-none p h = ap (carried (p .board) (p .number)) (ap (take 80) (append-nil (p
 
 -- ---- pieces
 
+-- No bytes leave all as it was.
 pub fed-none : (program : Program) (p : Carried) → fed program p [] ≡ leaving p []
 unfolding fed
 fed-none program p = refl

@@ -16,7 +16,7 @@ use Rattle.console.specs.declared.Program.{Program}
 use Rattle.console.specs.Session.{firstBoard}
 use Rattle.console.specs.Lines.{carriedOut}
 use Rattle.console.specs.Transcript.{linesOf, asks, following, lineText, answers}
-use Rattle.console.specs.Pieces.{Carried, carried, Fed, leaving, kept, ended, andThen, fed, lastText, outputs, AnyPieces}
+use Rattle.console.specs.Pieces.{Carried, carried, first, Fed, leaving, kept, ended, andThen, fed, lastText, outputs, AnyPieces}
 use Rattle.console.proofs.Ends.{ended-kept}
 use Rattle.console.proofs.Pieces.{take-again, fed-append}
 
@@ -27,16 +27,19 @@ unfoldable onto : List ℕ → List (List ℕ) → List (List ℕ)
 onto [] ls = ls
 onto (b ∷ bs) ls = joined b (onto bs ls)
 
+-- In front of a line.
 onto-line : (u l : List ℕ) (ls : List (List ℕ)) → onto u (l ∷ ls) ≡ (u ++ l) ∷ ls
 unfolding onto
 onto-line [] l ls = refl
 onto-line (b ∷ bs) l ls = ap (joined b) (onto-line bs l ls)
 
+-- In front of no line: a line of their own.
 onto-none : (b : ℕ) (u : List ℕ) → onto (b ∷ u) [] ≡ (b ∷ u) ∷ []
 unfolding onto
 onto-none b [] = refl
 onto-none b (c ∷ u) = ap (joined b) (onto-none c u)
 
+-- A byte more of them.
 onto-more : (u : List ℕ) (b : ℕ) (ls : List (List ℕ)) → onto (u ++ (b ∷ [])) ls ≡ onto u (joined b ls)
 unfolding onto
 onto-more [] b ls = refl
@@ -77,6 +80,7 @@ module _ (program : Program) (b : Board) (n : ℕ) (u : List ℕ) (c : ℕ) (cs 
       closed program (onward program cs (cond t (ended program (carried b n (take 80 u))) (leaving (kept (carried b n (take 80 u)) (c ∷ [])) []))) ≡
       answers program n b (onto u (cond t ([] ∷ linesOf cs) (joined c (linesOf cs))))
 
+  -- A line feed ends the line begun.
   at-feed : closed program (fed program (ended program (carried b n u) .after) cs) ≡ answers program (following n) (carriedOut (asks program u) b .board) (linesOf cs) → Byte true
   unfolding answers
   at-feed again =
@@ -85,12 +89,14 @@ module _ (program : Program) (b : Board) (n : ℕ) (u : List ℕ) (c : ℕ) (cs 
       ∙ ap (λ (t : List ℕ). lineText program (following n) b u ++ t) again
       ∙ sym (ap (answers program n b) (onto-line u [] (linesOf cs) ∙ ap (λ (l : List ℕ). l ∷ linesOf cs) (append-nil u)))
 
+  -- Any other byte goes on the line begun.
   inside : closed program (fed program (carried b n (take 80 (u ++ (c ∷ [])))) cs) ≡ answers program n b (onto (u ++ (c ∷ [])) (linesOf cs)) → Byte false
   inside again =
       ap (λ (l : List ℕ). closed program (fed program (carried b n l) cs)) (take-again 80 u (c ∷ []))
       ∙ again
       ∙ ap (answers program n b) (onto-more u c (linesOf cs))
 
+  -- One of the two.
   either : (t : Bool) → Byte true → Byte false → Byte t
   either true feeds goes-on = feeds
   either false feeds goes-on = goes-on
@@ -111,14 +117,14 @@ outputs-whole : (program : Program) (p : Carried) (pieces : List (List ℕ)) →
 unfolding outputs flatten fed
 outputs-whole program p [] = refl
 outputs-whole program p (x ∷ xs) =
-    let first = fed program p x in
-    let more = fed program (first .after) (flatten xs) in
-    ap (λ (t : List ℕ). first .text ++ t) (outputs-whole program (first .after) xs)
-    ∙ sym (closed-then program first more)
+    let before = fed program p x in
+    let more = fed program (before .after) (flatten xs) in
+    ap (λ (t : List ℕ). before .text ++ t) (outputs-whole program (before .after) xs)
+    ∙ sym (closed-then program before more)
     ∙ sym (ap (closed program) (fed-append program p x (flatten xs)))
 
 -- The outputs are the transcript, however the input is cut.
 pub any-pieces : AnyPieces
 unfolding onto
 any-pieces program pieces =
-    ap (λ (t : List ℕ). headerText ++ t) (outputs-whole program (carried firstBoard 0 []) pieces ∙ closed-fed program firstBoard 0 [] (flatten pieces))
+    ap (λ (t : List ℕ). headerText ++ t) (outputs-whole program first pieces ∙ closed-fed program firstBoard 0 [] (flatten pieces))

@@ -24,6 +24,10 @@ pub record Carried : Type 0 where
 abbrev pub carried : Board → ℕ → List ℕ → Carried
 carried board number begun = record { board = board; number = number; begun = begun }
 
+-- Before the first line.
+abbrev pub first : Carried
+first = carried firstBoard 0 []
+
 -- What some input leaves, and what is written to it.
 pub record Fed : Type 0 where
   pub after : Carried
@@ -68,7 +72,7 @@ outputs program p (piece ∷ more) = fed program p piece .text ++ outputs progra
 -- However an input is cut into pieces, the header and the outputs are the transcript of the whole input.
 abbrev pub AnyPieces : Type 0
 AnyPieces =
-    (program : Program) (pieces : List (List ℕ)) → headerText ++ outputs program (carried firstBoard 0 []) pieces ≡ transcript program (flatten pieces)
+    (program : Program) (pieces : List (List ℕ)) → headerText ++ outputs program first pieces ≡ transcript program (flatten pieces)
 
 -- ---- what contracts say
 

@@ -29,7 +29,7 @@ following n = (n + 1) % 2 ^ 64
 -- What is written for a line: "its number, call, answer, and the value read or -".
 abbrev pub lineText : Program → ℕ → Board → List ℕ → List ℕ
 lineText program number b line =
-    answerText number (letterOf line (asks program line)) (carriedOut (asks program line) b .answer) (carriedOut (asks program line) b .value)
+    let done = carriedOut (asks program line) b in answerText number (letterOf line (done .answer)) (done .answer) (done .value)
 
 -- What is written for the lines after line `n`, each on the board that the one before it left.
 unfoldable pub answers : Program → ℕ → Board → List (List ℕ) → List ℕ

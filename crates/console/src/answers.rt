@@ -1,11 +1,11 @@
 // The lines of a piece of input, answered one after the other into a buffer.
 ghost use mathlib.Core.Path.{_≡_};
-ghost use mathlib.Core.List.{[], _++_};
-ghost use Prim.Native.Nat.{_+_, _≤_};
+ghost use mathlib.Core.List.{List, [], _++_};
+ghost use Prim.Native.Nat.{ℕ, _+_, _≤_};
 ghost use lib.ListN.{length, take};
 ghost use Rattle.console.specs.Session.{boardOf, Within};
 ghost use Rattle.console.specs.Transcript.{asks};
-ghost use Rattle.console.specs.Pieces.{carried, leaving, kept, ended, fed, lastText, carriedBy, Ready, Ends, Stops};
+ghost use Rattle.console.specs.Pieces.{carried, first, leaving, kept, ended, fed, lastText, carriedBy, Ready, Ends, Stops};
 use crate::Program;
 use crate::input::feed_at;
 use crate::input::keep;
@@ -35,7 +35,8 @@ pub struct Answers {
 
 // Before the first line.
 pub fn start() -> Progress
-    ensures { λ r. ⌜ (r .number ≡ 0) × (r .begun ≡ 0) × Ready r ⌝ }
+    ensures first { λ r. ⌜ ((memory cache entries line : List ℕ) → carriedBy r memory cache entries line ≡ first) ⌝ }
+    ensures ready { λ r. ⌜ Ready r ⌝ }
 {
     Progress {
         session: session::new(),
@@ -71,11 +72,11 @@ fn answer_line(
 {
     let number = std::num::wrapping_add_u64(answered, 1);
     let call = asked(program, line);
-    let letter = script::letter(line, call);
     let done = session::act(session, memory, cache, entries, call);
     let next = done.session;
     let answer = done.answer;
     let value = done.value;
+    let letter = script::letter(line, answer);
     let end = script::put_answer(out, at, number, letter, answer, value);
     Ended {
         progress: Progress {

@@ -23,9 +23,10 @@ struct Reached {
 // Why the program stops, on standard error.
 fn complain(program: Program, why: &[u8]) {
     match program {
-        Program::Drill => io::write_all(STDERR_FILENO, b"drill: "),
+        Program::Drill => {
+            io::write_all(STDERR_FILENO, b"drill: ");
+        }
     }
-    ;
     io::write_all(STDERR_FILENO, why);
 }
 

@@ -104,6 +104,10 @@ and-then {row} {t} {u} {after} {last} {at} {a} {b} p q h =
 pub shown-put : {row after : List ℕ} {at end : ℕ} {s t : Shown} → s ≡ t → Put row at (shownText t) after end → Put row at (shownText s) after end
 shown-put {row} {after} {at} {end} e p = subst (λ (x : Shown). Put row at (shownText x) after end) (sym e) p
 
+-- One digit is the text of a number under 10.
+pub digit-put : {row after : List ℕ} {at end : ℕ} (n : ℕ) → n < 10 → Put row at ((48 + n) ∷ []) after end → Put row at (numberText n) after end
+digit-put {row} {after} {at} {end} n h p = subst (λ (t : List ℕ). Put row at t after end) (sym (one-digit n n h)) p
+
 -- A byte written is a store.
 pub put-set : (row : List ℕ) (at b : ℕ) → at < length row → set row at b ≡ put row at (b ∷ [])
 put-set row at b h =

@@ -33,7 +33,7 @@ abbrev pub headerText : List ℕ
 headerText =
     (108 ∷ 105 ∷ 110 ∷ 101 ∷ []) ++ (tab ∷ []) ++ (99 ∷ 97 ∷ 108 ∷ 108 ∷ []) ++ (tab ∷ []) ++ (97 ∷ 110 ∷ 115 ∷ 119 ∷ 101 ∷ 114 ∷ []) ++ (tab ∷ []) ++ (118 ∷ 97 ∷ 108 ∷ 117 ∷ 101 ∷ []) ++ (feed ∷ [])
 
--- The call column: the line's own first byte, `?` where the answer is unknown.
+-- The call column: the line's own first byte, `?` where the answer is `?`.
 abbrev pub letterOf : List ℕ → Shown → ℕ
 letterOf text shown.Unknown = '?'
 letterOf text shown.Nothing = getD text 0 0

@@ -7,7 +7,7 @@ ghost use Rattle.script.specs.Answers.{numberText, shownText, answerText
 ghost use Rattle.script.specs.Writing.{put, Put};
 use crate::Shown;
 
-// The call column: the line's own first byte, `?` where the answer is unknown.
+// The call column: the line's own first byte, `?` where the answer is `?`.
 pub fn letter(line: &[u8], answer: Shown) -> u8
     ensures { λ r. ⌜ r ≡ letterOf (now (line .entry)) answer ⌝ }
 {
@@ -48,11 +48,14 @@ fn put_text(out: &mut [u8], at: usize, text: &[u8])
     }
 }
 
-// A number's text, written from `at` on.
+// A number's text, written from `at` on; most answers are one digit.
 fn put_number(out: &mut [u8], at: usize, n: u64) -> usize
     requires { ⌜ at + 20 ≤ length (now out) ⌝ }
     ensures { λ r. ⌜ Put (now (out .entry)) at (numberText n) (now (out .exit)) r × (r ≤ at + 20) ⌝ }
 {
+    if n < 10 {
+        return put_byte(out, at, b'0' + n as u8);
+    }
     let mut text = [0u8; 20];
     let count = io::decimal(n, &mut text);
     put_text(out, at, &text[..count]);

@@ -15,7 +15,7 @@ use Rattle.script.proofs.Shown.{the-type}
 use Rattle.script.proofs.answer.letter.Statement.{statement}
 use Rattle.script.proofs.answer.letter.Tie as tie
 
--- A known answer shows the line's first byte.
+-- Beside any other answer it is the first byte.
 known : (text : List ℕ) (answer : Shown) → OneOf (1 ∷ 2 ∷ []) (tagOf the-type answer) → getD text 0 0 ≡ letterOf text answer
 known text Unknown told = absurd (⊎-elim (λ e. omega arith) (λ e. omega arith) told)
 known text Nothing told = refl

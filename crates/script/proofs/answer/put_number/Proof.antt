@@ -6,7 +6,7 @@ use lib.ListN.{length, take}
 use borrow.Author.Needs.{needs}
 use Rattle.script.specs.Answers.{numberText}
 use Rattle.script.specs.Writing.{put}
-use Rattle.script.proofs.TextLaws.{few-digits, decimal-text}
+use Rattle.script.proofs.TextLaws.{few-digits, decimal-text, digit-put}
 use Rattle.script.proofs.answer.put_number.Statement.{statement}
 use Rattle.script.proofs.answer.put_number.Tie as tie
 
@@ -23,8 +23,11 @@ add-result c =
     omega arith
 
 returns : tie.Need-returns
-returns c =
-    let a = c .before .before .before .before .before .before .before .before .args in
+returns c = (digit-put (c .before .before .before .before .before .before .args .n) (c .before .before .before .before .if1 .taken) (c .before .before .put-byte .ensures), omega arith)
+
+returns-2 : tie.Need-returns-2
+returns-2 c =
+    let a = c .before .before .before .before .before .before .before .before .before .args in
     let d = c .before .before .before .before .before .decimal in
     let text : take (d .result) (d .last .1 .0) ≡ numberText (a .n) = d .ensures .1 .1 ∙ decimal-text (a .n) (d .result) (d .ensures .1 .0) in
     let few : d .result ≤ 20 = few-digits (a .n) (d .result) (d .ensures .1 .0) (search needs) in (
@@ -38,4 +41,5 @@ returns c =
 pub put-number-spec : {M : Type 1} → statement M
 put-number-spec =
     tie.close
-    (tie.spec (search needs) (search needs) (search needs) put-text-requires add-result (search needs) returns)
+    (tie.spec (search needs) (search needs) (search needs) (search needs) returns (search needs) (search needs)
+    (search needs) put-text-requires add-result (search needs) returns-2)
