@@ -79,7 +79,7 @@ pub record Within (s : Sizes) : Type 0 where
   pub list-within : s .list ≤ 1100
 
 -- The arrays have the room.
-pub record Room (memory cache entries : List ℕ) : Type 0 where
+pub record HasRoom (memory cache entries : List ℕ) : Type 0 where
   pub memory-room : 4104 ≤ length memory
   pub cache-room : 4104 ≤ length cache
   pub list-room : 1100 ≤ length entries

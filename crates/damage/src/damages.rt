@@ -1,6 +1,6 @@
 // The fault program's own letters, each on a board whose rows are the first words of three arrays.
 ghost use mathlib.Core.Path.{_≡_};
-ghost use Rattle.damage.specs.Damages.{outcome, answerIf, roomFor, inUse, left, Within, Room};
+ghost use Rattle.damage.specs.Damages.{outcome, answerIf, roomFor, inUse, left, Within, HasRoom};
 ghost use Rattle.script.specs.declared.Damage.the-variants.{Lengths, Checksum};
 use crate::Damaged;
 use crate::Sizes;
@@ -59,7 +59,7 @@ fn put_lengths(
     c: u64,
     e: u64,
 ) -> Damaged
-    requires { ⌜ Within sizes × Room (now memory) (now cache) (now entries) ⌝ }
+    requires { ⌜ Within sizes × HasRoom (now memory) (now cache) (now entries) ⌝ }
     ensures { λ r. ⌜ left r (now (memory .exit)) (now (cache .exit)) (now (entries .exit)) ≡ outcome (Lengths m c e) (inUse state sizes (now (memory .entry)) (now (cache .entry)) (now (entries .entry))) ⌝ }
     ensures { λ r. ⌜ Within (r .sizes) ⌝ }
 {
@@ -97,7 +97,7 @@ fn show_checksum(
     cache: &[u64],
     entries: &[u16],
 ) -> Damaged
-    requires { ⌜ Within sizes × Room (now memory) (now cache) (now entries) ⌝ }
+    requires { ⌜ Within sizes × HasRoom (now memory) (now cache) (now entries) ⌝ }
     ensures { λ r. ⌜ left r (now (memory .entry)) (now (cache .entry)) (now (entries .entry)) ≡ outcome Checksum (inUse state sizes (now (memory .entry)) (now (cache .entry)) (now (entries .entry))) ⌝ }
     ensures { λ r. ⌜ Within (r .sizes) ⌝ }
 {
@@ -117,7 +117,7 @@ pub fn carry_out(
     entries: &mut [u16],
     damage: Damage,
 ) -> Damaged
-    requires { ⌜ Within sizes × Room (now memory) (now cache) (now entries) ⌝ }
+    requires { ⌜ Within sizes × HasRoom (now memory) (now cache) (now entries) ⌝ }
     ensures { λ r. ⌜ left r (now (memory .exit)) (now (cache .exit)) (now (entries .exit)) ≡ outcome damage (inUse state sizes (now (memory .entry)) (now (cache .entry)) (now (entries .entry))) ⌝ }
     ensures { λ r. ⌜ Within (r .sizes) ⌝ }
 {
