@@ -12,38 +12,29 @@ use Rattle.script.specs.declared.Shown.the-variants as shown
 use Rattle.script.specs.Grammar.{meaning}
 use Rattle.script.specs.Answers.{answerText, letterOf}
 use Rattle.script.proofs.NumberLaws.{meaning-kept}
-use Rattle.console.specs.declared.Program.{Program}
-use Rattle.console.specs.declared.Program.the-variants.{Drill}
+use Rattle.script.specs.declared.Program.{Program}
 use Rattle.console.specs.Lines.{Done, carriedOut}
-use Rattle.console.specs.Transcript.{asks, following, lineText}
+use Rattle.console.specs.Transcript.{following, lineText}
 use Rattle.console.specs.Pieces.{Carried, carried, Fed, leaving, ended, Ends}
-
--- The drill's lines are the script's.
-pub asks-drill : (program : Program) (text : List ℕ) → meaning text ≡ asks program text
-asks-drill Drill text = refl
 
 -- ---- what is written
 
 -- The text of an answer whose parts are the line's.
-pub line-text : (program : Program) (b : Board) (n : ℕ) (text : List ℕ) (number letter : ℕ) (k : Line) (d : Done) → number ≡ following n → k ≡ asks program text → letter ≡ letterOf text (d .answer) → d ≡ carriedOut k b → answerText number letter (d .answer) (d .value) ≡ lineText program (following n) b text
+pub line-text : (program : Program) (b : Board) (n : ℕ) (text : List ℕ) (number letter : ℕ) (k : Line) (d : Done) → number ≡ following n → k ≡ meaning program text → letter ≡ letterOf text (d .answer) → d ≡ carriedOut k b → answerText number letter (d .answer) (d .value) ≡ lineText program (following n) b text
 line-text program b n text number letter k d hn hk hl hd =
     ap (λ (x : ℕ). answerText x letter (d .answer) (d .value)) hn
     ∙ ap (λ (x : ℕ). answerText (following n) x (d .answer) (d .value)) hl
     ∙ ap (λ (x : Done). answerText (following n) (letterOf text (x .answer)) (x .answer) (x .value)) (hd ∙ ap (λ (x : Line). carriedOut x b) hk)
 
 -- What a line leaves.
-pub line-leaves : (program : Program) (b after : Board) (n : ℕ) (text : List ℕ) (number : ℕ) (k : Line) (d : Done) → number ≡ following n → k ≡ asks program text → after ≡ d .board → d ≡ carriedOut k b → carried after number [] ≡ ended program (carried b n text) .after
+pub line-leaves : (program : Program) (b after : Board) (n : ℕ) (text : List ℕ) (number : ℕ) (k : Line) (d : Done) → number ≡ following n → k ≡ meaning program text → after ≡ d .board → d ≡ carriedOut k b → carried after number [] ≡ ended program (carried b n text) .after
 line-leaves program b after n text number k d hn hk ha hd =
     ap (λ (x : Board). carried x number []) (ha ∙ ap (λ (x : Done). x .board) hd ∙ ap (λ (x : Line). carriedOut x b .board) hk)
-    ∙ ap (λ (x : ℕ). carried (carriedOut (asks program text) b .board) x []) hn
+    ∙ ap (λ (x : ℕ). carried (carriedOut (meaning program text) b .board) x []) hn
 
 -- ---- 80 bytes of a line
 
--- What a line asks for is told by its first 80 bytes.
-asks-kept : (program : Program) (text : List ℕ) → asks program (take 80 text) ≡ asks program text
-asks-kept Drill text = meaning-kept text
-
--- So is its call column.
+-- The call column of a line by its first 80 bytes.
 letter-kept : (text : List ℕ) (answer : Shown) → letterOf (take 80 text) answer ≡ letterOf text answer
 letter-kept text shown.Unknown = refl
 letter-kept text shown.Nothing = getD-take 80 text 0 0 (omega arith)
@@ -53,8 +44,8 @@ letter-kept text (shown.Number n) = getD-take 80 text 0 0 (omega arith)
 pub ended-kept : (program : Program) (b : Board) (n : ℕ) (text : List ℕ) → ended program (carried b n (take 80 text)) ≡ ended program (carried b n text)
 ended-kept program b n text =
     let end : ℕ → Done → Fed = λ letter d. leaving (carried (d .board) (following n) []) (answerText (following n) letter (d .answer) (d .value)) in
-    let d = carriedOut (asks program text) b in
-    ap (λ (k : Line). end (letterOf (take 80 text) (carriedOut k b .answer)) (carriedOut k b)) (asks-kept program text)
+    let d = carriedOut (meaning program text) b in
+    ap (λ (k : Line). end (letterOf (take 80 text) (carriedOut k b .answer)) (carriedOut k b)) (meaning-kept program text)
     ∙ ap (λ (letter : ℕ). end letter d) (letter-kept text (d .answer))
 
 -- ---- what the code does

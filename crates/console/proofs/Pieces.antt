@@ -11,7 +11,7 @@ use borrow.Author.Tests.{eq-eqb, ne-eqb}
 use Rattle.board.proofs.Laws.Bools.{chosen, passedOver}
 use Rattle.bytes.specs.Bytes.{indexOf, indexAfter}
 use Rattle.script.specs.Ascii.{feed}
-use Rattle.console.specs.declared.Program.{Program}
+use Rattle.script.specs.declared.Program.{Program}
 use Rattle.console.specs.declared.session.Session.{Session}
 use Rattle.console.specs.declared.answers.Progress.{Progress}
 use Rattle.console.specs.Session.{boardOf}

@@ -10,9 +10,9 @@ use Rattle.board.specs.Effects.{formatStep, recoveryStep, actAt, performAct, st
 use Rattle.board.specs.Next.{next, valueRead, valueOf}
 use Rattle.board.specs.Statements.{stepsFrom}
 use Rattle.script.specs.Ascii.{tab, feed, '-', '0', 'A', 'E', 'F', 'G', 'R', 'S', 'U', 'X'}
-use Rattle.script.specs.Grammar.{fields, allDigits, valueAfter, isNumber, allNumbers, command, formed, meaning}
+use Rattle.script.specs.Grammar.{fields, allDigits, valueAfter, isNumber, allNumbers, drilled, formed, meaning}
 use Rattle.script.specs.Answers.{spelled, answerText, headerText}
-use Rattle.console.specs.declared.Program.the-variants.{Drill}
+use Rattle.script.specs.declared.Program.the-variants.{Drill}
 use Rattle.console.specs.Transcript.{linesOf, answers, transcript}
 
 -- The digits beside '0' that the script and its answers have.
@@ -85,10 +85,10 @@ printed =
 
 -- The sample script prints what document 01 says.
 pub sample : transcript Drill (flatten script) ≡ headerText ++ flatten printed
-unfolding script printed flatten linesOf answers fields allDigits valueAfter isNumber allNumbers command formed meaning spelled answerText next valueOf valueRead stepsFrom cause causes firstStanding badRecord anyUnder effect step formatStep recoveryStep actAt performAct advance advanceOf lineOf withLine fieldIndex fieldOf withField
+unfolding script printed flatten linesOf answers fields allDigits valueAfter isNumber allNumbers drilled formed meaning spelled answerText next valueOf valueRead stepsFrom cause causes firstStanding badRecord anyUnder effect step formatStep recoveryStep actAt performAct advance advanceOf lineOf withLine fieldIndex fieldOf withField
 sample = refl
 
 -- "K12: update of cell 0 or 2 gives 7", "from a fresh format (1, 1)".
 pub k12 : transcript Drill (format ++ ('U' ∷ tab ∷ '0' ∷ tab ∷ '0' ∷ tab ∷ '7' ∷ feed ∷ []) ++ ('U' ∷ tab ∷ '0' ∷ tab ∷ '2' ∷ tab ∷ '7' ∷ feed ∷ [])) ≡ headerText ++ ('1' ∷ tab ∷ 'F' ∷ tab ∷ '0' ∷ tab ∷ '-' ∷ feed ∷ []) ++ ('2' ∷ tab ∷ 'U' ∷ tab ∷ '7' ∷ tab ∷ '-' ∷ feed ∷ []) ++ ('3' ∷ tab ∷ 'U' ∷ tab ∷ '7' ∷ tab ∷ '-' ∷ feed ∷ [])
-unfolding linesOf answers fields allDigits valueAfter isNumber allNumbers command formed meaning spelled answerText next valueOf valueRead stepsFrom cause causes firstStanding badRecord anyUnder effect step formatStep recoveryStep actAt performAct advance advanceOf lineOf withLine fieldIndex fieldOf withField
+unfolding linesOf answers fields allDigits valueAfter isNumber allNumbers drilled formed meaning spelled answerText next valueOf valueRead stepsFrom cause causes firstStanding badRecord anyUnder effect step formatStep recoveryStep actAt performAct advance advanceOf lineOf withLine fieldIndex fieldOf withField
 k12 = refl

@@ -10,12 +10,12 @@ use borrow.Author.Tests.{ne-eqb}
 use Rattle.board.proofs.Laws.Bools.{passedOver}
 use Rattle.board.specs.Board.{Board}
 use Rattle.script.specs.Ascii.{feed}
-use Rattle.script.specs.Grammar.{joined}
+use Rattle.script.specs.Grammar.{joined, meaning}
 use Rattle.script.specs.Answers.{headerText}
-use Rattle.console.specs.declared.Program.{Program}
+use Rattle.script.specs.declared.Program.{Program}
 use Rattle.console.specs.Session.{firstBoard}
 use Rattle.console.specs.Lines.{carriedOut}
-use Rattle.console.specs.Transcript.{linesOf, asks, following, lineText, answers}
+use Rattle.console.specs.Transcript.{linesOf, following, lineText, answers}
 use Rattle.console.specs.Pieces.{Carried, carried, first, Fed, leaving, kept, ended, andThen, fed, lastText, outputs, AnyPieces}
 use Rattle.console.proofs.Ends.{ended-kept}
 use Rattle.console.proofs.Pieces.{take-again, fed-append}
@@ -81,7 +81,7 @@ module _ (program : Program) (b : Board) (n : ℕ) (u : List ℕ) (c : ℕ) (cs 
       answers program n b (onto u (cond t ([] ∷ linesOf cs) (joined c (linesOf cs))))
 
   -- A line feed ends the line begun.
-  at-feed : closed program (fed program (ended program (carried b n u) .after) cs) ≡ answers program (following n) (carriedOut (asks program u) b .board) (linesOf cs) → Byte true
+  at-feed : closed program (fed program (ended program (carried b n u) .after) cs) ≡ answers program (following n) (carriedOut (meaning program u) b .board) (linesOf cs) → Byte true
   unfolding answers
   at-feed again =
       ap (λ (f : Fed). closed program (onward program cs f)) (ended-kept program b n u)
@@ -107,7 +107,7 @@ unfolding fed linesOf onto
 closed-fed program b n u [] = last-line program b n u
 closed-fed program b n u (c ∷ cs) =
     either program b n u c cs (eqb c feed)
-    (at-feed program b n u c cs (closed-fed program (carriedOut (asks program u) b .board) (following n) [] cs))
+    (at-feed program b n u c cs (closed-fed program (carriedOut (meaning program u) b .board) (following n) [] cs))
     (inside program b n u c cs (closed-fed program b n (u ++ (c ∷ [])) cs))
 
 -- ---- pieces

@@ -1,4 +1,4 @@
--- Document 01, "The drill program": what a line of the script does to the board, and what is shown of it.
+-- Document 01, "The drill program": what a line of the script does to the board, and what is shown of it. The fault program's damage is `outcome`'s.
 use Prim.Native.Nat.{ℕ}
 use mathlib.Core.Path.{_≡_}
 use mathlib.Core.Bool.{cond}
@@ -16,6 +16,7 @@ use Rattle.script.specs.declared.Line.{Line}
 use Rattle.script.specs.declared.Line.the-variants as line
 use Rattle.script.specs.declared.Shown.{Shown}
 use Rattle.script.specs.declared.Shown.the-variants.{Unknown, Nothing, Number}
+use Rattle.damage.specs.Damages.{outcome}
 use Rattle.console.specs.declared.session.Session.{Session}
 use Rattle.console.specs.declared.session.Answered.{Answered}
 use Rattle.console.specs.Session.{boardOf}
@@ -54,6 +55,7 @@ carriedOut (line.Format l w) b =
 carriedOut (line.Make call) b = done (next call b) (Number (cause call b)) Nothing
 carriedOut (line.Show call) b = done (next call b) (Number (cause call b)) (Number (valueOf call b))
 carriedOut line.Cut b = done (cutOff b) (Number 0) Nothing
+carriedOut (line.Damage d) b = done (outcome d b .board) (outcome d b .answer) (outcome d b .value)
 carriedOut line.Unknown b = done b Unknown Nothing
 
 -- ---- what contracts say

@@ -7,12 +7,13 @@ use lib.Dec.{eqb}
 use lib.ListN.{length, take}
 use Rattle.board.specs.Board.{Board}
 use Rattle.script.specs.Ascii.{feed}
+use Rattle.script.specs.Grammar.{meaning}
 use Rattle.script.specs.Answers.{headerText}
-use Rattle.console.specs.declared.Program.{Program}
+use Rattle.script.specs.declared.Program.{Program}
 use Rattle.console.specs.declared.answers.Progress.{Progress}
 use Rattle.console.specs.Session.{boardOf, firstBoard, Within}
 use Rattle.console.specs.Lines.{carriedOut}
-use Rattle.console.specs.Transcript.{asks, following, lineText, transcript}
+use Rattle.console.specs.Transcript.{following, lineText, transcript}
 
 -- What is carried from piece to piece: the board, the lines answered, and the line begun.
 pub record Carried : Type 0 where
@@ -44,7 +45,7 @@ kept p bytes = carried (p .board) (p .number) (take 80 (p .begun ++ bytes))
 -- The end of the line begun: it is answered.
 abbrev pub ended : Program → Carried → Fed
 ended program p =
-    leaving (carried (carriedOut (asks program (p .begun)) (p .board) .board) (following (p .number)) [])
+    leaving (carried (carriedOut (meaning program (p .begun)) (p .board) .board) (following (p .number)) [])
     (lineText program (following (p .number)) (p .board) (p .begun))
 
 -- One byte: the end of a line, or a byte of it.

@@ -1,15 +1,13 @@
--- Document 01, "The drill program": what is written for a whole input, byte by byte.
+-- Document 01, "The drill program", and the fault program, which has its format: what is written for a whole input, byte by byte.
 use Prim.Native.Nat.{ℕ, _+_, _%_, _^_}
 use mathlib.Core.Bool.{cond}
 use mathlib.Core.List.{List, [], _∷_, _++_}
 use lib.Dec.{eqb}
 use Rattle.board.specs.Board.{Board}
-use Rattle.script.specs.declared.Line.{Line}
 use Rattle.script.specs.Ascii.{feed}
 use Rattle.script.specs.Grammar.{joined, meaning}
 use Rattle.script.specs.Answers.{headerText, answerText, letterOf}
-use Rattle.console.specs.declared.Program.{Program}
-use Rattle.console.specs.declared.Program.the-variants.{Drill}
+use Rattle.script.specs.declared.Program.{Program}
 use Rattle.console.specs.Session.{firstBoard}
 use Rattle.console.specs.Lines.{carriedOut}
 
@@ -18,10 +16,6 @@ unfoldable pub linesOf : List ℕ → List (List ℕ)
 linesOf [] = []
 linesOf (b ∷ bs) = cond (eqb b feed) ([] ∷ linesOf bs) (joined b (linesOf bs))
 
--- What a line asks for: each program has its letters.
-abbrev pub asks : Program → List ℕ → Line
-asks Drill line = meaning line
-
 -- "its number from 1": the number of the line after line `n`, in 64 bits.
 abbrev pub following : ℕ → ℕ
 following n = (n + 1) % 2 ^ 64
@@ -29,13 +23,13 @@ following n = (n + 1) % 2 ^ 64
 -- What is written for a line: "its number, call, answer, and the value read or -".
 abbrev pub lineText : Program → ℕ → Board → List ℕ → List ℕ
 lineText program number b line =
-    let done = carriedOut (asks program line) b in answerText number (letterOf line (done .answer)) (done .answer) (done .value)
+    let done = carriedOut (meaning program line) b in answerText number (letterOf line (done .answer)) (done .answer) (done .value)
 
 -- What is written for the lines after line `n`, each on the board that the one before it left.
 unfoldable pub answers : Program → ℕ → Board → List (List ℕ) → List ℕ
 answers program n b [] = []
 answers program n b (line ∷ more) =
-    lineText program (following n) b line ++ answers program (following n) (carriedOut (asks program line) b .board) more
+    lineText program (following n) b line ++ answers program (following n) (carriedOut (meaning program line) b .board) more
 
 -- "Output: a header, then for each line".
 abbrev pub transcript : Program → List ℕ → List ℕ

@@ -4,14 +4,12 @@ ghost use mathlib.Core.List.{List, [], _++_};
 ghost use Prim.Native.Nat.{ℕ, _+_, _≤_};
 ghost use lib.ListN.{length, take};
 ghost use Rattle.console.specs.Session.{boardOf, Within};
-ghost use Rattle.console.specs.Transcript.{asks};
 ghost use Rattle.console.specs.Pieces.{carried, first, leaving, kept, ended, fed, lastText, carriedBy, Ready, Ends, Stops};
-use crate::Program;
 use crate::input::feed_at;
 use crate::input::keep;
 use crate::session;
 use crate::session::Session;
-use script::Line;
+use script::Program;
 
 // What is carried from piece to piece: the session, the lines answered, and how many bytes of the line begun are kept.
 pub struct Progress {
@@ -45,15 +43,6 @@ pub fn start() -> Progress
     }
 }
 
-// What a line asks for in a program.
-fn asked(program: Program, line: &[u8]) -> Line
-    ensures { λ r. ⌜ r ≡ asks program (now (line .entry)) ⌝ }
-{
-    match program {
-        Program::Drill => script::parse(line),
-    }
-}
-
 // A whole line, answered behind the first `at` bytes of `out`.
 fn answer_line(
     program: Program,
@@ -71,7 +60,7 @@ fn answer_line(
     ensures ready { λ r. ⌜ Within (r .progress .session) × (r .progress .begun ≡ 0) ⌝ }
 {
     let number = std::num::wrapping_add_u64(answered, 1);
-    let call = asked(program, line);
+    let call = script::parse(program, line);
     let done = session::act(session, memory, cache, entries, call);
     let next = done.session;
     let answer = done.answer;

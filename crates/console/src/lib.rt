@@ -4,9 +4,5 @@ mod input;
 mod session;
 mod shell;
 
+pub use script::Program;
 pub use shell::run;
-
-// The programs, each with its letters.
-pub enum Program {
-    Drill,
-}

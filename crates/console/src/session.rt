@@ -6,11 +6,14 @@ ghost use Rattle.board.specs.State.{started};
 ghost use Rattle.board.specs.Next.{lent};
 ghost use Rattle.board.specs.Statements.{stepsFrom};
 ghost use Rattle.script.specs.declared.Line.the-variants.{Format, Show};
+ghost use Rattle.damage.specs.Damages.{HasRoom};
 ghost use Rattle.console.specs.Session.{boardOf, Within, Fits, Room};
 ghost use Rattle.console.specs.Lines.{formatted, Switched, carriedOut, left};
 use board::Call;
 use board::Phase;
 use board::State;
+use damage::Sizes;
+use script::Damage;
 use script::Line;
 use script::Shown;
 
@@ -217,6 +220,41 @@ fn format(
     }
 }
 
+// A damaging line of the fault program.
+fn harm(
+    session: Session,
+    memory: &mut [u64],
+    cache: &mut [u64],
+    entries: &mut [u16],
+    asked: Damage,
+) -> Answered
+    requires { ⌜ Within session × HasRoom (now memory) (now cache) (now entries) ⌝ }
+    ensures { λ r. ⌜ left r (now (memory .exit)) (now (cache .exit)) (now (entries .exit)) ≡ carriedOut (Line.Damage asked) (boardOf session (now (memory .entry)) (now (cache .entry)) (now (entries .entry))) ⌝ }
+    ensures { λ r. ⌜ Within (r .session) ⌝ }
+{
+    let state = session.state;
+    let sizes = Sizes {
+        memory: session.memory,
+        cache: session.cache,
+        list: session.list,
+    };
+    let r = damage::carry_out(state, sizes, memory, cache, entries, asked);
+    let next = r.state;
+    let used = r.sizes;
+    let answer = r.answer;
+    let value = r.value;
+    Answered {
+        session: Session {
+            state: next,
+            memory: used.memory,
+            cache: used.cache,
+            list: used.list,
+        },
+        answer,
+        value,
+    }
+}
+
 // A line of the script.
 pub fn act(
     session: Session,
@@ -234,6 +272,7 @@ pub fn act(
         Line::Make { call } => unshown(make(session, memory, cache, entries, call)),
         Line::Show { call } => make(session, memory, cache, entries, call),
         Line::Cut => cut(session, cache),
+        Line::Damage { damage } => harm(session, memory, cache, entries, damage),
         Line::Unknown => Answered {
             session,
             answer: Shown::Unknown,

@@ -7,12 +7,12 @@ ghost use mathlib.Core.Bool.{true};
 ghost use Prim.Native.Nat.{_≤_};
 ghost use lib.ListN.{length};
 ghost use Rattle.console.specs.Pieces.{fed, carriedBy, Ready};
-use crate::Program;
 use crate::answers;
 use crate::answers::Progress;
 use libc::STDERR_FILENO;
 use libc::STDIN_FILENO;
 use libc::STDOUT_FILENO;
+use script::Program;
 
 // What is carried on, and whether to go on.
 struct Reached {
@@ -25,6 +25,9 @@ fn complain(program: Program, why: &[u8]) {
     match program {
         Program::Drill => {
             io::write_all(STDERR_FILENO, b"drill: ");
+        }
+        Program::Fault => {
+            io::write_all(STDERR_FILENO, b"fault: ");
         }
     }
     io::write_all(STDERR_FILENO, why);

@@ -3,12 +3,14 @@ use mathlib.Core.Path.{_≡_, refl}
 use mathlib.Core.List.{List, [], _∷_, _++_, map}
 use Prim.Native.Nat.{ℕ}
 use lib.ListN.{replicate}
-use Rattle.board.specs.declared.Call.the-variants.{Step, Update, RestartPoint, Read}
+use Rattle.board.specs.declared.Call.the-variants.{FormatStart, Step, Update, RestartPoint, Read}
 use Rattle.script.specs.declared.Line.{Line}
-use Rattle.script.specs.declared.Line.the-variants.{Format, Make, Show, Cut, Unknown}
+use Rattle.script.specs.declared.Line.the-variants.{Format, Make, Show, Cut, Damage as Damaging, Unknown}
+use Rattle.script.specs.declared.Damage.the-variants.{Field, Worker, Checksum}
+use Rattle.script.specs.declared.Program.the-variants.{Drill, Fault}
 use Rattle.script.specs.declared.Shown.the-variants as shown
-use Rattle.script.specs.Ascii.{tab, feed, '-', '0', '9', '?', 'A', 'F', 'G', 'P', 'S', 'U', 'X'}
-use Rattle.script.specs.Grammar.{fields, allDigits, valueAfter, isNumber, allNumbers, command, formed, meaning}
+use Rattle.script.specs.Ascii.{tab, feed, '-', '0', '9', '?', 'A', 'B', 'F', 'G', 'K', 'P', 'S', 'T', 'U', 'X', 'f'}
+use Rattle.script.specs.Grammar.{fields, allDigits, valueAfter, isNumber, allNumbers, drilled, damaging, formed, meaning}
 use Rattle.script.specs.Answers.{spelled, answerText}
 
 -- A line of the script, and what it means.
@@ -54,9 +56,31 @@ examples =
     row ('G' ∷ tab ∷ (replicate 58 '0' ++ most)) Unknown ∷
     []
 
-pub lines-mean : map (λ (e : Example). meaning (e .text)) examples ≡ map (λ (e : Example). e .means) examples
-unfolding fields allDigits valueAfter isNumber allNumbers command formed meaning
+pub lines-mean : map (λ (e : Example). meaning Drill (e .text)) examples ≡ map (λ (e : Example). e .means) examples
+unfolding fields allDigits valueAfter isNumber allNumbers drilled damaging formed meaning
 lines-mean = refl
+
+-- The fault program's own letters: "T", "f 1 1", "B 6 1" and "K 7 2 0 9 5", with tabs for blanks, and a drill's letter.
+abbrev pub damages : List Example
+damages =
+    row ('T' ∷ []) (Damaging Checksum) ∷
+    row ('f' ∷ tab ∷ 49 ∷ tab ∷ 49 ∷ []) (Make (FormatStart 1 1)) ∷
+    row ('B' ∷ tab ∷ 54 ∷ tab ∷ 49 ∷ []) (Damaging (Field 6 1)) ∷
+    row ('K' ∷ tab ∷ 55 ∷ tab ∷ 50 ∷ tab ∷ '0' ∷ tab ∷ '9' ∷ tab ∷ 53 ∷ []) (Damaging (Worker 7 2 0 9 5)) ∷
+    row ('S' ∷ []) (Make Step) ∷
+    -- Four numbers, and six.
+    row ('K' ∷ tab ∷ 55 ∷ tab ∷ 50 ∷ tab ∷ '0' ∷ tab ∷ '9' ∷ []) Unknown ∷
+    row ('K' ∷ tab ∷ 55 ∷ tab ∷ 50 ∷ tab ∷ '0' ∷ tab ∷ '9' ∷ tab ∷ 53 ∷ tab ∷ 53 ∷ []) Unknown ∷
+    []
+
+pub damages-mean : map (λ (e : Example). meaning Fault (e .text)) damages ≡ map (λ (e : Example). e .means) damages
+unfolding fields allDigits valueAfter isNumber allNumbers drilled damaging formed meaning
+damages-mean = refl
+
+-- The drill knows none of them.
+pub damages-unknown : meaning Drill ('T' ∷ []) ∷ meaning Drill ('f' ∷ tab ∷ 49 ∷ tab ∷ 49 ∷ []) ∷ [] ≡ Unknown ∷ Unknown ∷ []
+unfolding fields allDigits valueAfter isNumber allNumbers drilled damaging formed meaning
+damages-unknown = refl
 
 -- "13 G 0 0", "9 S 0 -" and an unknown line, with tabs for blanks.
 pub answers-read : answerText 13 'G' (shown.Number 0) (shown.Number 0) ∷ answerText 9 'S' (shown.Number 0) shown.Nothing ∷ answerText 2 '?' shown.Unknown shown.Nothing ∷ [] ≡ (49 ∷ 51 ∷ tab ∷ 'G' ∷ tab ∷ '0' ∷ tab ∷ '0' ∷ feed ∷ []) ∷ ('9' ∷ tab ∷ 'S' ∷ tab ∷ '0' ∷ tab ∷ '-' ∷ feed ∷ []) ∷ (50 ∷ tab ∷ '?' ∷ tab ∷ '?' ∷ tab ∷ '-' ∷ feed ∷ []) ∷ []

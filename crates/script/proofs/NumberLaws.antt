@@ -12,13 +12,15 @@ use borrow.Author.Tests.{ltb-true, ltb-false, lt-ltb, le-ltb, le-leb, lt-leb}
 use Rattle.board.proofs.Laws.Bools.{split, chosen, passedOver, and-off-right, and-both}
 use Rattle.script.specs.declared.Line.{Line}
 use Rattle.script.specs.declared.Line.the-variants.{Unknown}
+use Rattle.script.specs.declared.Program.{Program}
+use Rattle.script.specs.declared.Program.the-variants.{Drill, Fault}
 use Rattle.script.specs.declared.Number.{Number}
 use Rattle.script.specs.declared.Number.the-variants as number
 use Rattle.script.specs.declared.Numbers.{Numbers}
 use Rattle.script.specs.declared.Numbers.the-variants as numbers
 use Rattle.script.specs.Ascii.{'0', '9'}
-use Rattle.script.specs.Grammar.{allDigits, valueAfter, value, isNumber, allNumbers, command, fields, formed, meaning}
-use Rattle.script.specs.Fields.{numberOf, withField, numbersOf, commandOf, first, later}
+use Rattle.script.specs.Grammar.{allDigits, valueAfter, value, isNumber, allNumbers, drilled, damaging, command, fields, formed, meaning}
+use Rattle.script.specs.Fields.{numberOf, withField, numbersOf, furtherOf, commandOf, first, later}
 use Rattle.script.proofs.FieldLaws.{fields-parts, first-take, first-single, later-parts}
 
 -- ---- one number
@@ -82,50 +84,72 @@ number-past n f h =
 -- ---- the numbers after the letter
 
 -- What a letter asks for with the numbers got and further ones, if all of these are numbers.
-given : ℕ → Numbers → Bool → List ℕ → Line
-given letter numbers.Zero t ns = cond t (command letter ns) Unknown
-given letter (numbers.One a) t ns = cond t (command letter (a ∷ ns)) Unknown
-given letter (numbers.Two a b) t ns = cond t (command letter (a ∷ b ∷ ns)) Unknown
-given letter (numbers.Three a b c) t ns = cond t (command letter (a ∷ b ∷ c ∷ ns)) Unknown
-given letter numbers.Bad t ns = Unknown
+given : Program → ℕ → Numbers → Bool → List ℕ → Line
+given program letter numbers.Zero t ns = cond t (command program letter ns) Unknown
+given program letter (numbers.One a) t ns = cond t (command program letter (a ∷ ns)) Unknown
+given program letter (numbers.Two a b) t ns = cond t (command program letter (a ∷ b ∷ ns)) Unknown
+given program letter (numbers.Three a b c) t ns = cond t (command program letter (a ∷ b ∷ c ∷ ns)) Unknown
+given program letter (numbers.Four a b c d) t ns = cond t (command program letter (a ∷ b ∷ c ∷ d ∷ ns)) Unknown
+given program letter (numbers.Five a b c d e) t ns = cond t (command program letter (a ∷ b ∷ c ∷ d ∷ e ∷ ns)) Unknown
+given program letter numbers.Bad t ns = Unknown
 
-either-unknown : (t : Bool) → Unknown ≡ cond t Unknown Unknown
-either-unknown true = refl
-either-unknown false = refl
+-- No letter has six numbers.
+six-unknown : (program : Program) (letter a b c d e f : ℕ) (ns : List ℕ) (t : Bool) → Unknown ≡ cond t (command program letter (a ∷ b ∷ c ∷ d ∷ e ∷ f ∷ ns)) Unknown
+unfolding drilled damaging
+six-unknown Drill letter a b c d e f ns true = refl
+six-unknown Drill letter a b c d e f ns false = refl
+six-unknown Fault letter a b c d e f ns true = refl
+six-unknown Fault letter a b c d e f ns false = refl
 
 -- One field more, a number or not.
-given-field : (letter : ℕ) (t : Bool) (got : Numbers) (n : ℕ) (u : Bool) (ns : List ℕ) → given letter (withField got (cond t (number.Value n) number.Bad)) u ns ≡ given letter got (t && u) (n ∷ ns)
-unfolding given command
-given-field letter true numbers.Zero n u ns = refl
-given-field letter true (numbers.One a) n u ns = refl
-given-field letter true (numbers.Two a b) n u ns = refl
-given-field letter true (numbers.Three a b c) n u ns = either-unknown u
-given-field letter true numbers.Bad n u ns = refl
-given-field letter false numbers.Zero n u ns = refl
-given-field letter false (numbers.One a) n u ns = refl
-given-field letter false (numbers.Two a b) n u ns = refl
-given-field letter false (numbers.Three a b c) n u ns = refl
-given-field letter false numbers.Bad n u ns = refl
-
-given-none : (letter : ℕ) (got : Numbers) → commandOf letter got ≡ given letter got true []
+given-field : (program : Program) (letter : ℕ) (t : Bool) (got : Numbers) (n : ℕ) (u : Bool) (ns : List ℕ) → given program letter (withField got (cond t (number.Value n) number.Bad)) u ns ≡ given program letter got (t && u) (n ∷ ns)
 unfolding given
-given-none letter numbers.Zero = refl
-given-none letter (numbers.One a) = refl
-given-none letter (numbers.Two a b) = refl
-given-none letter (numbers.Three a b c) = refl
-given-none letter numbers.Bad = refl
+given-field program letter true numbers.Zero n u ns = refl
+given-field program letter true (numbers.One a) n u ns = refl
+given-field program letter true (numbers.Two a b) n u ns = refl
+given-field program letter true (numbers.Three a b c) n u ns = refl
+given-field program letter true (numbers.Four a b c d) n u ns = refl
+given-field program letter true (numbers.Five a b c d e) n u ns = six-unknown program letter a b c d e n ns u
+given-field program letter true numbers.Bad n u ns = refl
+given-field program letter false numbers.Zero n u ns = refl
+given-field program letter false (numbers.One a) n u ns = refl
+given-field program letter false (numbers.Two a b) n u ns = refl
+given-field program letter false (numbers.Three a b c) n u ns = refl
+given-field program letter false (numbers.Four a b c d) n u ns = refl
+given-field program letter false (numbers.Five a b c d e) n u ns = refl
+given-field program letter false numbers.Bad n u ns = refl
 
-given-all : (letter : ℕ) (got : Numbers) (fs : List (List ℕ)) → commandOf letter (numbersOf got fs) ≡ given letter got (allNumbers fs) (map value fs)
+given-none : (program : Program) (letter : ℕ) (got : Numbers) → commandOf program letter got ≡ given program letter got true []
+unfolding given
+given-none program letter numbers.Zero = refl
+given-none program letter (numbers.One a) = refl
+given-none program letter (numbers.Two a b) = refl
+given-none program letter (numbers.Three a b c) = refl
+given-none program letter (numbers.Four a b c d) = refl
+given-none program letter (numbers.Five a b c d e) = refl
+given-none program letter numbers.Bad = refl
+
+given-all : (program : Program) (letter : ℕ) (got : Numbers) (fs : List (List ℕ)) → commandOf program letter (numbersOf got fs) ≡ given program letter got (allNumbers fs) (map value fs)
 unfolding numbersOf allNumbers numberOf
-given-all letter got [] = given-none letter got
-given-all letter got (f ∷ fs) =
-    given-all letter (withField got (numberOf f)) fs
-    ∙ given-field letter (isNumber f) got (value f) (allNumbers fs) (map value fs)
+given-all program letter got [] = given-none program letter got
+given-all program letter got (f ∷ fs) =
+    given-all program letter (withField got (numberOf f)) fs
+    ∙ given-field program letter (isNumber f) got (value f) (allNumbers fs) (map value fs)
 
 -- The numbers read one after the other give what the whole list of them asks for.
-pub asked-all : (letter : ℕ) (fs : List (List ℕ)) → commandOf letter (numbersOf numbers.Zero fs) ≡ cond (allNumbers fs) (command letter (map value fs)) Unknown
+pub asked-all : (program : Program) (letter : ℕ) (fs : List (List ℕ)) → commandOf program letter (numbersOf numbers.Zero fs) ≡ cond (allNumbers fs) (command program letter (map value fs)) Unknown
 unfolding given
-asked-all letter fs = given-all letter numbers.Zero fs
+asked-all program letter fs = given-all program letter numbers.Zero fs
+
+-- The drill has no further letters.
+pub none-further : (letter : ℕ) (got : Numbers) → Unknown ≡ furtherOf Drill letter got
+none-further letter numbers.Zero = refl
+none-further letter (numbers.One a) = refl
+none-further letter (numbers.Two a b) = refl
+none-further letter (numbers.Three a b c) = refl
+none-further letter (numbers.Four a b c d) = refl
+none-further letter (numbers.Five a b c d e) = refl
+none-further letter numbers.Bad = refl
 
 -- Where nothing is left, the numbers got are all.
 pub numbers-end : (got : Numbers) (s : List ℕ) (i : ℕ) → length s ≤ i → numbersOf got (later (drop i s)) ≡ got
@@ -144,39 +168,39 @@ numbers-more got s i end h e =
 -- ---- the line
 
 -- A line over 79 bytes.
-pub meaning-long : (s : List ℕ) → 79 < length s → meaning s ≡ Unknown
+pub meaning-long : (program : Program) (s : List ℕ) → 79 < length s → meaning program s ≡ Unknown
 unfolding meaning
-meaning-long s h = chosen (ltb 79 (length s)) Unknown (formed (fields s)) (lt-ltb 79 (length s) h)
+meaning-long program s h = chosen (ltb 79 (length s)) Unknown (formed program (fields s)) (lt-ltb 79 (length s) h)
 
-formed-other : (f : List ℕ) (fs : List (List ℕ)) → (length f ≡ 1 → ⊥) → formed (f ∷ fs) ≡ Unknown
+formed-other : (program : Program) (f : List ℕ) (fs : List (List ℕ)) → (length f ≡ 1 → ⊥) → formed program (f ∷ fs) ≡ Unknown
 unfolding formed
-formed-other [] fs o = refl
-formed-other (a ∷ []) fs o = absurd (o refl)
-formed-other (a ∷ b ∷ more) fs o = refl
+formed-other program [] fs o = refl
+formed-other program (a ∷ []) fs o = absurd (o refl)
+formed-other program (a ∷ b ∷ more) fs o = refl
 
-short : (s : List ℕ) → length s ≤ 79 → meaning s ≡ formed (first s ∷ later (drop (length (first s)) s))
+short : (program : Program) (s : List ℕ) → length s ≤ 79 → meaning program s ≡ formed program (first s ∷ later (drop (length (first s)) s))
 unfolding meaning
-short s h =
-    passedOver (ltb 79 (length s)) Unknown (formed (fields s)) (le-ltb 79 (length s) h)
-    ∙ ap formed (fields-parts s)
+short program s h =
+    passedOver (ltb 79 (length s)) Unknown (formed program (fields s)) (le-ltb 79 (length s) h)
+    ∙ ap (formed program) (fields-parts s)
 
 -- A first field that is not one byte.
-pub meaning-other : (s : List ℕ) → length s ≤ 79 → (length (first s) ≡ 1 → ⊥) → meaning s ≡ Unknown
-meaning-other s h o = short s h ∙ formed-other (first s) (later (drop (length (first s)) s)) o
+pub meaning-other : (program : Program) (s : List ℕ) → length s ≤ 79 → (length (first s) ≡ 1 → ⊥) → meaning program s ≡ Unknown
+meaning-other program s h o = short program s h ∙ formed-other program (first s) (later (drop (length (first s)) s)) o
 
 -- A letter with the fields after it.
-pub meaning-letter : (s : List ℕ) → length s ≤ 79 → length (first s) ≡ 1 → meaning s ≡ commandOf (getD s 0 0) (numbersOf numbers.Zero (later (drop 1 s)))
+pub meaning-letter : (program : Program) (s : List ℕ) → length s ≤ 79 → length (first s) ≡ 1 → meaning program s ≡ commandOf program (getD s 0 0) (numbersOf numbers.Zero (later (drop 1 s)))
 unfolding formed
-meaning-letter s h e =
-    short s h
-    ∙ ap (λ (k : ℕ). formed (first s ∷ later (drop k s))) e
-    ∙ ap (λ (f : List ℕ). formed (f ∷ later (drop 1 s))) (first-single s e)
-    ∙ sym (asked-all (getD s 0 0) (later (drop 1 s)))
+meaning-letter program s h e =
+    short program s h
+    ∙ ap (λ (k : ℕ). formed program (first s ∷ later (drop k s))) e
+    ∙ ap (λ (f : List ℕ). formed program (f ∷ later (drop 1 s))) (first-single s e)
+    ∙ sym (asked-all program (getD s 0 0) (later (drop 1 s)))
 
 -- The first 80 bytes of a line say what it means.
-pub meaning-kept : (s : List ℕ) → meaning (take 80 s) ≡ meaning s
-meaning-kept s =
+pub meaning-kept : (program : Program) (s : List ℕ) → meaning program (take 80 s) ≡ meaning program s
+meaning-kept program s =
     split (ltb 79 (length s))
     (λ t. let long : 79 < length s = ltb-true 79 (length s) t in
-    meaning-long (take 80 s) (omega (arith, length-take-le 80 s (omega arith))) ∙ sym (meaning-long s long))
-    (λ t. ap meaning (take-all 80 s (omega (arith, ltb-false 79 (length s) t))))
+    meaning-long program (take 80 s) (omega (arith, length-take-le 80 s (omega arith))) ∙ sym (meaning-long program s long))
+    (λ t. ap (meaning program) (take-all 80 s (omega (arith, ltb-false 79 (length s) t))))

@@ -22,6 +22,9 @@ abbrev pub '?' : ℕ
 abbrev pub 'A' : ℕ
 'A' = 65
 
+abbrev pub 'B' : ℕ
+'B' = 66
+
 abbrev pub 'C' : ℕ
 'C' = 67
 
@@ -34,8 +37,20 @@ abbrev pub 'F' : ℕ
 abbrev pub 'G' : ℕ
 'G' = 71
 
+abbrev pub 'K' : ℕ
+'K' = 75
+
+abbrev pub 'M' : ℕ
+'M' = 77
+
+abbrev pub 'N' : ℕ
+'N' = 78
+
 abbrev pub 'P' : ℕ
 'P' = 80
+
+abbrev pub 'Q' : ℕ
+'Q' = 81
 
 abbrev pub 'R' : ℕ
 'R' = 82
@@ -43,8 +58,17 @@ abbrev pub 'R' : ℕ
 abbrev pub 'S' : ℕ
 'S' = 83
 
+abbrev pub 'T' : ℕ
+'T' = 84
+
 abbrev pub 'U' : ℕ
 'U' = 85
 
+abbrev pub 'W' : ℕ
+'W' = 87
+
 abbrev pub 'X' : ℕ
 'X' = 88
+
+abbrev pub 'f' : ℕ
+'f' = 102

@@ -1,16 +1,18 @@
--- What the contracts of the private functions of `src/fields.rt` and `src/commands.rt` cite: one field, and the fields after the letter.
+-- What the contracts of the private functions of `src/fields.rt`, `src/commands.rt` and `src/damages.rt` cite: one field, and the fields after the letter.
 use Prim.Native.Nat.{ℕ}
 use mathlib.Core.List.{List, [], _∷_}
 use mathlib.Core.Bool.{cond}
 use lib.Dec.{eqb}
 use Rattle.script.specs.declared.Line.{Line}
 use Rattle.script.specs.declared.Line.the-variants.{Unknown}
+use Rattle.script.specs.declared.Program.{Program}
+use Rattle.script.specs.declared.Program.the-variants.{Fault}
 use Rattle.script.specs.declared.Number.{Number}
 use Rattle.script.specs.declared.Number.the-variants as number
 use Rattle.script.specs.declared.Numbers.{Numbers}
 use Rattle.script.specs.declared.Numbers.the-variants as numbers
 use Rattle.script.specs.Ascii.{tab}
-use Rattle.script.specs.Grammar.{fields, value, isNumber, command}
+use Rattle.script.specs.Grammar.{fields, value, isNumber, drilled, further}
 
 -- The bytes before the first tab.
 unfoldable pub first : List ℕ → List ℕ
@@ -31,7 +33,9 @@ abbrev pub added : Numbers → ℕ → Numbers
 added numbers.Zero n = numbers.One n
 added (numbers.One a) n = numbers.Two a n
 added (numbers.Two a b) n = numbers.Three a b n
-added (numbers.Three a b c) n = numbers.Bad
+added (numbers.Three a b c) n = numbers.Four a b c n
+added (numbers.Four a b c d) n = numbers.Five a b c d n
+added (numbers.Five a b c d e) n = numbers.Bad
 added numbers.Bad n = numbers.Bad
 
 -- One field more.
@@ -44,10 +48,30 @@ unfoldable pub numbersOf : Numbers → List (List ℕ) → Numbers
 numbersOf got [] = got
 numbersOf got (f ∷ fs) = numbersOf (withField got (numberOf f)) fs
 
--- What a letter with the numbers read asks for.
-abbrev pub commandOf : ℕ → Numbers → Line
-commandOf letter numbers.Zero = command letter []
-commandOf letter (numbers.One a) = command letter (a ∷ [])
-commandOf letter (numbers.Two a b) = command letter (a ∷ b ∷ [])
-commandOf letter (numbers.Three a b c) = command letter (a ∷ b ∷ c ∷ [])
-commandOf letter numbers.Bad = Unknown
+-- What a letter of the drill with the numbers read asks for; any other letter asks for `other`.
+abbrev pub drilledOf : ℕ → Numbers → Line → Line
+drilledOf letter numbers.Zero other = drilled letter [] other
+drilledOf letter (numbers.One a) other = drilled letter (a ∷ []) other
+drilledOf letter (numbers.Two a b) other = drilled letter (a ∷ b ∷ []) other
+drilledOf letter (numbers.Three a b c) other = drilled letter (a ∷ b ∷ c ∷ []) other
+drilledOf letter (numbers.Four a b c d) other = drilled letter (a ∷ b ∷ c ∷ d ∷ []) other
+drilledOf letter (numbers.Five a b c d e) other = drilled letter (a ∷ b ∷ c ∷ d ∷ e ∷ []) other
+drilledOf letter numbers.Bad other = Unknown
+
+-- What any other letter with the numbers read asks for in a program.
+abbrev pub furtherOf : Program → ℕ → Numbers → Line
+furtherOf program letter numbers.Zero = further program letter []
+furtherOf program letter (numbers.One a) = further program letter (a ∷ [])
+furtherOf program letter (numbers.Two a b) = further program letter (a ∷ b ∷ [])
+furtherOf program letter (numbers.Three a b c) = further program letter (a ∷ b ∷ c ∷ [])
+furtherOf program letter (numbers.Four a b c d) = further program letter (a ∷ b ∷ c ∷ d ∷ [])
+furtherOf program letter (numbers.Five a b c d e) = further program letter (a ∷ b ∷ c ∷ d ∷ e ∷ [])
+furtherOf program letter numbers.Bad = Unknown
+
+-- What a letter of the fault program alone with the numbers read asks for.
+abbrev pub damagingOf : ℕ → Numbers → Line
+damagingOf letter got = furtherOf Fault letter got
+
+-- What a letter with the numbers read asks for in a program.
+abbrev pub commandOf : Program → ℕ → Numbers → Line
+commandOf program letter got = drilledOf letter got (furtherOf program letter got)

@@ -1,13 +1,16 @@
--- Document 01, "The drill program": what a line of the script means. A line is its bytes, without the line feed.
+-- Document 01, "The drill program", and the fault program, "the drill with damage": what a line of the script means. A line is its bytes, without the line feed.
 use Prim.Native.Nat.{ℕ, _+_, _*_, _-_, _^_}
 use mathlib.Core.List.{List, [], _∷_, map}
 use mathlib.Core.Bool.{Bool, true, cond, _&&_}
 use lib.Dec.{leb, ltb, eqb}
 use lib.ListN.{length}
-use Rattle.board.specs.declared.Call.the-variants.{RecoveryStart, Step, Update, RestartPoint, Advance, Request, WriteBack, Read}
+use Rattle.board.specs.declared.Call.the-variants.{FormatStart, RecoveryStart, Step, Update, RestartPoint, Advance, Request, WriteBack, Read}
 use Rattle.script.specs.declared.Line.{Line}
-use Rattle.script.specs.declared.Line.the-variants.{Format, Make, Show, Cut, Unknown}
-use Rattle.script.specs.Ascii.{tab, '0', '9', 'A', 'C', 'E', 'F', 'G', 'P', 'R', 'S', 'U', 'X'}
+use Rattle.script.specs.declared.Line.the-variants.{Format, Make, Show, Cut, Damage as Damaging, Unknown}
+use Rattle.script.specs.declared.Damage.the-variants.{Lengths, Memory, Cache, Entry, Field, Worker, Checksum}
+use Rattle.script.specs.declared.Program.{Program}
+use Rattle.script.specs.declared.Program.the-variants.{Drill, Fault}
+use Rattle.script.specs.Ascii.{tab, '0', '9', 'A', 'B', 'C', 'E', 'F', 'G', 'K', 'M', 'N', 'P', 'Q', 'R', 'S', 'T', 'U', 'W', 'X', 'f'}
 
 -- A byte put in front of the first field.
 abbrev pub joined : ℕ → List (List ℕ) → List (List ℕ)
@@ -42,28 +45,52 @@ unfoldable pub allNumbers : List (List ℕ) → Bool
 allNumbers [] = true
 allNumbers (f ∷ fs) = isNumber f && allNumbers fs
 
--- What a letter with its numbers asks for.
-unfoldable pub command : ℕ → List ℕ → Line
+-- What a letter of the drill with its numbers asks for; any other letter asks for `other`.
+unfoldable pub drilled : ℕ → List ℕ → Line → Line
 -- "C (request), S (step), X (cut), R (recovery's start)".
-command letter [] =
-    cond (eqb letter 'C') (Make Request) (cond (eqb letter 'S') (Make Step) (cond (eqb letter 'X') Cut (cond (eqb letter 'R') (Make RecoveryStart) Unknown)))
+drilled letter [] other =
+    cond (eqb letter 'C') (Make Request) (cond (eqb letter 'S') (Make Step) (cond (eqb letter 'X') Cut (cond (eqb letter 'R') (Make RecoveryStart) other)))
 -- "A worker", "E line", "G cell (read)".
-command letter (a ∷ []) =
-    cond (eqb letter 'A') (Make (Advance a)) (cond (eqb letter 'E') (Make (WriteBack a)) (cond (eqb letter 'G') (Show (Read a)) Unknown))
+drilled letter (a ∷ []) other =
+    cond (eqb letter 'A') (Make (Advance a)) (cond (eqb letter 'E') (Make (WriteBack a)) (cond (eqb letter 'G') (Show (Read a)) other))
 -- "F L W (format to the end)", "P worker number".
-command letter (a ∷ b ∷ []) =
-    cond (eqb letter 'F') (Format a b) (cond (eqb letter 'P') (Make (RestartPoint a b)) Unknown)
+drilled letter (a ∷ b ∷ []) other =
+    cond (eqb letter 'F') (Format a b) (cond (eqb letter 'P') (Make (RestartPoint a b)) other)
 -- "U worker cell value".
-command letter (a ∷ b ∷ c ∷ []) = cond (eqb letter 'U') (Make (Update a b c)) Unknown
-command letter (a ∷ b ∷ c ∷ d ∷ more) = Unknown
+drilled letter (a ∷ b ∷ c ∷ []) other = cond (eqb letter 'U') (Make (Update a b c)) other
+drilled letter (a ∷ b ∷ c ∷ d ∷ more) other = other
+
+-- What a letter of the fault program alone with its numbers asks for.
+unfoldable pub damaging : ℕ → List ℕ → Line
+-- "T": the checksum of everything.
+damaging letter [] = cond (eqb letter 'T') (Damaging Checksum) Unknown
+damaging letter (a ∷ []) = Unknown
+-- "f L W: a format's start alone"; "M i v", "N i v", "Q i v", "B k v".
+damaging letter (a ∷ b ∷ []) =
+    cond (eqb letter 'f') (Make (FormatStart a b)) (cond (eqb letter 'M') (Damaging (Memory a b)) (cond (eqb letter 'N') (Damaging (Cache a b)) (cond (eqb letter 'Q') (Damaging (Entry a b)) (cond (eqb letter 'B') (Damaging (Field a b)) Unknown))))
+-- "W m c e: the rows' lengths".
+damaging letter (a ∷ b ∷ c ∷ []) = cond (eqb letter 'W') (Damaging (Lengths a b c)) Unknown
+damaging letter (a ∷ b ∷ c ∷ d ∷ []) = Unknown
+-- "K w c n a v".
+damaging letter (a ∷ b ∷ c ∷ d ∷ e ∷ []) = cond (eqb letter 'K') (Damaging (Worker a b c d e)) Unknown
+damaging letter (a ∷ b ∷ c ∷ d ∷ e ∷ f ∷ more) = Unknown
+
+-- What a letter that is not the drill's asks for in a program.
+abbrev pub further : Program → ℕ → List ℕ → Line
+further Drill letter numbers = Unknown
+further Fault letter numbers = damaging letter numbers
+
+-- What a letter with its numbers asks for in a program: "the drill's letters with the same meaning".
+abbrev pub command : Program → ℕ → List ℕ → Line
+command program letter numbers = drilled letter numbers (further program letter numbers)
 
 -- The first field is one letter, every further one a number.
-unfoldable pub formed : List (List ℕ) → Line
-formed [] = Unknown
-formed ([] ∷ fs) = Unknown
-formed ((letter ∷ []) ∷ fs) = cond (allNumbers fs) (command letter (map value fs)) Unknown
-formed ((a ∷ b ∷ more) ∷ fs) = Unknown
+unfoldable pub formed : Program → List (List ℕ) → Line
+formed program [] = Unknown
+formed program ([] ∷ fs) = Unknown
+formed program ((letter ∷ []) ∷ fs) = cond (allNumbers fs) (command program letter (map value fs)) Unknown
+formed program ((a ∷ b ∷ more) ∷ fs) = Unknown
 
 -- "A line of another form, over 79 bytes, or with a number past 2^64 − 1" is unknown.
-unfoldable pub meaning : List ℕ → Line
-meaning line = cond (ltb 79 (length line)) Unknown (formed (fields line))
+unfoldable pub meaning : Program → List ℕ → Line
+meaning program line = cond (ltb 79 (length line)) Unknown (formed program (fields line))

@@ -62,7 +62,9 @@ fn add(got: Numbers, n: u64) -> Numbers
         Numbers::Zero => Numbers::One(n),
         Numbers::One(a) => Numbers::Two(a, n),
         Numbers::Two(a, b) => Numbers::Three(a, b, n),
-        Numbers::Three(_, _, _) => Numbers::Bad,
+        Numbers::Three(a, b, c) => Numbers::Four(a, b, c, n),
+        Numbers::Four(a, b, c, d) => Numbers::Five(a, b, c, d, n),
+        Numbers::Five(_, _, _, _, _) => Numbers::Bad,
         Numbers::Bad => Numbers::Bad,
     }
 }

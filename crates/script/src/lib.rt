@@ -1,6 +1,8 @@
-// The drill's lines (document 01, "The drill program"): a line of the script read, a line of the answer written.
+// The lines of the drill (document 01, "The drill program") and of the fault program, the drill with damage: a line of
+// the script read, a line of the answer written.
 mod answer;
 mod commands;
+mod damages;
 mod fields;
 
 pub use answer::header;
@@ -10,14 +12,55 @@ use board::Call;
 pub use commands::parse;
 pub use fields::number as decimal;
 
+// The programs, each with its letters.
+pub enum Program {
+    Drill,
+    Fault,
+}
+
 // What a line of the script asks for: a format to the end, one call of the board, one call whose value is shown, a cut,
-// or nothing that is known.
+// damage, or nothing that is known.
 pub enum Line {
     Format { lines: u64, workers: u64 },
     Make { call: Call },
     Show { call: Call },
     Cut,
+    Damage { damage: Damage },
     Unknown,
+}
+
+// What a line of the fault program puts into the board: the rows' lengths, a word of memory, one of the cache, an entry
+// of the list, a field of the record, a worker; or nothing, with the checksum of everything shown.
+pub enum Damage {
+    Lengths {
+        memory: u64,
+        cache: u64,
+        list: u64,
+    },
+    Memory {
+        at: u64,
+        word: u64,
+    },
+    Cache {
+        at: u64,
+        word: u64,
+    },
+    Entry {
+        at: u64,
+        entry: u64,
+    },
+    Field {
+        field: u64,
+        number: u64,
+    },
+    Worker {
+        worker: u64,
+        condition: u64,
+        next: u64,
+        cell: u64,
+        value: u64,
+    },
+    Checksum,
 }
 
 // What stands in the column of the answer or the value: `?`, `-` or a number.
@@ -33,11 +76,13 @@ pub enum Number {
     Bad,
 }
 
-// What the fields after the letter are: up to three numbers.
+// What the fields after the letter are: up to five numbers.
 enum Numbers {
     Zero,
     One(u64),
     Two(u64, u64),
     Three(u64, u64, u64),
+    Four(u64, u64, u64, u64),
+    Five(u64, u64, u64, u64, u64),
     Bad,
 }

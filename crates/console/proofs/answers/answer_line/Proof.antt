@@ -16,7 +16,7 @@ returns : tie.Need-returns
 returns c =
     let a = c .before .before .before .before .before .before .before .before .before .before .before .args in
     let number = c .before .before .before .before .before .before .before .before .before .wrapping-add-u64 in
-    let asked = c .before .before .before .before .before .before .before .before .asked in
+    let asked = c .before .before .before .before .before .before .before .before .parse in
     let letter = c .before .before .letter in
     let act = c .before .before .before .before .act in
     let wrote = c .put-answer in

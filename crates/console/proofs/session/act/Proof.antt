@@ -30,10 +30,13 @@ returns-4 c =
     )
 
 returns-5 : tie.Need-returns-5
-returns-5 c = (acted _ _ _ (c .enum-told2 .given .1) refl, c .before .before .pre)
+returns-5 c = (acted _ _ _ (c .before .before .before .before .before .line4 .given .1) (c .harm .ensures .0), c .harm .ensures .1)
+
+returns-6 : tie.Need-returns-6
+returns-6 c = (acted _ _ _ (c .enum-told2 .given .1) refl, c .before .before .pre)
 
 pub act-spec : {M : Type 1} → statement M
 act-spec =
     tie.close
     (tie.spec (search needs) (search needs) (search needs) (search needs) (search needs) (search needs) (search needs)
-    (search needs) (search needs) (search needs) returns returns-2 returns-3 returns-4 returns-5)
+    (search needs) (search needs) (search needs) (search needs) (search needs) returns returns-2 returns-3 returns-4 returns-5 returns-6)

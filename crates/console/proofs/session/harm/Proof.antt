@@ -1,0 +1,18 @@
+-- `console::session::harm` meets its contract: the session's lengths are the rows' sizes.
+use mathlib.Core.Path.{ap}
+use borrow.Author.Needs.{needs}
+use Rattle.damage.specs.Damages.{Outcome}
+use Rattle.console.specs.Lines.{done}
+use Rattle.console.proofs.session.harm.Statement.{statement}
+use Rattle.console.proofs.session.harm.Tie as tie
+
+returns : tie.Need-returns
+returns c =
+    let r = c .before .before .before .before .before .before .before .before .carry-out in
+    let within = r .ensures .1 in (
+      ap (λ (o : Outcome). done (o .board) (o .answer) (o .value)) (r .ensures .0),
+      record { memory-within = within .memory-within; cache-within = within .cache-within; list-within = within .list-within },
+    )
+
+pub harm-spec : {M : Type 1} → statement M
+harm-spec = tie.close (tie.spec (search needs) (search needs) (search needs) (search needs) returns)

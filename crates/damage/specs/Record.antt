@@ -1,0 +1,70 @@
+-- The fault program's `B k v` and `K w c n a v`: the state record with a field or a worker put anew.
+use Prim.Native.Nat.{ℕ}
+use mathlib.Core.Bool.{Bool, false, cond, _&&_}
+use lib.Dec.{leb, ltb, eqb}
+use Rattle.board.specs.declared.State.{State}
+use Rattle.board.specs.declared.Phase.{Phase}
+use Rattle.board.specs.declared.Phase.the-variants.{Off, Formatting, Recovering, Running}
+use Rattle.board.specs.declared.Store.{Store}
+use Rattle.board.specs.declared.Store.the-variants.{Backup, Mark, Record}
+use Rattle.board.specs.declared.UndoStep.{UndoStep}
+use Rattle.board.specs.declared.UndoStep.the-variants.{Restore, Unmark, WriteLine}
+use Rattle.board.specs.declared.Condition.{Condition}
+use Rattle.board.specs.declared.Condition.the-variants.{Free, Waiting, Updating}
+use Rattle.board.specs.State.{conditioned}
+
+-- "0 off, 1 formatting, 2 recovering, 3 running".
+abbrev pub phaseOf : ℕ → Phase
+phaseOf n = cond (eqb n 0) Off (cond (eqb n 1) Formatting (cond (eqb n 2) Recovering Running))
+
+-- "a recovery's step, 0 to 2".
+abbrev pub undoOf : ℕ → UndoStep
+undoOf n = cond (eqb n 0) Restore (cond (eqb n 1) Unmark WriteLine)
+
+-- "0 backup, 1 mark, 2 record".
+abbrev pub storeOf : ℕ → Store
+storeOf n = cond (eqb n 0) Backup (cond (eqb n 1) Mark Record)
+
+-- "0 phase; 1 L, to 65,535; 2 W, to 255; 3 the list's length, to 65,535; 4 place, to 65,535; 5 a recovery's step; 6 request, 0 or 1".
+unfoldable pub fieldFits : ℕ → ℕ → Bool
+fieldFits k v =
+    cond (eqb k 0) (leb v 3) (cond (eqb k 1) (leb v 65535) (cond (eqb k 2) (leb v 255) (cond (eqb k 3) (leb v 65535) (cond (eqb k 4) (leb v 65535) (cond (eqb k 5) (leb v 2) (cond (eqb k 6) (leb v 1) false))))))
+
+-- "field k of the record := v", all else as it was.
+unfoldable pub withField : State → ℕ → ℕ → State
+withField s k v =
+    record {
+      phase = cond (eqb k 0) (phaseOf v) (s .phase);
+      lines = cond (eqb k 1) v (s .lines);
+      workers = cond (eqb k 2) v (s .workers);
+      listed = cond (eqb k 3) v (s .listed);
+      place = cond (eqb k 4) v (s .place);
+      undo = cond (eqb k 5) (undoOf v) (s .undo);
+      requested = cond (eqb k 6) (eqb v 1) (s .requested);
+      worker = s .worker;
+    }
+
+-- The record after `B k v`.
+abbrev pub fieldPut : State → ℕ → ℕ → State
+fieldPut s k v = cond (fieldFits k v) (withField s k v) s
+
+-- "those that a condition has no use for must be 0".
+abbrev pub unused : ℕ → ℕ → ℕ → Bool
+unused n a v = eqb n 0 && (eqb a 0 && eqb v 0)
+
+-- "0 free, 1 waiting, 2 updating with next store n, cell a to 65,535, value v".
+unfoldable pub conditionFits : ℕ → ℕ → ℕ → ℕ → Bool
+conditionFits c n a v =
+    cond (eqb c 0) (unused n a v) (cond (eqb c 1) (unused n a v) (cond (eqb c 2) (leb n 2 && leb a 65535) false))
+
+-- The condition that such numbers mean.
+unfoldable pub conditionOf : ℕ → ℕ → ℕ → ℕ → Condition
+conditionOf c n a v = cond (eqb c 0) Free (cond (eqb c 1) Waiting (Updating (storeOf n) a v))
+
+-- "worker w, 0 to 7".
+abbrev pub workerFits : ℕ → ℕ → ℕ → ℕ → ℕ → Bool
+workerFits w c n a v = ltb w 8 && conditionFits c n a v
+
+-- The record after `K w c n a v`.
+abbrev pub workerPut : State → ℕ → ℕ → ℕ → ℕ → ℕ → State
+workerPut s w c n a v = cond (workerFits w c n a v) (conditioned s w (conditionOf c n a v)) s

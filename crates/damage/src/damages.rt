@@ -1,0 +1,160 @@
+// The fault program's own letters, each on a board whose rows are the first words of three arrays.
+ghost use mathlib.Core.Path.{_≡_};
+ghost use Rattle.damage.specs.Damages.{outcome, answerIf, roomFor, inUse, left, Within, HasRoom};
+ghost use Rattle.script.specs.declared.Damage.the-variants.{Lengths, Checksum};
+use crate::Damaged;
+use crate::Sizes;
+use crate::checksum::checksum;
+use crate::record::put_field;
+use crate::record::put_worker;
+use crate::rows::resize;
+use crate::rows::resize_list;
+use crate::rows::store;
+use crate::rows::store_entry;
+use board::State;
+use script::Damage;
+use script::Shown;
+
+// `?` where a number cannot be put where it is to go, otherwise 0.
+fn answered(state: State, sizes: Sizes, put: bool) -> Damaged
+    ensures { λ r. ⌜ (r .state ≡ state) × (r .sizes ≡ sizes) × (r .answer ≡ answerIf put) × (r .value ≡ Shown.Nothing) ⌝ }
+{
+    if put {
+        return Damaged {
+            state,
+            sizes,
+            answer: Shown::Number(0),
+            value: Shown::Nothing,
+        };
+    }
+    Damaged {
+        state,
+        sizes,
+        answer: Shown::Unknown,
+        value: Shown::Nothing,
+    }
+}
+
+// "over the room: `?`".
+fn has_room(memory: u64, cache: u64, list: u64) -> bool
+    ensures { λ r. ⌜ r ≡ roomFor memory cache list ⌝ }
+{
+    if memory > 4104 {
+        return false;
+    }
+    if cache > 4104 {
+        return false;
+    }
+    list <= 1100
+}
+
+// "W m c e: the rows' lengths".
+fn put_lengths(
+    state: State,
+    sizes: Sizes,
+    memory: &mut [u64],
+    cache: &mut [u64],
+    entries: &mut [u16],
+    m: u64,
+    c: u64,
+    e: u64,
+) -> Damaged
+    requires { ⌜ Within sizes × HasRoom (now memory) (now cache) (now entries) ⌝ }
+    ensures { λ r. ⌜ left r (now (memory .exit)) (now (cache .exit)) (now (entries .exit)) ≡ outcome (Lengths m c e) (inUse state sizes (now (memory .entry)) (now (cache .entry)) (now (entries .entry))) ⌝ }
+    ensures { λ r. ⌜ Within (r .sizes) ⌝ }
+{
+    if has_room(m, c, e) {
+        let new = Sizes {
+            memory: m as usize,
+            cache: c as usize,
+            list: e as usize,
+        };
+        resize(memory, sizes.memory, m as usize);
+        resize(cache, sizes.cache, c as usize);
+        resize_list(entries, sizes.list, e as usize);
+        return answered(state, new, true);
+    }
+    answered(state, sizes, false)
+}
+
+// The checksum shown.
+fn summed(state: State, sizes: Sizes, sum: u64) -> Damaged
+    ensures { λ r. ⌜ (r .state ≡ state) × (r .sizes ≡ sizes) × (r .answer ≡ Shown.Number 0) × (r .value ≡ Shown.Number sum) ⌝ }
+{
+    Damaged {
+        state,
+        sizes,
+        answer: Shown::Number(0),
+        value: Shown::Number(sum),
+    }
+}
+
+// "T: the checksum of everything".
+fn show_checksum(
+    state: State,
+    sizes: Sizes,
+    memory: &[u64],
+    cache: &[u64],
+    entries: &[u16],
+) -> Damaged
+    requires { ⌜ Within sizes × HasRoom (now memory) (now cache) (now entries) ⌝ }
+    ensures { λ r. ⌜ left r (now (memory .entry)) (now (cache .entry)) (now (entries .entry)) ≡ outcome Checksum (inUse state sizes (now (memory .entry)) (now (cache .entry)) (now (entries .entry))) ⌝ }
+    ensures { λ r. ⌜ Within (r .sizes) ⌝ }
+{
+    let words = sizes.memory;
+    let lines = sizes.cache;
+    let list = sizes.list;
+    let sum = checksum(state, &memory[..words], &cache[..lines], &entries[..list]);
+    summed(state, sizes, sum)
+}
+
+// A damaging line of the fault program.
+pub fn carry_out(
+    state: State,
+    sizes: Sizes,
+    memory: &mut [u64],
+    cache: &mut [u64],
+    entries: &mut [u16],
+    damage: Damage,
+) -> Damaged
+    requires { ⌜ Within sizes × HasRoom (now memory) (now cache) (now entries) ⌝ }
+    ensures { λ r. ⌜ left r (now (memory .exit)) (now (cache .exit)) (now (entries .exit)) ≡ outcome damage (inUse state sizes (now (memory .entry)) (now (cache .entry)) (now (entries .entry))) ⌝ }
+    ensures { λ r. ⌜ Within (r .sizes) ⌝ }
+{
+    match damage {
+        Damage::Lengths {
+            memory: m,
+            cache: c,
+            list: e,
+        } => put_lengths(state, sizes, memory, cache, entries, m, c, e),
+        Damage::Memory { at, word } => {
+            let put = store(memory, sizes.memory, at, word);
+            answered(state, sizes, put)
+        }
+        Damage::Cache { at, word } => {
+            let put = store(cache, sizes.cache, at, word);
+            answered(state, sizes, put)
+        }
+        Damage::Entry { at, entry } => {
+            let put = store_entry(entries, sizes.list, at, entry);
+            answered(state, sizes, put)
+        }
+        Damage::Field { field, number } => {
+            let r = put_field(state, field, number);
+            let next = r.state;
+            answered(next, sizes, r.put)
+        }
+        Damage::Worker {
+            worker,
+            condition,
+            next,
+            cell,
+            value,
+        } => {
+            let r = put_worker(state, worker, condition, next, cell, value);
+            let changed = r.state;
+            answered(changed, sizes, r.put)
+        }
+        Damage::Checksum => show_checksum(state, sizes, memory, cache, entries),
+    }
+}

@@ -1,0 +1,208 @@
+// The state record with a field or a worker put anew.
+ghost use mathlib.Core.Path.{_≡_};
+ghost use mathlib.Core.Bool.{true};
+ghost use Prim.Native.Nat.{_<_};
+ghost use Rattle.board.specs.State.{conditioned};
+ghost use Rattle.damage.specs.Record.{phaseOf, undoOf, storeOf, fieldFits, withField, fieldPut, unused, conditionFits, conditionOf, workerFits, workerPut};
+use board::Condition;
+use board::Phase;
+use board::State;
+use board::Store;
+use board::UndoStep;
+use board::Worker;
+
+// The record, and whether the number could be put; where it could not, the record is as it was.
+pub struct Put {
+    pub state: State,
+    pub put: bool,
+}
+
+// "0 off, 1 formatting, 2 recovering, 3 running".
+fn phase_of(number: u64) -> Phase
+    ensures { λ r. ⌜ r ≡ phaseOf number ⌝ }
+{
+    match number {
+        0 => Phase::Off,
+        1 => Phase::Formatting,
+        2 => Phase::Recovering,
+        _ => Phase::Running,
+    }
+}
+
+// "a recovery's step, 0 to 2".
+fn undo_of(number: u64) -> UndoStep
+    ensures { λ r. ⌜ r ≡ undoOf number ⌝ }
+{
+    match number {
+        0 => UndoStep::Restore,
+        1 => UndoStep::Unmark,
+        _ => UndoStep::WriteLine,
+    }
+}
+
+// "0 backup, 1 mark, 2 record".
+fn store_of(number: u64) -> Store
+    ensures { λ r. ⌜ r ≡ storeOf number ⌝ }
+{
+    match number {
+        0 => Store::Backup,
+        1 => Store::Mark,
+        _ => Store::Record,
+    }
+}
+
+// Whether there is such a field, and the number is within it.
+fn field_fits(field: u64, number: u64) -> bool
+    ensures { λ r. ⌜ r ≡ fieldFits field number ⌝ }
+{
+    match field {
+        0 => number <= 3,
+        1 => number <= 65535,
+        2 => number <= 255,
+        3 => number <= 65535,
+        4 => number <= 65535,
+        5 => number <= 2,
+        6 => number <= 1,
+        _ => false,
+    }
+}
+
+// The record with a field put anew.
+fn with_field(state: State, field: u64, number: u64) -> State
+    requires { ⌜ fieldFits field number ≡ true ⌝ }
+    ensures { λ r. ⌜ r ≡ withField state field number ⌝ }
+{
+    let phase = phase_of(number);
+    let undo = undo_of(number);
+    match field {
+        0 => State { phase, ..state },
+        1 => State {
+            lines: number as u16,
+            ..state
+        },
+        2 => State {
+            workers: number as u8,
+            ..state
+        },
+        3 => State {
+            listed: number as u16,
+            ..state
+        },
+        4 => State {
+            place: number as u16,
+            ..state
+        },
+        5 => State { undo, ..state },
+        6 => State {
+            requested: number == 1,
+            ..state
+        },
+        _ => state,
+    }
+}
+
+// "B k v": field k of the record := v.
+pub fn put_field(state: State, field: u64, number: u64) -> Put
+    ensures { λ r. ⌜ (r .put ≡ fieldFits field number) × (r .state ≡ fieldPut state field number) ⌝ }
+{
+    if field_fits(field, number) {
+        let next = with_field(state, field, number);
+        return Put {
+            state: next,
+            put: true,
+        };
+    }
+    Put { state, put: false }
+}
+
+// "those that a condition has no use for must be 0".
+fn unused(next: u64, cell: u64, value: u64) -> bool
+    ensures { λ r. ⌜ r ≡ unused next cell value ⌝ }
+{
+    if next != 0 {
+        return false;
+    }
+    if cell != 0 {
+        return false;
+    }
+    value == 0
+}
+
+// Whether the numbers are a condition's.
+fn condition_fits(condition: u64, next: u64, cell: u64, value: u64) -> bool
+    ensures { λ r. ⌜ r ≡ conditionFits condition next cell value ⌝ }
+{
+    match condition {
+        0 => unused(next, cell, value),
+        1 => unused(next, cell, value),
+        2 => {
+            if next > 2 {
+                return false;
+            }
+            cell <= 65535
+        }
+        _ => false,
+    }
+}
+
+// The condition that numbers mean.
+fn condition_of(condition: u64, next: u64, cell: u64, value: u64) -> Condition
+    requires { ⌜ conditionFits condition next cell value ≡ true ⌝ }
+    ensures { λ r. ⌜ r ≡ conditionOf condition next cell value ⌝ }
+{
+    let store = store_of(next);
+    match condition {
+        0 => Condition::Free,
+        1 => Condition::Waiting,
+        _ => Condition::Updating {
+            next: store,
+            cell: cell as u16,
+            value,
+        },
+    }
+}
+
+// The record with a worker in another condition. Each index is a constant, as in `effects::record::conditioned`.
+fn with_worker(state: State, worker: u64, condition: Condition) -> State
+    requires { ⌜ worker < 8 ⌝ }
+    ensures { λ r. ⌜ r ≡ conditioned state worker condition ⌝ }
+{
+    let mut next = state;
+    let put = Worker { condition };
+    match worker {
+        0 => next.worker[0] = put,
+        1 => next.worker[1] = put,
+        2 => next.worker[2] = put,
+        3 => next.worker[3] = put,
+        4 => next.worker[4] = put,
+        5 => next.worker[5] = put,
+        6 => next.worker[6] = put,
+        _ => next.worker[7] = put,
+    }
+    next
+}
+
+// "K w c n a v": worker w gets condition c.
+pub fn put_worker(
+    state: State,
+    worker: u64,
+    condition: u64,
+    next: u64,
+    cell: u64,
+    value: u64,
+) -> Put
+    ensures { λ r. ⌜ (r .put ≡ workerFits worker condition next cell value) × (r .state ≡ workerPut state worker condition next cell value) ⌝ }
+{
+    if worker >= 8 {
+        return Put { state, put: false };
+    }
+    if condition_fits(condition, next, cell, value) {
+        let given = condition_of(condition, next, cell, value);
+        let changed = with_worker(state, worker, given);
+        return Put {
+            state: changed,
+            put: true,
+        };
+    }
+    Put { state, put: false }
+}

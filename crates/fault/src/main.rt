@@ -1,0 +1,6 @@
+// The fault program, the drill with damage: a script on standard input, its answers on standard output.
+use console::Program;
+
+fn main() {
+    console::run(Program::Fault);
+}

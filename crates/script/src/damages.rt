@@ -1,0 +1,100 @@
+// What the letters ask for that only the fault program has.
+ghost use mathlib.Core.Path.{_≡_};
+ghost use mathlib.Core.List.{[], _∷_};
+ghost use Rattle.script.specs.Grammar.{damaging};
+ghost use Rattle.script.specs.Fields.{damagingOf};
+use crate::Damage;
+use crate::Line;
+use crate::Numbers;
+use board::Call;
+
+// "T".
+fn with_none(letter: u8) -> Line
+    ensures { λ r. ⌜ r ≡ damaging letter [] ⌝ }
+{
+    match letter {
+        b'T' => Line::Damage {
+            damage: Damage::Checksum,
+        },
+        _ => Line::Unknown,
+    }
+}
+
+// "f L W", "M i v", "N i v", "Q i v", "B k v".
+fn with_two(letter: u8, a: u64, b: u64) -> Line
+    ensures { λ r. ⌜ r ≡ damaging letter (a ∷ b ∷ []) ⌝ }
+{
+    match letter {
+        b'f' => Line::Make {
+            call: Call::FormatStart {
+                lines: a,
+                workers: b,
+            },
+        },
+        b'M' => Line::Damage {
+            damage: Damage::Memory { at: a, word: b },
+        },
+        b'N' => Line::Damage {
+            damage: Damage::Cache { at: a, word: b },
+        },
+        b'Q' => Line::Damage {
+            damage: Damage::Entry { at: a, entry: b },
+        },
+        b'B' => Line::Damage {
+            damage: Damage::Field {
+                field: a,
+                number: b,
+            },
+        },
+        _ => Line::Unknown,
+    }
+}
+
+// "W m c e".
+fn with_three(letter: u8, a: u64, b: u64, c: u64) -> Line
+    ensures { λ r. ⌜ r ≡ damaging letter (a ∷ b ∷ c ∷ []) ⌝ }
+{
+    match letter {
+        b'W' => Line::Damage {
+            damage: Damage::Lengths {
+                memory: a,
+                cache: b,
+                list: c,
+            },
+        },
+        _ => Line::Unknown,
+    }
+}
+
+// "K w c n a v".
+fn with_five(letter: u8, a: u64, b: u64, c: u64, d: u64, e: u64) -> Line
+    ensures { λ r. ⌜ r ≡ damaging letter (a ∷ b ∷ c ∷ d ∷ e ∷ []) ⌝ }
+{
+    match letter {
+        b'K' => Line::Damage {
+            damage: Damage::Worker {
+                worker: a,
+                condition: b,
+                next: c,
+                cell: d,
+                value: e,
+            },
+        },
+        _ => Line::Unknown,
+    }
+}
+
+// The fault program's own letters with the numbers read.
+pub fn damaging(letter: u8, got: Numbers) -> Line
+    ensures { λ r. ⌜ r ≡ damagingOf letter got ⌝ }
+{
+    match got {
+        Numbers::Zero => with_none(letter),
+        Numbers::One(_) => Line::Unknown,
+        Numbers::Two(a, b) => with_two(letter, a, b),
+        Numbers::Three(a, b, c) => with_three(letter, a, b, c),
+        Numbers::Four(_, _, _, _) => Line::Unknown,
+        Numbers::Five(a, b, c, d, e) => with_five(letter, a, b, c, d, e),
+        Numbers::Bad => Line::Unknown,
+    }
+}
