@@ -1,6 +1,6 @@
 -- A format to its end, and what turns one down.
 use Prim.Native.Nat.{ℕ, zero, suc, _+_, _-_, _≤_, _<_}
-use mathlib.Core.Path.{_≡_, sym, ap, _∙_}
+use mathlib.Core.Path.{_≡_, refl, sym, ap, _∙_}
 use mathlib.Core.List.{List, _++_}
 use mathlib.Core.Bool.{true, false}
 use native.Mathlib.Omega.{arith}
@@ -8,29 +8,36 @@ use native.Mathlib.Numerals.{sub-one}
 use lib.ListN.{length, take, drop, replicate, length-replicate}
 use lib.Seq.{length-take-le}
 use Rattle.board.specs.declared.State.{State}
+use Rattle.board.specs.declared.Call.{Call}
 use Rattle.board.specs.declared.Call.the-variants.{FormatStart, Step}
 use Rattle.board.specs.Board.{Board, rowWords, listWords, linesOutside, workersOutside, outside}
 use Rattle.board.specs.Causes.{causes, cause, firstStanding}
-use Rattle.board.specs.Next.{lent, next, Taken}
+use Rattle.board.specs.Next.{lent, next, Taken, Outcome, outcome}
 use Rattle.board.specs.Statements.{stepsFrom}
 use Rattle.board.proofs.Invariant.{Sizes}
 use Rattle.board.proofs.Laws.Bools.{chosen, passedOver, or-left}
 use Rattle.board.proofs.Laws.Taken.{Clear, take as taken-if, lines-in, rows-fine}
 use Rattle.script.specs.declared.Line.the-variants as line
 use Rattle.script.specs.declared.Shown.the-variants.{Nothing, Number}
-use Rattle.console.specs.Lines.{done, rowsFor, formatted, carriedOut}
+use Rattle.console.specs.Lines.{repeated, done, rowsFor, formatted, carriedOut}
 use Rattle.console.proofs.Acts.{board-back}
 
--- One step fewer to go from the board that a step leaves.
-pub one-step : (n : ℕ) (b after : Board) → 0 < n → after ≡ next Step b → stepsFrom (n - 1) after ≡ stepsFrom n b
-unfolding stepsFrom
-one-step zero b after h e = absurd (omega arith)
-one-step (suc n) b after h e = ap (λ (k : ℕ). stepsFrom k after) (sub-one (suc n)) ∙ ap (stepsFrom n) e
+-- One call fewer to make from the outcome that a call gives.
+pub one-call : (n : ℕ) (call : Call) (o after : Outcome) → 0 < n → after ≡ outcome call (o .board) → repeated (n - 1) call after ≡ repeated n call o
+unfolding repeated
+one-call zero call o after h e = absurd (omega arith)
+one-call (suc n) call o after h e = ap (λ (k : ℕ). repeated k call after) (sub-one (suc n)) ∙ ap (repeated n call) e
 
--- No step to go.
-pub no-step : (n : ℕ) (b : Board) → n ≡ 0 → stepsFrom n b ≡ b
-unfolding stepsFrom
-no-step n b e = ap (λ (k : ℕ). stepsFrom k b) e
+-- No call to make.
+pub no-call : (n : ℕ) (call : Call) (o : Outcome) → n ≡ 0 → repeated n call o ≡ o
+unfolding repeated
+no-call n call o e = ap (λ (k : ℕ). repeated k call o) e
+
+-- Steps one after the other.
+pub repeated-steps : (n : ℕ) (o : Outcome) → repeated n Step o .board ≡ stepsFrom n (o .board)
+unfolding repeated stepsFrom
+repeated-steps zero o = refl
+repeated-steps (suc n) o = repeated-steps n (outcome Step (o .board))
 
 -- Limits that hold bound L.
 pub lines-within : (l w : ℕ) → outside l w ≡ false → l ≤ 511

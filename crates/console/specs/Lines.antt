@@ -1,15 +1,17 @@
 -- Document 01, "The drill program": what a line of the script does to the board, and what is shown of it. The fault program's damage is `outcome`'s.
-use Prim.Native.Nat.{ℕ}
+use Prim.Native.Nat.{ℕ, zero, suc}
 use mathlib.Core.Path.{_≡_}
 use mathlib.Core.Bool.{cond}
 use mathlib.Core.List.{List}
 use lib.ListN.{length, replicate}
 use Rattle.board.specs.declared.State.{State}
 use Rattle.board.specs.declared.Phase.the-variants.{Off}
+use Rattle.board.specs.declared.Call.{Call}
 use Rattle.board.specs.declared.Call.the-variants.{FormatStart}
 use Rattle.board.specs.Board.{Board, rowWords, listWords, outside}
 use Rattle.board.specs.Causes.{cause}
 use Rattle.board.specs.Next.{lent, next, valueOf}
+use Rattle.board.specs.Next as board
 use Rattle.board.specs.Machine.{formatSteps}
 use Rattle.board.specs.Statements.{stepsFrom}
 use Rattle.script.specs.declared.Line.{Line}
@@ -59,6 +61,15 @@ carriedOut (line.Damage d) b = done (outcome d b .board) (outcome d b .answer) (
 carriedOut line.Unknown b = done b Unknown Nothing
 
 -- ---- what contracts say
+
+-- A number, a value and a board, put together.
+abbrev pub given : ℕ → ℕ → Board → board.Outcome
+given number value board = record { number = number; value = value; board = board }
+
+-- A call made `n` times, one after the other, from an outcome on: the last one's outcome.
+unfoldable pub repeated : ℕ → Call → board.Outcome → board.Outcome
+repeated zero call o = o
+repeated (suc n) call o = repeated n call (board.outcome call (o .board))
 
 -- What the code leaves and shows.
 abbrev pub left : Answered → List ℕ → List ℕ → List ℕ → Done

@@ -4,15 +4,15 @@ ghost use Prim.Native.Nat.{_≤_};
 ghost use lib.ListN.{length, replicate};
 ghost use Rattle.board.specs.State.{started};
 ghost use Rattle.board.specs.Next.{lent};
-ghost use Rattle.board.specs.Statements.{stepsFrom};
 ghost use Rattle.script.specs.declared.Line.the-variants.{Format, Show};
 ghost use Rattle.damage.specs.Damages.{HasRoom};
 ghost use Rattle.console.specs.Session.{boardOf, Within, Fits, Room};
-ghost use Rattle.console.specs.Lines.{formatted, Switched, carriedOut, left};
+ghost use Rattle.console.specs.Lines.{given, repeated, formatted, Switched, carriedOut, left};
 use board::Call;
 use board::Phase;
 use board::State;
 use damage::Sizes;
+use engine::Reading;
 use script::Damage;
 use script::Line;
 use script::Shown;
@@ -44,6 +44,37 @@ pub fn new() -> Session
     }
 }
 
+// A call made again and again; what is given back is the last one's. All calls are made here, so that `perform` stands
+// in one place of the program and its record is taken apart there (docs/BENCH.md).
+fn repeat(
+    call: Call,
+    state: State,
+    memory: &mut [u64],
+    cache: &mut [u64],
+    entries: &mut [u16],
+    times: u64,
+) -> Reading
+    ensures { λ r. ⌜ given (r .number) (r .value) (lent (r .state) (now (memory .exit)) (now (cache .exit)) (now (entries .exit)))
+        ≡ repeated times call (given 0 0 (lent state (now (memory .entry)) (now (cache .entry)) (now (entries .entry)))) ⌝ }
+{
+    let mut left = times;
+    let mut number: u8 = 0;
+    let mut value: u64 = 0;
+    let mut now = state;
+    while left > 0 {
+        let r = engine::perform(call, now, memory, cache, entries);
+        number = r.number;
+        value = r.value;
+        now = r.state;
+        left -= 1;
+    }
+    Reading {
+        number,
+        value,
+        state: now,
+    }
+}
+
 // One call of the board, with its value shown.
 fn make(
     session: Session,
@@ -60,12 +91,13 @@ fn make(
     let in_memory = session.memory;
     let in_cache = session.cache;
     let list = session.list;
-    let r = engine::perform(
+    let r = repeat(
         call,
         state,
         &mut memory[..in_memory],
         &mut cache[..in_cache],
         &mut entries[..list],
+        1,
     );
     let next = r.state;
     Answered {
@@ -136,26 +168,6 @@ fn cut(session: Session, cache: &mut [u64]) -> Answered
     }
 }
 
-// The steps of a format, to its end.
-fn format_steps(
-    state: State,
-    memory: &mut [u64],
-    cache: &mut [u64],
-    entries: &[u16],
-    steps: u64,
-) -> State
-    ensures { λ r. ⌜ lent r (now (memory .exit)) (now (cache .exit)) (now (entries .entry)) ≡ stepsFrom steps (lent state (now (memory .entry)) (now (cache .entry)) (now (entries .entry))) ⌝ }
-{
-    let mut left = steps;
-    let mut now = state;
-    while left > 0 {
-        let r = engine::step(now, memory, cache, entries);
-        now = r.state;
-        left -= 1;
-    }
-    now
-}
-
 // A format to the end on rows made anew, all 0.
 fn format_rows(
     state: State,
@@ -171,9 +183,11 @@ fn format_rows(
     zero(memory);
     zero(cache);
     zero_list(entries);
-    let begun = engine::format_start(state, memory, cache, entries, lines, workers);
+    let start = Call::FormatStart { lines, workers };
+    let begun = repeat(start, state, memory, cache, entries, 1);
     let started = begun.state;
-    format_steps(started, memory, cache, entries, lines + 2)
+    let ended = repeat(Call::Step, started, memory, cache, entries, lines + 2);
+    ended.state
 }
 
 // "F L W (format to the end)"; its rows are made to fit, so only its limits can turn it down.

@@ -1,12 +1,13 @@
--- `console::session::format_rows` meets its contract.
-use mathlib.Core.Path.{ap, _∙_}
+-- `console::session::format_rows` meets its contract: the rows are zeros, then comes the start, then the steps.
+use mathlib.Core.Path.{_≡_, ap, _∙_}
 use mathlib.Core.List.{List}
 use Prim.Native.Nat.{ℕ, _+_}
 use lib.ListN.{length, replicate}
 use borrow.Author.Needs.{needs}
 use Rattle.board.specs.Next.{lent, Outcome}
 use Rattle.board.specs.Statements.{stepsFrom}
-use Rattle.console.specs.Lines.{formatted}
+use Rattle.console.specs.Lines.{given, repeated, formatted}
+use Rattle.console.proofs.Formats.{repeated-steps}
 use Rattle.console.proofs.session.format_rows.Statement.{statement}
 use Rattle.console.proofs.session.format_rows.Tie as tie
 
@@ -14,24 +15,52 @@ use Rattle.console.proofs.session.format_rows.Tie as tie
 abbrev zeros : List ℕ → List ℕ
 zeros row = replicate (length row) 0
 
+-- The start, and the rows zeroed before it.
+module _ (c : tie.After-repeat) where
+  abbrev list-zeroed : tie.After-zero-list
+  list-zeroed = c .before .before .before .before .before .before
+
+  abbrev cache-zeroed : tie.After-zero2
+  cache-zeroed = list-zeroed .before .before .before .before
+
+  abbrev memory-zeroed : tie.After-zero
+  memory-zeroed = cache-zeroed .before .before .before .before
+
+-- The start, from the steps on.
+abbrev started : tie.After-repeat2 → tie.After-repeat
+started c = c .before .before .before .before .before .before .before .before .before .before .before
+
+-- The steps, from the end on.
+abbrev stepped : tie.After-result → tie.After-repeat2
+stepped c = c .before .before .before .before .before .before .before
+
 same-length : tie.Need-same-length
-same-length c = c .before .before .before .before .format-steps .kept .1 .0 ∙ c .before .before .before .before .before .before .before .before .before .before .before .before .before .before .before .before .before .before .before .before .before .before .before .zero .kept .0
+same-length c =
+    stepped c .repeat2 .kept .1 .1 .0 ∙ started (stepped c) .repeat .kept .1 .1 .0 ∙ memory-zeroed (started (stepped c)) .zero .kept .0
+
+same-length-2 : tie.Need-same-length-2
+same-length-2 c =
+    stepped c .repeat2 .kept .1 .1 .1 .0 ∙ started (stepped c) .repeat .kept .1 .1 .1 .0 ∙ cache-zeroed (started (stepped c)) .zero2 .kept .0
 
 returns : tie.Need-returns
+unfolding repeated
 returns c =
-    let a = c .before .before .before .before .before .before .before .before .before .before .before .before .before .before .before .before .before .before .before .before .before .before .before .before .before .before .before .before .args in
-    let memory = c .before .before .before .before .before .before .before .before .before .before .before .before .before .before .before .before .before .before .before .before .before .before .before .zero in
-    let cache = c .before .before .before .before .before .before .before .before .before .before .before .before .before .before .before .before .before .before .before .zero2 in
-    let entries = c .before .before .before .before .before .before .before .before .before .before .before .before .before .before .before .zero-list in
+    let steps = stepped c .repeat2 in
+    let begun = started (stepped c) in
+    let memory = memory-zeroed begun .zero in
+    let cache = cache-zeroed begun .zero2 in
+    let list = list-zeroed begun .zero-list in
+    let a = memory-zeroed begun .before .before .before .before .before .args in
     let rows = formatted (a .lines) (a .workers) in
-    c .before .before .before .before .format-steps .ensures
-    ∙ ap (stepsFrom (a .lines + 2)) (ap (λ (o : Outcome). o .board) (c .before .before .before .before .before .before .before .before .before .format-start .ensures))
-    ∙ ap (λ (x : List ℕ). rows (lent (a .state) x (cache .last .0) (entries .last .0))) (memory .ensures)
-    ∙ ap (λ (x : List ℕ). rows (lent (a .state) (zeros (a .memory .now)) x (entries .last .0))) (cache .ensures)
-    ∙ ap (λ (x : List ℕ). rows (lent (a .state) (zeros (a .memory .now)) (zeros (a .cache .now)) x)) (entries .ensures)
+    ap (λ (o : Outcome). o .board) (steps .ensures)
+    ∙ repeated-steps (a .lines + 2) (given 0 0 (lent (begun .repeat .result .state) (begun .repeat .last .1 .1 .0) (begun .repeat .last .1 .1 .1 .0) (begun .repeat .last .1 .1 .1 .1 .0)))
+    ∙ ap (λ (o : Outcome). stepsFrom (a .lines + 2) (o .board)) (begun .repeat .ensures)
+    ∙ ap (λ (x : List ℕ). rows (lent (a .state) x (cache .last .0) (list .last .0))) (memory .ensures)
+    ∙ ap (λ (x : List ℕ). rows (lent (a .state) (zeros (a .memory .now)) x (list .last .0))) (cache .ensures)
+    ∙ ap (λ (x : List ℕ). rows (lent (a .state) (zeros (a .memory .now)) (zeros (a .cache .now)) x)) (list .ensures)
 
 pub format-rows-spec : {M : Type 1} → statement M
 format-rows-spec =
     tie.close
     (tie.spec (search needs) (search needs) (search needs) (search needs) (search needs) (search needs) same-length
-    (search needs) (search needs) returns)
+    same-length-2 (search needs) returns)

@@ -2,17 +2,20 @@
 use mathlib.Core.Path.{refl}
 use native.Mathlib.Omega.{arith}
 use borrow.Author.Needs.{needs}
+use Rattle.console.specs.Lines.{repeated}
 use Rattle.console.proofs.Parts.{part-size}
 use Rattle.console.proofs.Acts.{made}
 use Rattle.console.proofs.session.make.Statement.{statement}
 use Rattle.console.proofs.session.make.Tie as tie
 
 returns : tie.Need-returns
+unfolding repeated
 returns c =
-    let start = c .before .before .before .before .before .before .before .before .before .before .before .before .before .before .before .before in
+    let called = c .before .before .before .before .before .before .before .before in
+    let start = called .before .before .before .before .before .before .before .before in
     let a = start .args in
     let s = a .session in
-    let p = c .before .before .before .before .before .before .before .before .perform in
+    let p = called .repeat in
     let did = made (s .memory) (s .cache) (s .list) (a .memory .now) (a .cache .now) (a .entries .now)
     (p .last .1 .1 .0) (p .last .1 .1 .1 .0) (p .last .1 .1 .1 .1 .0) (start .pre .memory-fits) (start .pre .cache-fits) (start .pre .list-fits)
     (p .kept .1 .1 .0) (p .kept .1 .1 .1 .0) (p .kept .1 .1 .1 .1 .0)

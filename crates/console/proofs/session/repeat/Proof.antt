@@ -1,0 +1,41 @@
+-- `console::session::repeat` meets its contract. The invariant: the calls left to make lead to the same outcome as all of them.
+use mathlib.Core.Path.{_≡_, refl, sym, _∙_}
+use native.Mathlib.Omega.{arith}
+use lib.ListN.{length}
+use borrow.Author.Needs.{needs}
+use Rattle.board.specs.Next.{lent}
+use Rattle.console.specs.Lines.{given, repeated}
+use Rattle.console.proofs.Formats.{one-call, no-call}
+use Rattle.console.proofs.session.repeat.Statement.{statement}
+use Rattle.console.proofs.session.repeat.Tie as tie
+
+abbrev Inv-loop : tie.InvT-loop
+Inv-loop call memory₀ cache₀ entries₀ times left₀ number₀ value₀ now₀ memory cache entries left number value now =
+    (repeated left call (given number value (lent now memory cache entries)) ≡ repeated left₀ call (given number₀ value₀ (lent now₀ memory₀ cache₀ entries₀)))
+    × (length memory ≡ length memory₀) × (length cache ≡ length cache₀) × (length entries ≡ length entries₀)
+
+abbrev μ-loop : tie.MeasureT-loop
+μ-loop call memory₀ cache₀ entries₀ times left₀ number₀ value₀ now₀ memory cache entries left number value now = left
+
+loop-holds : tie.Need-loop-holds Inv-loop μ-loop
+loop-holds c = (refl, refl, refl, refl)
+
+loop-again : tie.Need-loop-again Inv-loop μ-loop
+loop-again c =
+    let made = c .before .before .before .before .before .before .before in
+    let p = made .perform in
+    let l = made .before .before .before .before .before .loop in (
+      one-call (l .left) _ (given (l .number) (l .value) (lent (l .now) (l .memory) (l .cache) (l .entries))) _ (search needs) (p .ensures) ∙ l .inv .0,
+      p .kept .1 .1 .0 ∙ l .inv .1,
+      p .kept .1 .1 .1 .0 ∙ l .inv .2,
+      p .kept .1 .1 .1 .1 .0 ∙ l .inv .3,
+    )
+
+returns : tie.Need-returns Inv-loop μ-loop
+returns c = sym (no-call (c .before .loop .left) _ _ (omega arith)) ∙ c .before .loop .inv .0
+
+pub repeat-spec : {M : Type 1} → statement M
+repeat-spec =
+    tie.close
+    (tie.spec Inv-loop μ-loop loop-holds (search needs) (search needs) (search needs) loop-again (search needs)
+    (search needs) (search needs) returns)
