@@ -1,4 +1,4 @@
--- The invariant of every run that a lawful sequence leads to.
+-- The invariant of every run that a history leads to.
 use Prim.Native.Nat.{ℕ, _+_, _≤_, _<_}
 use mathlib.Core.Path.{_≡_}
 use mathlib.Core.List.{List}
