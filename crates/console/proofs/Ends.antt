@@ -1,9 +1,9 @@
 -- A line's end: what is written for it, and that 80 bytes of it are enough.
-use Prim.Native.Nat.{ℕ, _≤_, _<_}
-use mathlib.Core.Path.{_≡_, refl, sym, ap, subst, _∙_}
-use mathlib.Core.List.{List, [], _++_}
+use Prim.Native.Nat.{ℕ}
+use mathlib.Core.Path.{_≡_, refl, ap, subst, _∙_}
+use mathlib.Core.List.{List, []}
 use native.Mathlib.Omega.{arith}
-use lib.ListN.{length, take, getD}
+use lib.ListN.{take}
 use lib.Seq.{getD-take}
 use Rattle.board.specs.Board.{Board}
 use Rattle.script.specs.declared.Line.{Line}

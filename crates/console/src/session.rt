@@ -57,22 +57,22 @@ fn make(
     ensures { λ r. ⌜ (r .session .memory ≡ session .memory) × (r .session .cache ≡ session .cache) × (r .session .list ≡ session .list) ⌝ }
 {
     let state = session.state;
-    let words = session.memory;
-    let lines = session.cache;
+    let in_memory = session.memory;
+    let in_cache = session.cache;
     let list = session.list;
     let r = engine::perform(
         call,
         state,
-        &mut memory[..words],
-        &mut cache[..lines],
+        &mut memory[..in_memory],
+        &mut cache[..in_cache],
         &mut entries[..list],
     );
     let next = r.state;
     Answered {
         session: Session {
             state: next,
-            memory: words,
-            cache: lines,
+            memory: in_memory,
+            cache: in_cache,
             list,
         },
         answer: Shown::Number(r.number as u64),

@@ -1,8 +1,6 @@
 -- `console::session::act` meets its contract: each arm is told the line, and its contract is that line's.
 use mathlib.Core.Path.{refl}
-use native.Mathlib.Omega.{arith}
 use borrow.Author.Needs.{needs}
-use Rattle.console.specs.declared.session.Session.{Session}
 use Rattle.console.proofs.Acts.{acted, hidden, cut-off, same-within}
 use Rattle.console.proofs.session.act.Statement.{statement}
 use Rattle.console.proofs.session.act.Tie as tie
