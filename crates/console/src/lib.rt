@@ -4,5 +4,4 @@ mod input;
 mod session;
 mod shell;
 
-pub use script::Program;
 pub use shell::run;

@@ -19,8 +19,8 @@ use Rattle.damage.specs.Checksum.{checksum}
 use Rattle.damage.specs.Damages.{Outcome, showing, answerIf, roomFor, relengthened, outcome, inUse, left, Within}
 
 -- What the code leaves and shows, by its parts.
-pub shown : {r : Damaged} {state : State} {sizes : Sizes} {answer value : Shown} (m c e : List ℕ) → (r .state ≡ state) × (r .sizes ≡ sizes) × (r .answer ≡ answer) × (r .value ≡ value) → left r m c e ≡ showing (inUse state sizes m c e) answer value
-shown {r} {state} {sizes} {answer} {value} m c e w =
+pub by-parts : {r : Damaged} {state : State} {sizes : Sizes} {answer value : Shown} (m c e : List ℕ) → (r .state ≡ state) × (r .sizes ≡ sizes) × (r .answer ≡ answer) × (r .value ≡ value) → left r m c e ≡ showing (inUse state sizes m c e) answer value
+by-parts {r} {state} {sizes} {answer} {value} m c e w =
     ap (λ (x : State). showing (inUse x (r .sizes) m c e) (r .answer) (r .value)) (w .0)
     ∙ ap (λ (x : Sizes). showing (inUse state x m c e) (r .answer) (r .value)) (w .1)
     ∙ ap (λ (x : Shown). showing (inUse state sizes m c e) x (r .value)) (w .2)

@@ -3,3 +3,4 @@ pub mod Fits
 pub mod Grown
 pub mod Sums
 pub mod Arms
+pub mod Theorems

@@ -1,9 +1,10 @@
 -- The fault program's own letters: what each leaves of the board, and what is shown.
 use Prim.Native.Nat.{ℕ, _≤_}
-use mathlib.Core.Bool.{Bool, cond, _&&_}
-use mathlib.Core.List.{List}
+use mathlib.Core.Path.{_≡_}
+use mathlib.Core.Bool.{Bool, true, cond, _&&_}
+use mathlib.Core.List.{List, [], _∷_}
 use lib.Dec.{leb}
-use lib.ListN.{length, take}
+use lib.ListN.{length, take, getD}
 use Rattle.board.specs.declared.State.{State}
 use Rattle.board.specs.Board.{Board}
 use Rattle.board.specs.Next.{lent}
@@ -13,9 +14,9 @@ use Rattle.script.specs.declared.Shown.{Shown}
 use Rattle.script.specs.declared.Shown.the-variants.{Unknown, Nothing, Number}
 use Rattle.damage.specs.declared.Sizes.{Sizes}
 use Rattle.damage.specs.declared.Damaged.{Damaged}
-use Rattle.damage.specs.Record.{fieldFits, fieldPut, workerFits, workerPut}
+use Rattle.damage.specs.Record.{fieldFits, withField, fieldPut, conditionFits, conditionOf, workerFits, workerPut}
 use Rattle.damage.specs.Rows.{resized, wordFits, entryFits, storedIf}
-use Rattle.damage.specs.Checksum.{checksum}
+use Rattle.damage.specs.Checksum.{fieldNumbers, conditionNumbers, checksum}
 
 -- What a line leaves and shows: the board, the answer and the value.
 pub record Outcome : Type 0 where
@@ -60,6 +61,16 @@ outcome (Worker w c n a v) b =
     showing (lent (workerPut (b .state) w c n a v) (b .memory) (b .cache) (b .entries)) (answerIf (workerFits w c n a v)) Nothing
 -- "T": nothing; the checksum of everything.
 outcome Checksum b = showing b (Number 0) (Number (checksum b))
+
+-- ---- what is claimed
+
+-- "A number written to a field is what is read back", by the checksum too.
+abbrev pub FieldsReadBack : Type 0
+FieldsReadBack = (s : State) (k v : ℕ) → fieldFits k v ≡ true → getD (fieldNumbers (withField s k v)) k 0 ≡ v
+
+-- The numbers that put a worker are those that are read of it: "c, n, a, v as in `K`".
+abbrev pub WorkersReadBack : Type 0
+WorkersReadBack = (c n a v : ℕ) → conditionFits c n a v ≡ true → conditionNumbers (conditionOf c n a v) ≡ c ∷ n ∷ a ∷ v ∷ []
 
 -- ---- what contracts say
 

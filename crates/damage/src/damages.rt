@@ -5,6 +5,7 @@ ghost use Rattle.script.specs.declared.Damage.the-variants.{Lengths, Checksum};
 use crate::Damaged;
 use crate::Sizes;
 use crate::checksum::checksum;
+use crate::record::Put;
 use crate::record::put_field;
 use crate::record::put_worker;
 use crate::rows::resize;
@@ -16,7 +17,7 @@ use script::Damage;
 use script::Shown;
 
 // `?` where a number cannot be put where it is to go, otherwise 0.
-fn answered(state: State, sizes: Sizes, put: bool) -> Damaged
+fn shown(state: State, sizes: Sizes, put: bool) -> Damaged
     ensures { λ r. ⌜ (r .state ≡ state) × (r .sizes ≡ sizes) × (r .answer ≡ answerIf put) × (r .value ≡ Shown.Nothing) ⌝ }
 {
     if put {
@@ -33,6 +34,14 @@ fn answered(state: State, sizes: Sizes, put: bool) -> Damaged
         answer: Shown::Unknown,
         value: Shown::Nothing,
     }
+}
+
+// The same of a record put anew.
+fn recorded(put: Put, sizes: Sizes) -> Damaged
+    ensures { λ r. ⌜ (r .state ≡ put .state) × (r .sizes ≡ sizes) × (r .answer ≡ answerIf (put .put)) × (r .value ≡ Shown.Nothing) ⌝ }
+{
+    let state = put.state;
+    shown(state, sizes, put.put)
 }
 
 // "over the room: `?`".
@@ -72,9 +81,9 @@ fn put_lengths(
         resize(memory, sizes.memory, m as usize);
         resize(cache, sizes.cache, c as usize);
         resize_list(entries, sizes.list, e as usize);
-        return answered(state, new, true);
+        return shown(state, new, true);
     }
-    answered(state, sizes, false)
+    shown(state, sizes, false)
 }
 
 // The checksum shown.
@@ -127,34 +136,24 @@ pub fn carry_out(
             cache: c,
             list: e,
         } => put_lengths(state, sizes, memory, cache, entries, m, c, e),
-        Damage::Memory { at, word } => {
-            let put = store(memory, sizes.memory, at, word);
-            answered(state, sizes, put)
-        }
-        Damage::Cache { at, word } => {
-            let put = store(cache, sizes.cache, at, word);
-            answered(state, sizes, put)
-        }
-        Damage::Entry { at, entry } => {
-            let put = store_entry(entries, sizes.list, at, entry);
-            answered(state, sizes, put)
-        }
-        Damage::Field { field, number } => {
-            let r = put_field(state, field, number);
-            let next = r.state;
-            answered(next, sizes, r.put)
-        }
+        Damage::Memory { at, word } => shown(state, sizes, store(memory, sizes.memory, at, word)),
+        Damage::Cache { at, word } => shown(state, sizes, store(cache, sizes.cache, at, word)),
+        Damage::Entry { at, entry } => shown(
+            state,
+            sizes,
+            store_entry(entries, sizes.list, at, entry),
+        ),
+        Damage::Field { field, number } => recorded(put_field(state, field, number), sizes),
         Damage::Worker {
             worker,
             condition,
             next,
             cell,
             value,
-        } => {
-            let r = put_worker(state, worker, condition, next, cell, value);
-            let changed = r.state;
-            answered(changed, sizes, r.put)
-        }
+        } => recorded(
+            put_worker(state, worker, condition, next, cell, value),
+            sizes,
+        ),
         Damage::Checksum => show_checksum(state, sizes, memory, cache, entries),
     }
 }

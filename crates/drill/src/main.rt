@@ -1,5 +1,5 @@
 // The drill program (document 01, "The drill program"): a script on standard input, its answers on standard output.
-use console::Program;
+use script::Program;
 
 fn main() {
     console::run(Program::Drill);

@@ -1,5 +1,5 @@
 // The fault program, the drill with damage: a script on standard input, its answers on standard output.
-use console::Program;
+use script::Program;
 
 fn main() {
     console::run(Program::Fault);

@@ -3,7 +3,7 @@ use mathlib.Core.Path.{sym, _∙_}
 use native.Mathlib.Omega.{arith}
 use lib.Seq.{length-take-le}
 use borrow.Author.Needs.{needs}
-use Rattle.damage.proofs.Arms.{shown, kept-within, sum-shown}
+use Rattle.damage.proofs.Arms.{by-parts, kept-within, sum-shown}
 use Rattle.damage.proofs.damages.show_checksum.Statement.{statement}
 use Rattle.damage.proofs.damages.show_checksum.Tie as tie
 
@@ -18,7 +18,7 @@ slice-aggregate-checksum-3 c = sym (length-take-le _ _ (omega arith))
 
 returns : tie.Need-returns
 returns c = let a = c .before .before .before .before .before .before .before .before .args in (
-  shown (a .memory .now) (a .cache .now) (a .entries .now) (c .summed .ensures)
+  by-parts (a .memory .now) (a .cache .now) (a .entries .now) (c .summed .ensures)
       ∙ sum-shown (a .state) (a .sizes) (a .memory .now) (a .cache .now) (a .entries .now) (c .before .checksum .result) (c .before .checksum .ensures),
   kept-within (c .summed .ensures .1) (c .before .before .before .before .before .before .before .before .pre .0),
 )

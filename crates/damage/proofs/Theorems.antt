@@ -1,0 +1,77 @@
+-- What is put is what is read back.
+use Prim.Native.Nat.{ℕ, zero, suc, _≤_}
+use mathlib.Core.Path.{_≡_, refl, sym, ap, _∙_}
+use mathlib.Core.Bool.{true, false, _&&_}
+use mathlib.Core.List.{List, [], _∷_}
+use native.Mathlib.Omega.{arith}
+use lib.Dec.{leb, eqb}
+use borrow.Author.Tests.{leb-true, eqb-true, ne-eqb}
+use Rattle.board.proofs.Laws.Bools.{clash, and-left, and-right}
+use Rattle.damage.specs.Record.{phaseOf, undoOf, storeOf, fieldFits, withField, unused, conditionFits, conditionOf}
+use Rattle.damage.specs.Checksum.{phaseNumber, undoNumber, storeNumber, requestNumber}
+use Rattle.damage.specs.Damages.{FieldsReadBack, WorkersReadBack}
+
+phase-back : (v : ℕ) → v ≤ 3 → phaseNumber (phaseOf v) ≡ v
+phase-back zero h = refl
+phase-back (suc zero) h = refl
+phase-back (suc (suc zero)) h = refl
+phase-back (suc (suc (suc zero))) h = refl
+phase-back (suc (suc (suc (suc v)))) h = absurd (omega arith)
+
+undo-back : (v : ℕ) → v ≤ 2 → undoNumber (undoOf v) ≡ v
+undo-back zero h = refl
+undo-back (suc zero) h = refl
+undo-back (suc (suc zero)) h = refl
+undo-back (suc (suc (suc v))) h = absurd (omega arith)
+
+store-back : (v : ℕ) → v ≤ 2 → storeNumber (storeOf v) ≡ v
+store-back zero h = refl
+store-back (suc zero) h = refl
+store-back (suc (suc zero)) h = refl
+store-back (suc (suc (suc v))) h = absurd (omega arith)
+
+request-back : (v : ℕ) → v ≤ 1 → requestNumber (eqb v 1) ≡ v
+request-back zero h = refl
+request-back (suc zero) h = refl
+request-back (suc (suc v)) h = absurd (omega arith)
+
+-- There are seven fields.
+no-field : (k v : ℕ) → 7 ≤ k → fieldFits k v ≡ false
+unfolding fieldFits
+no-field k v h =
+    simp (ne-eqb k 0 (λ e. omega arith), ne-eqb k 1 (λ e. omega arith), ne-eqb k 2 (λ e. omega arith), ne-eqb k 3 (λ e. omega arith), ne-eqb k 4 (λ e. omega arith), ne-eqb k 5 (λ e. omega arith), ne-eqb k 6 (λ e. omega arith))
+
+-- There are three conditions.
+no-condition : (c n a v : ℕ) → 3 ≤ c → conditionFits c n a v ≡ false
+unfolding conditionFits
+no-condition c n a v h = simp (ne-eqb c 0 (λ e. omega arith), ne-eqb c 1 (λ e. omega arith), ne-eqb c 2 (λ e. omega arith))
+
+-- Each field.
+pub fields-back : FieldsReadBack
+unfolding fieldFits withField
+fields-back s zero v fits = phase-back v (leb-true v 3 fits)
+fields-back s (suc zero) v fits = refl
+fields-back s (suc (suc zero)) v fits = refl
+fields-back s (suc (suc (suc zero))) v fits = refl
+fields-back s (suc (suc (suc (suc zero)))) v fits = refl
+fields-back s (suc (suc (suc (suc (suc zero))))) v fits = undo-back v (leb-true v 2 fits)
+fields-back s (suc (suc (suc (suc (suc (suc zero)))))) v fits = request-back v (leb-true v 1 fits)
+fields-back s (suc (suc (suc (suc (suc (suc (suc k))))))) v fits = absurd (clash fits (no-field (suc (suc (suc (suc (suc (suc (suc k))))))) v (omega arith)))
+
+-- Numbers that are not used are 0.
+zeros-back : (c n a v : ℕ) → unused n a v ≡ true → c ∷ 0 ∷ 0 ∷ 0 ∷ [] ≡ c ∷ n ∷ a ∷ v ∷ []
+zeros-back c n a v fits =
+    let rest = and-right (eqb n 0) (eqb a 0 && eqb v 0) fits in
+    let n0 = eqb-true n 0 (and-left (eqb n 0) (eqb a 0 && eqb v 0) fits) in
+    let a0 = eqb-true a 0 (and-left (eqb a 0) (eqb v 0) rest) in
+    let v0 = eqb-true v 0 (and-right (eqb a 0) (eqb v 0) rest) in
+    sym (ap (λ (x : ℕ). c ∷ x ∷ a ∷ v ∷ []) n0 ∙ ap (λ (x : ℕ). c ∷ 0 ∷ x ∷ v ∷ []) a0 ∙ ap (λ (x : ℕ). c ∷ 0 ∷ 0 ∷ x ∷ []) v0)
+
+-- Each condition.
+pub workers-back : WorkersReadBack
+unfolding conditionFits conditionOf
+workers-back zero n a v fits = zeros-back 0 n a v fits
+workers-back (suc zero) n a v fits = zeros-back 1 n a v fits
+workers-back (suc (suc zero)) n a v fits =
+    ap (λ (x : ℕ). 2 ∷ x ∷ a ∷ v ∷ []) (store-back n (leb-true n 2 (and-left (leb n 2) (leb a 65535) fits)))
+workers-back (suc (suc (suc c))) n a v fits = absurd (clash fits (no-condition (suc (suc (suc c))) n a v (omega arith)))
