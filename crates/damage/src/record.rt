@@ -1,15 +1,12 @@
 // The state record with a field or a worker put anew.
 ghost use mathlib.Core.Path.{_≡_};
 ghost use mathlib.Core.Bool.{true};
-ghost use Prim.Native.Nat.{_<_};
-ghost use Rattle.board.specs.State.{conditioned};
 ghost use Rattle.damage.specs.Record.{phaseOf, undoOf, storeOf, fieldFits, withField, fieldPut, unused, conditionFits, conditionOf, workerFits, workerPut};
 use board::Condition;
 use board::Phase;
 use board::State;
 use board::Store;
 use board::UndoStep;
-use board::Worker;
 
 // The record, and whether the number could be put; where it could not, the record is as it was.
 pub struct Put {
@@ -162,26 +159,6 @@ fn condition_of(condition: u64, next: u64, cell: u64, value: u64) -> Condition
     }
 }
 
-// The record with a worker in another condition. Each index is a constant, as in `effects::record::conditioned`.
-fn with_worker(state: State, worker: u64, condition: Condition) -> State
-    requires { ⌜ worker < 8 ⌝ }
-    ensures { λ r. ⌜ r ≡ conditioned state worker condition ⌝ }
-{
-    let mut next = state;
-    let put = Worker { condition };
-    match worker {
-        0 => next.worker[0] = put,
-        1 => next.worker[1] = put,
-        2 => next.worker[2] = put,
-        3 => next.worker[3] = put,
-        4 => next.worker[4] = put,
-        5 => next.worker[5] = put,
-        6 => next.worker[6] = put,
-        _ => next.worker[7] = put,
-    }
-    next
-}
-
 // "K w c n a v": worker w gets condition c.
 pub fn put_worker(
     state: State,
@@ -198,7 +175,7 @@ pub fn put_worker(
     }
     if condition_fits(condition, next, cell, value) {
         let given = condition_of(condition, next, cell, value);
-        let changed = with_worker(state, worker, given);
+        let changed = effects::conditioned(state, worker as usize, given);
         return Put {
             state: changed,
             put: true,

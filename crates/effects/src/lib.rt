@@ -9,6 +9,7 @@ mod stores;
 pub use checkpoint::checkpoint_step;
 pub use format::format_step;
 pub use record::Progress;
+pub use record::conditioned;
 pub use record::placed;
 pub use record::progressed;
 pub use record::requesting;

@@ -20,7 +20,7 @@ returns-2 : tie.Need-returns-2
 returns-2 c =
     let a = c .before .before .before .before .before .args in
     let on = and-both _ _ (lt-ltb _ _ (c .before .before .before .before .if1 .left)) (sym (c .before .before .before .condition-fits .ensures) ∙ c .before .before .if2 .taken) in
-    (sym on, c .with-worker .ensures ∙ ap (conditioned (a .state) (a .worker)) (c .before .condition-of .ensures) ∙ sym (chosen _ _ _ on))
+    (sym on, c .conditioned .ensures ∙ ap (conditioned (a .state) (a .worker)) (c .before .condition-of .ensures) ∙ sym (chosen _ _ _ on))
 
 returns-3 : tie.Need-returns-3
 returns-3 c =
