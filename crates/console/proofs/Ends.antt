@@ -1,56 +1,70 @@
 -- A line's end: what is written for it, and that 80 bytes of it are enough.
-use Prim.Native.Nat.{ℕ}
-use mathlib.Core.Path.{_≡_, refl, ap, subst, _∙_}
-use mathlib.Core.List.{List, []}
+use Prim.Native.Nat.{ℕ, _+_, _≤_}
+use mathlib.Core.Path.{_≡_, sym, ap, subst, _∙_}
+use mathlib.Core.List.{List, [], _++_}
 use native.Mathlib.Omega.{arith}
-use lib.ListN.{take}
+use lib.ListN.{length, take, getD}
 use lib.Seq.{getD-take}
 use Rattle.board.specs.Board.{Board}
 use Rattle.script.specs.declared.Line.{Line}
-use Rattle.script.specs.declared.Shown.{Shown}
-use Rattle.script.specs.declared.Shown.the-variants as shown
 use Rattle.script.specs.Grammar.{meaning}
 use Rattle.script.specs.Answers.{answerText, letterOf}
+use Rattle.script.specs.Writing.{Put}
 use Rattle.script.proofs.NumberLaws.{meaning-kept}
+use Rattle.script.proofs.TextLaws.{put-front}
 use Rattle.script.specs.declared.Program.{Program}
+use Rattle.console.specs.declared.answers.Asked.{Asked}
+use Rattle.console.specs.declared.answers.Progress.{Progress}
+use Rattle.console.specs.declared.session.Session.{Session}
+use Rattle.console.specs.Session.{Within}
 use Rattle.console.specs.Lines.{Done, carriedOut}
 use Rattle.console.specs.Transcript.{following, lineText}
-use Rattle.console.specs.Pieces.{Carried, carried, Fed, leaving, ended, Ends}
+use Rattle.console.specs.Pieces.{Carried, carried, Fed, leaving, ended, afterLine, Ready, Reads, Ends}
 
 -- ---- what is written
 
--- The text of an answer whose parts are the line's.
-pub line-text : (program : Program) (b : Board) (n : ℕ) (text : List ℕ) (number letter : ℕ) (k : Line) (d : Done) → number ≡ following n → k ≡ meaning program text → letter ≡ letterOf text (d .answer) → d ≡ carriedOut k b → answerText number letter (d .answer) (d .value) ≡ lineText program (following n) b text
-line-text program b n text number letter k d hn hk hl hd =
-    ap (λ (x : ℕ). answerText x letter (d .answer) (d .value)) hn
-    ∙ ap (λ (x : ℕ). answerText (following n) x (d .answer) (d .value)) hl
-    ∙ ap (λ (x : Done). answerText (following n) (letterOf text (x .answer)) (x .answer) (x .value)) (hd ∙ ap (λ (x : Line). carriedOut x b) hk)
+module _ (program : Program) (b : Board) (n : ℕ) (text : List ℕ) (number letter : ℕ) (k : Line) (d : Done) (counts : number ≡ following n) (means : k ≡ meaning program text) (did : d ≡ carriedOut k b) where
+  -- The text of an answer whose parts are the line's.
+  line-text : letter ≡ letterOf (getD text 0 0) (d .answer) → answerText number letter (d .answer) (d .value) ≡ lineText program (following n) b text
+  line-text heads =
+      ap (λ (x : ℕ). answerText x letter (d .answer) (d .value)) counts
+      ∙ ap (λ (x : ℕ). answerText (following n) x (d .answer) (d .value)) heads
+      ∙ ap (λ (x : Done). answerText (following n) (letterOf (getD text 0 0) (x .answer)) (x .answer) (x .value)) (did ∙ ap (λ (x : Line). carriedOut x b) means)
 
--- What a line leaves.
-pub line-leaves : (program : Program) (b after : Board) (n : ℕ) (text : List ℕ) (number : ℕ) (k : Line) (d : Done) → number ≡ following n → k ≡ meaning program text → after ≡ d .board → d ≡ carriedOut k b → carried after number [] ≡ ended program (carried b n text) .after
-line-leaves program b after n text number k d hn hk ha hd =
-    ap (λ (x : Board). carried x number []) (ha ∙ ap (λ (x : Done). x .board) hd ∙ ap (λ (x : Line). carriedOut x b .board) hk)
-    ∙ ap (λ (x : ℕ). carried (carriedOut (meaning program text) b .board) x []) hn
+  -- What a line leaves.
+  line-leaves : carried (d .board) number [] ≡ ended program (carried b n text) .after
+  line-leaves =
+      ap (λ (x : Board). carried x number []) (ap (λ (x : Done). x .board) did ∙ ap (λ (x : Line). carriedOut x b .board) means)
+      ∙ ap (λ (x : ℕ). carried (carriedOut (meaning program text) b .board) x []) counts
+
+  -- A line's end, once its answer is written behind the others.
+  pub line-ends : letter ≡ letterOf (getD text 0 0) (d .answer) → {out written : List ℕ} {at end : ℕ} → Put out at (answerText number letter (d .answer) (d .value)) written end → end ≤ at + 65 → at + 80 ≤ length out → Ends (ended program (carried b n text)) (carried (d .board) number []) out at written end
+  line-ends heads {out} {written} {at} {end} puts short room =
+      record {
+        leaves = line-leaves;
+        writes = put-front puts (omega (arith, puts .ends)) ∙ ap (λ (t : List ℕ). take at out ++ t) (line-text heads);
+        within = short;
+      }
 
 -- ---- 80 bytes of a line
 
--- The call column of a line by its first 80 bytes.
-letter-kept : (text : List ℕ) (answer : Shown) → letterOf (take 80 text) answer ≡ letterOf text answer
-letter-kept text shown.Unknown = refl
-letter-kept text shown.Nothing = getD-take 80 text 0 0 (omega arith)
-letter-kept text (shown.Number n) = getD-take 80 text 0 0 (omega arith)
+-- A line is read by its first 80 bytes.
+pub reads-kept : {program : Program} {text : List ℕ} {asked : Asked} → Reads program text asked → Reads program (take 80 text) asked
+reads-kept {program} {text} {asked} r =
+    record { means = r .means ∙ sym (meaning-kept program text); begins = r .begins ∙ sym (getD-take 80 text 0 0 (omega arith)) }
 
 -- A line's end by its first 80 bytes.
 pub ended-kept : (program : Program) (b : Board) (n : ℕ) (text : List ℕ) → ended program (carried b n (take 80 text)) ≡ ended program (carried b n text)
 ended-kept program b n text =
     let end : ℕ → Done → Fed = λ letter d. leaving (carried (d .board) (following n) []) (answerText (following n) letter (d .answer) (d .value)) in
     let d = carriedOut (meaning program text) b in
-    ap (λ (k : Line). end (letterOf (take 80 text) (carriedOut k b .answer)) (carriedOut k b)) (meaning-kept program text)
-    ∙ ap (λ (letter : ℕ). end letter d) (letter-kept text (d .answer))
+    ap (λ (k : Line). end (letterOf (getD (take 80 text) 0 0) (carriedOut k b .answer)) (carriedOut k b)) (meaning-kept program text)
+    ∙ ap (λ (first : ℕ). end (letterOf first (d .answer)) d) (getD-take 80 text 0 0 (omega arith))
 
--- ---- what the code does
+-- A line's end that leaves the same by another name.
+pub ends-as : {should : Fed} {after other : Carried} {out written : List ℕ} {at end : ℕ} → Ends should after out at written end → after ≡ other → Ends should other out at written end
+ends-as {should} {after} {other} {out} {written} {at} {end} e same = subst (λ (x : Carried). Ends should x out at written end) same e
 
--- A line's end by another name.
-pub ends-as : {should same : Fed} {after other : Carried} {out written : List ℕ} {at end : ℕ} → Ends should after out at written end → should ≡ same → after ≡ other → Ends same other out at written end
-ends-as {should} {same} {after} {other} {out} {written} {at} {end} e s o =
-    subst (λ (x : Fed). Ends x other out at written end) s (subst (λ (x : Carried). Ends should x out at written end) o e)
+-- After a line the code is ready for the next.
+pub ready-after : {p : Progress} (s : Session) (n : ℕ) → p ≡ afterLine s n → Within s → Ready p
+ready-after s n e fits = subst Ready (sym e) (record { session-within = fits; line-within = omega arith })

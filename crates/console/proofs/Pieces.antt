@@ -15,7 +15,7 @@ use Rattle.script.specs.declared.Program.{Program}
 use Rattle.console.specs.declared.session.Session.{Session}
 use Rattle.console.specs.declared.answers.Progress.{Progress}
 use Rattle.console.specs.Session.{boardOf}
-use Rattle.console.specs.Pieces.{Carried, carried, Fed, leaving, kept, ended, byteFed, andThen, fed, lastText, carriedBy, Ready, Ends}
+use Rattle.console.specs.Pieces.{Carried, carried, Fed, leaving, kept, ended, byteFed, andThen, fed, lastText, carriedBy, Ready, Ends, Stops}
 
 -- ---- the bytes kept of a line
 
@@ -147,10 +147,13 @@ none-last program p m c e line z =
     let none : length (take (p .begun) line) ≡ 0 = ap (λ (k : ℕ). length (take k line)) z in
     sym (chosen (eqb (length (take (p .begun) line)) 0) _ _ (eq-eqb _ 0 none))
 
--- The line begun ends.
-pub line-last : (program : Program) (p : Progress) (m c e line : List ℕ) → Ready p → length line ≡ 80 → (p .begun ≡ 0 → ⊥) → {after : Carried} {out written : List ℕ} {end : ℕ} → Ends (ended program (kept (carriedBy p m c e line) [])) after out 0 written end → take end written ≡ lastText program (carriedBy p m c e line)
-line-last program p m c e line r size some ends =
+-- The line begun ends by the line feed that it lacks.
+pub line-last : (program : Program) (p : Progress) (m c e line : List ℕ) → Ready p → length line ≡ 80 → (p .begun ≡ 0 → ⊥) → {after : Carried} {text : List ℕ} {used written : ℕ} → leaving after text ≡ fed program (carriedBy p m c e line) (take used (feed ∷ [])) → Stops (feed ∷ []) used written → text ≡ lastText program (carriedBy p m c e line)
+unfolding fed
+line-last program p m c e line r size some {after} {text} {used} {written} e′ stops =
+    let from = carriedBy p m c e line in
     let begun : length (take (p .begun) line) ≡ p .begun = length-take-le (p .begun) line (omega (arith, r .line-within)) in
-    ends .writes
-    ∙ ap (λ (q : Carried). ended program q .text) (kept-none (carriedBy p m c e line) (begun-short r line))
+    let whole : used ≡ 1 = omega (arith, stops .used-within, stops .goes-on (omega arith)) in
+    ap (λ (f : Fed). f .text) (e′ ∙ ap (λ (n : ℕ). fed program from (take n (feed ∷ []))) whole)
+    ∙ append-nil (ended program from .text)
     ∙ sym (passedOver (eqb (length (take (p .begun) line)) 0) _ _ (ne-eqb _ 0 (λ z. some (sym begun ∙ z))))

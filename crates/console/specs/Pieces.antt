@@ -4,13 +4,15 @@ use mathlib.Core.Path.{_≡_}
 use mathlib.Core.Bool.{cond}
 use mathlib.Core.List.{List, [], _∷_, _++_, flatten}
 use lib.Dec.{eqb}
-use lib.ListN.{length, take}
+use lib.ListN.{length, take, getD}
 use Rattle.board.specs.Board.{Board}
 use Rattle.script.specs.Ascii.{feed}
 use Rattle.script.specs.Grammar.{meaning}
 use Rattle.script.specs.Answers.{headerText}
 use Rattle.script.specs.declared.Program.{Program}
+use Rattle.console.specs.declared.answers.Asked.{Asked}
 use Rattle.console.specs.declared.answers.Progress.{Progress}
+use Rattle.console.specs.declared.session.Session.{Session}
 use Rattle.console.specs.Session.{boardOf, firstBoard, Within}
 use Rattle.console.specs.Lines.{carriedOut}
 use Rattle.console.specs.Transcript.{following, lineText, transcript}
@@ -82,10 +84,19 @@ abbrev pub carriedBy : Progress → List ℕ → List ℕ → List ℕ → List 
 carriedBy p memory cache entries line =
     carried (boardOf (p .session) memory cache entries) (p .number) (take (p .begun) line)
 
+-- What the code carries on after a line: none is begun.
+abbrev pub afterLine : Session → ℕ → Progress
+afterLine session number = record { session = session; number = number; begun = 0 }
+
 -- What the code carries is within its arrays.
 pub record Ready (p : Progress) : Type 0 where
   pub session-within : Within (p .session)
   pub line-within : p .begun ≤ 80
+
+-- A line is read: what it means, and its first byte, by which its answer is headed.
+pub record Reads (program : Program) (text : List ℕ) (asked : Asked) : Type 0 where
+  pub means : asked .line ≡ meaning program text
+  pub begins : asked .first ≡ getD text 0 0
 
 -- A line's end as it should be, by the code: what is carried on, and the answer written behind `at`, up to `end`.
 pub record Ends (should : Fed) (after : Carried) (out : List ℕ) (at : ℕ) (written : List ℕ) (end : ℕ) : Type 0 where

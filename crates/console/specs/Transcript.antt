@@ -3,6 +3,7 @@ use Prim.Native.Nat.{ℕ, _+_, _%_, _^_}
 use mathlib.Core.Bool.{cond}
 use mathlib.Core.List.{List, [], _∷_, _++_}
 use lib.Dec.{eqb}
+use lib.ListN.{getD}
 use Rattle.board.specs.Board.{Board}
 use Rattle.script.specs.Ascii.{feed}
 use Rattle.script.specs.Grammar.{joined, meaning}
@@ -23,7 +24,7 @@ following n = (n + 1) % 2 ^ 64
 -- What is written for a line: "its number, call, answer, and the value read or -".
 abbrev pub lineText : Program → ℕ → Board → List ℕ → List ℕ
 lineText program number b line =
-    let done = carriedOut (meaning program line) b in answerText number (letterOf line (done .answer)) (done .answer) (done .value)
+    let done = carriedOut (meaning program line) b in answerText number (letterOf (getD line 0 0) (done .answer)) (done .answer) (done .value)
 
 -- What is written for the lines after line `n`, each on the board that the one before it left.
 unfoldable pub answers : Program → ℕ → Board → List (List ℕ) → List ℕ

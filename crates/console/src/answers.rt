@@ -1,21 +1,28 @@
 // The lines of a piece of input, answered one after the other into a buffer.
 ghost use mathlib.Core.Path.{_≡_};
-ghost use mathlib.Core.List.{List, [], _++_};
+ghost use mathlib.Core.List.{List, _++_};
 ghost use Prim.Native.Nat.{ℕ, _+_, _≤_};
 ghost use lib.ListN.{length, take};
-ghost use Rattle.console.specs.Session.{boardOf, Within};
-ghost use Rattle.console.specs.Pieces.{carried, first, leaving, kept, ended, fed, lastText, carriedBy, Ready, Ends, Stops};
+ghost use Rattle.console.specs.Pieces.{first, leaving, kept, ended, fed, lastText, carriedBy, afterLine, Ready, Reads, Ends, Stops};
 use crate::input::feed_at;
 use crate::input::keep;
 use crate::session;
 use crate::session::Session;
+use script::Line;
 use script::Program;
+use script::Shown;
 
 // What is carried from piece to piece: the session, the lines answered, and how many bytes of the line begun are kept.
 pub struct Progress {
     pub session: Session,
     pub number: u64,
     pub begun: usize,
+}
+
+// What a line asks for, and its first byte, 0 for an empty one.
+pub struct Asked {
+    pub line: Line,
+    pub first: u8,
 }
 
 // After a line: what is carried on, and where its answer ends in the buffer.
@@ -43,41 +50,45 @@ pub fn start() -> Progress
     }
 }
 
-// A whole line, answered behind the first `at` bytes of `out`.
-fn answer_line(
-    program: Program,
-    session: Session,
-    answered: u64,
-    memory: &mut [u64; 4104],
-    cache: &mut [u64; 4104],
-    entries: &mut [u16; 1100],
-    line: &[u8],
-    out: &mut [u8; 65536],
-    at: usize,
-) -> Ended
-    requires { ⌜ Within session × (at + 80 ≤ 65536) ⌝ }
-    ensures ends { λ r. ⌜ Ends (ended program (carried (boardOf session (now (memory .entry)) (now (cache .entry)) (now (entries .entry))) answered (now (line .entry)))) (carried (boardOf (r .progress .session) (now (memory .exit)) (now (cache .exit)) (now (entries .exit))) (r .progress .number) []) (now (out .entry)) at (now (out .exit)) (r .end) ⌝ }
-    ensures ready { λ r. ⌜ Within (r .progress .session) × (r .progress .begun ≡ 0) ⌝ }
+// What is carried on after a line: none is begun.
+fn after_line(session: Session, number: u64) -> Progress
+    ensures { λ r. ⌜ r ≡ afterLine session number ⌝ }
 {
-    let number = std::num::wrapping_add_u64(answered, 1);
-    let call = script::parse(program, line);
-    let done = session::act(session, memory, cache, entries, call);
-    let next = done.session;
-    let answer = done.answer;
-    let value = done.value;
-    let letter = script::letter(line, answer);
-    let end = script::put_answer(out, at, number, letter, answer, value);
-    Ended {
-        progress: Progress {
-            session: next,
-            number,
-            begun: 0,
-        },
-        end,
+    Progress {
+        session,
+        number,
+        begun: 0,
     }
 }
 
-// The end of the line begun, of which `rest` are the last bytes.
+// A whole line, read.
+fn asked_by(program: Program, text: &[u8]) -> Asked
+    ensures { λ r. ⌜ Reads program (now (text .entry)) r ⌝ }
+{
+    let line = script::parse(program, text);
+    if text.len() == 0 {
+        return Asked { line, first: 0 };
+    }
+    Asked {
+        line,
+        first: text[0],
+    }
+}
+
+// The line that ends with `rest`, of which `begun` bytes are kept, read.
+fn read_line(program: Program, line: &mut [u8], begun: usize, rest: &[u8]) -> Asked
+    requires { ⌜ (begun ≤ 80) × (length (now line) ≡ 80) ⌝ }
+    ensures { λ r. ⌜ Reads program (take 80 (take begun (now (line .entry)) ++ now (rest .entry))) r ⌝ }
+{
+    if begun == 0 {
+        return asked_by(program, rest);
+    }
+    let size = keep(line, begun, rest);
+    asked_by(program, &line[..size])
+}
+
+// The end of the line begun, of which `rest` are the last bytes: it is read, carried out, and answered behind the first
+// `at` bytes of `out`. A line that is no call leaves the session where it is.
 fn end_line(
     program: Program,
     progress: Progress,
@@ -94,32 +105,25 @@ fn end_line(
     ensures ready { λ r. ⌜ Ready (r .progress) ⌝ }
 {
     let session = progress.session;
-    let begun = progress.begun;
-    if begun == 0 {
-        return answer_line(
-            program,
-            session,
-            progress.number,
-            memory,
-            cache,
-            entries,
-            rest,
-            out,
-            at,
-        );
+    let asked = read_line(program, line, progress.begun, rest);
+    let call = asked.line;
+    let number = std::num::wrapping_add_u64(progress.number, 1);
+    if let Line::Unknown = call {
+        return Ended {
+            progress: after_line(session, number),
+            end: script::put_answer(out, at, number, b'?', Shown::Unknown, Shown::Nothing),
+        };
     }
-    let size = keep(line, begun, rest);
-    answer_line(
-        program,
-        session,
-        progress.number,
-        memory,
-        cache,
-        entries,
-        &line[..size],
-        out,
-        at,
-    )
+    let done = session::act(session, memory, cache, entries, call);
+    let next = done.session;
+    let answer = done.answer;
+    let value = done.value;
+    let letter = script::letter(asked.first, answer);
+    let end = script::put_answer(out, at, number, letter, answer, value);
+    Ended {
+        progress: after_line(next, number),
+        end,
+    }
 }
 
 // What a piece has of a line that does not end in it, kept.
@@ -140,11 +144,11 @@ pub fn answer(
     memory: &mut [u64; 4104],
     cache: &mut [u64; 4104],
     entries: &mut [u16; 1100],
-    line: &mut [u8; 80],
+    line: &mut [u8],
     piece: &[u8],
     out: &mut [u8; 65536],
 ) -> Answers
-    requires { ⌜ Ready progress ⌝ }
+    requires { ⌜ Ready progress × (length (now line) ≡ 80) ⌝ }
     ensures fed { λ r. ⌜ leaving (carriedBy (r .progress) (now (memory .exit)) (now (cache .exit)) (now (entries .exit)) (now (line .exit))) (take (r .written) (now (out .exit))) ≡ fed program (carriedBy progress (now (memory .entry)) (now (cache .entry)) (now (entries .entry)) (now (line .entry))) (take (r .used) (now (piece .entry))) ⌝ }
     ensures stops { λ r. ⌜ Stops (now (piece .entry)) (r .used) (r .written) ⌝ }
     ensures ready { λ r. ⌜ Ready (r .progress) ⌝ }
@@ -190,15 +194,15 @@ pub fn answer_last(
     memory: &mut [u64; 4104],
     cache: &mut [u64; 4104],
     entries: &mut [u16; 1100],
-    line: &mut [u8; 80],
+    line: &mut [u8],
     out: &mut [u8; 65536],
 ) -> usize
-    requires { ⌜ Ready progress ⌝ }
+    requires { ⌜ Ready progress × (length (now line) ≡ 80) ⌝ }
     ensures { λ r. ⌜ (take r (now (out .exit)) ≡ lastText program (carriedBy progress (now (memory .entry)) (now (cache .entry)) (now (entries .entry)) (now (line .entry)))) × (r ≤ 65536) ⌝ }
 {
     if progress.begun == 0 {
         return 0;
     }
-    let r = end_line(program, progress, memory, cache, entries, line, b"", out, 0);
-    r.end
+    let r = answer(program, progress, memory, cache, entries, line, b"\n", out);
+    r.written
 }

@@ -1,117 +1,87 @@
 // An example of a host (docs/HOST.md): it formats a board, changes a cell, takes a checkpoint, changes the cell again,
-// is cut, recovers, and prints what the cell then reads.
+// is cut, recovers, and prints what the cell reads before the cut and after it.
 use board::Call;
 use board::State;
 use libc::STDOUT_FILENO;
 
+// A row of a board with one cell line, and its list.
+type Row = [u64; 16];
+
+type List = [u16; 2];
+
 // Tells the number of a call that was turned down.
 fn told(number: u8) {
     if number != engine::TAKEN {
-        io::write_all(STDOUT_FILENO, b"turned down: ");
+        io::write_all(STDOUT_FILENO, b"turned down by ");
         io::print_decimal(STDOUT_FILENO, number as u64);
-        io::write_all(STDOUT_FILENO, b"\n");
     }
 }
 
 // Makes one call, as often as is asked, and passes on the record that it leaves.
-fn make(
-    state: State,
-    memory: &mut [u64; 16],
-    cache: &mut [u64; 16],
-    list: &mut [u16; 2],
-    call: Call,
-    times: u64,
-) -> State {
-    let mut now = state;
+fn make(s: State, m: &mut Row, c: &mut Row, l: &mut List, call: Call, times: u64) -> State {
+    let mut state = s;
     let mut left = times;
     while left > 0 {
-        let answer = engine::perform(call, now, memory, cache, list);
-        now = answer.state;
+        let answer = engine::perform(call, state, m, c, l);
+        state = answer.state;
         told(answer.number);
         left -= 1;
     }
-    now
+    state
 }
 
-// Prints what a cell reads.
-fn show(
-    state: State,
-    memory: &mut [u64; 16],
-    cache: &mut [u64; 16],
-    list: &mut [u16; 2],
-    cell: u64,
-) {
-    let answer = engine::perform(Call::Read { cell }, state, memory, cache, list);
+// Prints what cell 1 reads.
+fn show(s: State, m: &mut Row, c: &mut Row, l: &mut List) {
+    let answer = engine::perform(Call::Read { cell: 1 }, s, m, c, l);
     io::print_decimal(STDOUT_FILENO, answer.value);
     io::write_all(STDOUT_FILENO, b"\n");
 }
 
-// An update of cell 1 by worker 0: its start, and the three stores of a cell that is not logged yet.
-fn update(
-    state: State,
-    memory: &mut [u64; 16],
-    cache: &mut [u64; 16],
-    list: &mut [u16; 2],
-    value: u64,
-) -> State {
-    let call = Call::Update {
+// Worker 0's update of cell 1.
+fn update(value: u64) -> Call {
+    Call::Update {
         worker: 0,
         cell: 1,
         value,
-    };
-    let begun = make(state, memory, cache, list, call, 1);
-    make(begun, memory, cache, list, Call::Advance { worker: 0 }, 3)
+    }
 }
 
-// A checkpoint of n = 2 listed cells: worker 0 comes to restart point 3 and waits, and n + 3 steps follow.
-fn checkpoint(
-    state: State,
-    memory: &mut [u64; 16],
-    cache: &mut [u64; 16],
-    list: &mut [u16; 2],
-) -> State {
-    let point = Call::RestartPoint {
-        worker: 0,
-        value: 3,
-    };
-    let asked = make(state, memory, cache, list, Call::Request, 1);
-    let begun = make(asked, memory, cache, list, point, 1);
-    let waiting = make(begun, memory, cache, list, Call::Advance { worker: 0 }, 3);
-    make(waiting, memory, cache, list, Call::Step, 5)
+// An update or a restart point of worker 0: its start, and the three stores of a cell that is not logged yet.
+fn change(s: State, m: &mut Row, c: &mut Row, l: &mut List, start: Call) -> State {
+    let begun = make(s, m, c, l, start, 1);
+    make(begun, m, c, l, Call::Advance { worker: 0 }, 3)
 }
 
-fn main() {
-    let mut memory = [0u64; 16];
-    let mut cache = [0u64; 16];
-    let mut list = [0u16; 2];
+// A new board, 7 in cell 1, a checkpoint of n = 2 listed cells in n + 3 steps; then 9 in cell 1, its line written back.
+fn work(m: &mut Row, c: &mut Row, l: &mut List) {
     let format = Call::FormatStart {
         lines: 1,
         workers: 1,
     };
-    let started = make(engine::off(), &mut memory, &mut cache, &mut list, format, 1);
-    let fresh = make(started, &mut memory, &mut cache, &mut list, Call::Step, 3);
-    let seven = update(fresh, &mut memory, &mut cache, &mut list, 7);
-    let kept = checkpoint(seven, &mut memory, &mut cache, &mut list);
-    let nine = update(kept, &mut memory, &mut cache, &mut list, 9);
-    show(nine, &mut memory, &mut cache, &mut list, 1);
-    make(
-        nine,
-        &mut memory,
-        &mut cache,
-        &mut list,
-        Call::WriteBack { line: 1 },
-        1,
-    );
-    cache = [0u64; 16];
-    list = [0u16; 2];
-    let back = make(
-        engine::off(),
-        &mut memory,
-        &mut cache,
-        &mut list,
-        Call::RecoveryStart,
-        1,
-    );
-    let recovered = make(back, &mut memory, &mut cache, &mut list, Call::Step, 4);
-    show(recovered, &mut memory, &mut cache, &mut list, 1);
+    let point = Call::RestartPoint {
+        worker: 0,
+        value: 3,
+    };
+    let started = make(engine::off(), m, c, l, format, 1);
+    let fresh = make(started, m, c, l, Call::Step, 3);
+    let seven = change(fresh, m, c, l, update(7));
+    let asked = make(seven, m, c, l, Call::Request, 1);
+    let waiting = change(asked, m, c, l, point);
+    let kept = make(waiting, m, c, l, Call::Step, 5);
+    let nine = change(kept, m, c, l, update(9));
+    let written = make(nine, m, c, l, Call::WriteBack { line: 1 }, 1);
+    show(written, m, c, l);
+}
+
+// After a cut: 3 steps for the logged cell and 1 for the other.
+fn recover(m: &mut Row, c: &mut Row, l: &mut List) {
+    let started = make(engine::off(), m, c, l, Call::RecoveryStart, 1);
+    let running = make(started, m, c, l, Call::Step, 4);
+    show(running, m, c, l);
+}
+
+fn main() {
+    let mut memory = [0u64; 16];
+    work(&mut memory, &mut [0u64; 16], &mut [0u16; 2]);
+    recover(&mut memory, &mut [0u64; 16], &mut [0u16; 2]);
 }

@@ -3,7 +3,6 @@ use Prim.Native.Nat.{ℕ, zero, suc, _+_, _/_, _%_}
 use mathlib.Core.List.{List, [], _∷_, _++_}
 use mathlib.Core.Bool.{cond}
 use lib.Dec.{ltb}
-use lib.ListN.{getD}
 use Rattle.script.specs.declared.Shown.{Shown}
 use Rattle.script.specs.declared.Shown.the-variants as shown
 use Rattle.script.specs.Ascii.{tab, feed, '-', '0', '?'}
@@ -34,7 +33,7 @@ headerText =
     (108 ∷ 105 ∷ 110 ∷ 101 ∷ []) ++ (tab ∷ []) ++ (99 ∷ 97 ∷ 108 ∷ 108 ∷ []) ++ (tab ∷ []) ++ (97 ∷ 110 ∷ 115 ∷ 119 ∷ 101 ∷ 114 ∷ []) ++ (tab ∷ []) ++ (118 ∷ 97 ∷ 108 ∷ 117 ∷ 101 ∷ []) ++ (feed ∷ [])
 
 -- The call column: the line's own first byte, `?` where the answer is `?`.
-abbrev pub letterOf : List ℕ → Shown → ℕ
-letterOf text shown.Unknown = '?'
-letterOf text shown.Nothing = getD text 0 0
-letterOf text (shown.Number n) = getD text 0 0
+abbrev pub letterOf : ℕ → Shown → ℕ
+letterOf first shown.Unknown = '?'
+letterOf first shown.Nothing = first
+letterOf first (shown.Number n) = first

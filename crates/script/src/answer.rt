@@ -8,16 +8,14 @@ ghost use Rattle.script.specs.Writing.{put, Put};
 use crate::Shown;
 
 // The call column: the line's own first byte, `?` where the answer is `?`.
-pub fn letter(line: &[u8], answer: Shown) -> u8
-    ensures { λ r. ⌜ r ≡ letterOf (now (line .entry)) answer ⌝ }
+pub fn letter(first: u8, answer: Shown) -> u8
+    ensures { λ r. ⌜ r ≡ letterOf first answer ⌝ }
 {
-    if let Shown::Unknown = answer {
-        return b'?';
+    match answer {
+        Shown::Unknown => b'?',
+        Shown::Nothing => first,
+        Shown::Number(_) => first,
     }
-    if line.len() == 0 {
-        return 0;
-    }
-    line[0]
 }
 
 // "line call answer value".

@@ -1,48 +1,59 @@
--- `console::answers::end_line` meets its contract: a line in one piece is read where it stands, another from the bytes kept.
+-- `console::answers::end_line` meets its contract: each part of the answer is the line's, and a line that is no call leaves what was carried.
+use mathlib.Core.Path.{refl, sym, ap, _∙_}
+use mathlib.Core.List.{_++_}
 use Prim.Native.Nat.{ℕ}
-use mathlib.Core.Path.{sym, ap, _∙_}
-use mathlib.Core.List.{List, _++_}
 use native.Mathlib.Omega.{arith}
 use lib.ListN.{take}
 use borrow.Author.Needs.{needs}
+use Rattle.script.specs.Answers.{letterOf}
+use Rattle.script.specs.declared.Line.the-variants as line
+use Rattle.script.specs.declared.Shown.the-variants.{Unknown, Nothing}
+use Rattle.console.specs.declared.answers.Progress.{Progress}
 use Rattle.console.specs.Session.{boardOf}
-use Rattle.console.specs.Pieces.{carried, ended}
-use Rattle.console.proofs.Parts.{part-size}
-use Rattle.console.proofs.Ends.{ended-kept, ends-as}
+use Rattle.console.specs.Lines.{done, left}
+use Rattle.console.specs.Pieces.{carriedBy}
+use Rattle.console.proofs.Acts.{acted}
+use Rattle.console.proofs.Ends.{line-ends, ends-as, ready-after}
 use Rattle.console.proofs.answers.end_line.Statement.{statement}
 use Rattle.console.proofs.answers.end_line.Tie as tie
 
 returns : tie.Need-returns
 returns c =
-    let a = c .before .before .before .before .before .before .before .before .before .args in
+    let start = c .before .before .before .before .before .before .before .before .before .before .before .before .before in
+    let a = start .args in
     let p = a .progress in
-    let r = c .answer-line in
+    let asked = c .before .before .before .before .before .before .before .before .read-line in
+    let number = c .before .before .before .before .before .wrapping-add-u64 in
+    let next = c .before .before .after-line in
+    let text = take 80 (take (p .begun) (a .line .now) ++ a .rest .now) in
     let b = boardOf (p .session) (a .memory .now) (a .cache .now) (a .entries .now) in
-    let next = boardOf (r .result .progress .session) (r .last .1 .1 .1 .0) (r .last .1 .1 .1 .1 .0) (r .last .1 .1 .1 .1 .1 .0) in
-    let none = ap (λ (k : ℕ). ended (a .program) (carried b (p .number) (take 80 (take k (a .line .now) ++ a .rest .now)))) (c .before .before .before .before .before .if1 .taken) in (
-      ends-as (r .ensures .0) (sym (none ∙ ended-kept (a .program) b (p .number) (a .rest .now)))
-          (sym (ap (λ (k : ℕ). carried next (r .result .progress .number) (take k (a .line .now))) (r .ensures .1 .1))),
-      record { session-within = r .ensures .1 .0; line-within = omega (arith, r .ensures .1 .1) },
+    let did = acted line.Unknown b (done b Unknown Nothing) (c .before .before .before .enum-told .given .1) refl in (
+      ends-as (line-ends (a .program) b (p .number) text (number .result) _ (asked .result .line) _ (number .ensures) (asked .ensures .means) did refl (c .put-answer .ensures .0) (c .put-answer .ensures .1) (omega arith))
+          (sym (ap (λ (q : Progress). carriedBy q (a .memory .now) (a .cache .now) (a .entries .now) (asked .last .1 .0)) (next .ensures))),
+      ready-after (p .session) (number .result) (next .ensures) (start .pre .0 .session-within),
     )
-
-slice-aggregate-answer-line : tie.Need-slice-aggregate-answer-line
-slice-aggregate-answer-line c = part-size _ _ (search needs)
 
 returns-2 : tie.Need-returns-2
 returns-2 c =
-    let a = c .before .before .before .before .before .before .before .before .before .before .before .before .before .before .args in
+    let start = c .before .before .before .before .before .before .before .before .before .before .before .before .before .before .before .before .before .before in
+    let a = start .args in
     let p = a .progress in
-    let r = c .answer-line2 in
-    let k = c .before .before .before .before .before .before .before .before .keep in
+    let asked = c .before .before .before .before .before .before .before .before .before .before .before .before .before .read-line in
+    let number = c .before .before .before .before .before .before .before .before .before .before .wrapping-add-u64 in
+    let act = c .before .before .before .before .before .act in
+    let letter = c .before .before .before .letter in
+    let wrote = c .before .put-answer2 in
+    let next = c .after-line2 in
+    let text = take 80 (take (p .begun) (a .line .now) ++ a .rest .now) in
     let b = boardOf (p .session) (a .memory .now) (a .cache .now) (a .entries .now) in
-    let next = boardOf (r .result .progress .session) (r .last .1 .1 .1 .0) (r .last .1 .1 .1 .1 .0) (r .last .1 .1 .1 .1 .1 .0) in (
-      ends-as (r .ensures .0) (ap (λ (text : List ℕ). ended (a .program) (carried b (p .number) text)) (k .ensures .0))
-          (sym (ap (λ (n : ℕ). carried next (r .result .progress .number) (take n (k .last .0))) (r .ensures .1 .1))),
-      record { session-within = r .ensures .1 .0; line-within = omega (arith, r .ensures .1 .1) },
+    let did = left (act .result) (act .last .1 .0) (act .last .1 .1 .0) (act .last .1 .1 .1 .0) in
+    let heads = letter .ensures ∙ ap (λ (first : ℕ). letterOf first (act .result .answer)) (asked .ensures .begins) in (
+      ends-as (line-ends (a .program) b (p .number) text (number .result) (letter .result) (asked .result .line) did (number .ensures) (asked .ensures .means) (act .ensures .0) heads {out = a .out .now} {at = a .at} (wrote .ensures .0) (wrote .ensures .1) (omega (arith, start .pre .2, c .before .before .put-answer-arg2 .given)))
+          (sym (ap (λ (q : Progress). carriedBy q (act .last .1 .0) (act .last .1 .1 .0) (act .last .1 .1 .1 .0) (asked .last .1 .0)) (next .ensures))),
+      ready-after (act .result .session) (number .result) (next .ensures) (act .ensures .1),
     )
 
 pub end-line-spec : {M : Type 1} → statement M
 end-line-spec =
     tie.close
-    (tie.spec (search needs) returns (search needs) (search needs) slice-aggregate-answer-line (search needs) (search needs)
-    returns-2)
+    (tie.spec (λ c κs. search needs) (λ c κs. search needs) (λ c. search needs) (λ c κs. search needs) (λ c κs. search needs) (λ c. search needs) returns (λ c κs. search needs) (λ c κs. search needs) (λ c κs. search needs) (λ c κs. search needs) (λ c. search needs) returns-2)
