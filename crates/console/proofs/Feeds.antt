@@ -1,12 +1,14 @@
 -- Where a line ends, and what is kept of a line that goes on.
-use Prim.Native.Nat.{ℕ, suc, _+_, _-_, _≤_, _<_}
+use Prim.Native.Nat.{ℕ, zero, suc, _+_, _-_, _≤_, _<_}
 use mathlib.Core.Path.{_≡_, sym, ap, _∙_}
-use mathlib.Core.Bool.{Bool}
+use mathlib.Core.Bool.{Bool, true, not, _&&_}
 use mathlib.Core.List.{List, _++_}
 use native.Mathlib.Omega.{arith}
+use lib.Dec.{eqb}
 use lib.ListN.{length, take, drop, getD, drop-of-length-le}
 use lib.Seq.{drop-cons, length-take-le, take-append-add}
 use borrow.Author.Tests.{eq-eqb, ne-eqb}
+use Rattle.board.proofs.Laws.Bools.{clash, and-left, and-right, not-of}
 use Rattle.bytes.specs.Bytes.{indexOf, indexAfter}
 use Rattle.script.specs.Ascii.{feed}
 use Rattle.script.specs.Writing.{put}
@@ -28,6 +30,28 @@ feed-later s i h e =
 pub feed-end : (s : List ℕ) (i : ℕ) → length s ≤ i → indexOf feed (drop i s) ≡ 0
 unfolding indexOf
 feed-end s i h = ap (indexOf feed) (drop-of-length-le s h)
+
+-- Neither the byte at `i` nor one of the `n` after it is a line feed.
+unfoldable pub quietFor : List ℕ → ℕ → ℕ → Bool
+quietFor s i zero = not (eqb (getD s i 0) feed)
+quietFor s i (suc n) = quietFor s i n && not (eqb (getD s (i + suc n) 0) feed)
+
+-- A byte that is no line feed, by the test.
+other : (s : List ℕ) (i : ℕ) → not (eqb (getD s i 0) feed) ≡ true → getD s i 0 ≡ feed → ⊥
+other s i t e = clash (eq-eqb (getD s i 0) feed e) (not-of (eqb (getD s i 0) feed) t)
+
+-- Over such bytes the line goes on.
+pub quiet-later : (s : List ℕ) (i n : ℕ) → i + n < length s → quietFor s i n ≡ true → indexOf feed (drop i s) ≡ suc n + indexOf feed (drop (i + suc n) s)
+unfolding quietFor
+quiet-later s i zero h t =
+    let next : i + 1 ≡ suc i = omega arith in
+    omega (arith, feed-later s i (omega arith) (other s i t), ap (λ (k : ℕ). indexOf feed (drop k s)) next)
+quiet-later s i (suc n) h t =
+    let fewer = and-left (quietFor s i n) (not (eqb (getD s (i + suc n) 0) feed)) t in
+    let byte = and-right (quietFor s i n) (not (eqb (getD s (i + suc n) 0) feed)) t in
+    let next : i + suc (suc n) ≡ suc (i + suc n) = omega arith in
+    let further = feed-later s (i + suc n) (omega arith) (other s (i + suc n) byte) in
+    omega (arith, quiet-later s i n (omega arith) fewer, further, ap (λ (k : ℕ). indexOf feed (drop k s)) next)
 
 -- The first `n` bytes of `more`, put behind the bytes kept, are all of it that is kept.
 pub kept-line : (line more after : List ℕ) (begun n end : ℕ) → length line ≡ 80 → begun + n ≤ 80 → n ≤ length more → take n more ≡ take (80 - begun) more → end ≡ begun + n → after ≡ put line begun (take n more) → take end after ≡ take 80 (take begun line ++ more)

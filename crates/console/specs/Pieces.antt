@@ -4,7 +4,8 @@ use mathlib.Core.Path.{_≡_}
 use mathlib.Core.Bool.{cond}
 use mathlib.Core.List.{List, [], _∷_, _++_, flatten}
 use lib.Dec.{eqb}
-use lib.ListN.{length, take, getD}
+use lib.ListN.{length, take, drop, getD}
+use Rattle.bytes.specs.Bytes.{indexOf}
 use Rattle.board.specs.Board.{Board}
 use Rattle.script.specs.Ascii.{feed}
 use Rattle.script.specs.Grammar.{meaning}
@@ -92,6 +93,12 @@ afterLine session number = record { session = session; number = number; begun = 
 pub record Ready (p : Progress) : Type 0 where
   pub session-within : Within (p .session)
   pub line-within : p .begun ≤ 80
+
+-- The line that goes on at `from` goes on at `i`: it ends at the same line feed.
+pub record LineGoesOn (text : List ℕ) (from i : ℕ) : Type 0 where
+  pub later : from ≤ i
+  pub inside : i ≤ length text
+  pub same-end : i + indexOf feed (drop i text) ≡ from + indexOf feed (drop from text)
 
 -- A line is read: what it means, and its first byte, by which its answer is headed.
 pub record Reads (program : Program) (text : List ℕ) (asked : Asked) : Type 0 where

@@ -19,21 +19,21 @@ abbrev μ-loop : tie.MeasureT-loop
 
 returns : tie.Need-returns Inv-loop μ-loop
 returns c =
-    let a = c .before .before .before .before .args in
+    let a = c .before .before .before .before .before .before .args in
     omega (arith, feed-here (a .text .now) (c .before .before .before .loop .i) (omega arith) (c .if1 .taken))
 
 loop-again : tie.Need-loop-again Inv-loop μ-loop
 loop-again c =
-    let s = c .before .before .before .before .args .text .now in
+    let s = c .before .before .before .before .before .before .args .text .now in
     let i = c .before .before .before .loop .i in
     rw add-one (omega (arith, feed-later s i (omega arith) (c .if1 .left)))
 
 returns-2 : tie.Need-returns-2 Inv-loop μ-loop
 returns-2 c =
-    let a = c .before .before .args in
+    let a = c .before .before .before .before .args in
     omega (arith, feed-end (a .text .now) (c .before .loop .i) (omega arith))
 
 pub feed-at-spec : {M : Type 1} → statement M
 feed-at-spec =
     tie.close
-    (tie.spec Inv-loop μ-loop (search needs) (search needs) returns (search needs) (search needs) loop-again returns-2)
+    (tie.spec Inv-loop μ-loop (search needs) (search needs) (search needs) returns (search needs) (search needs) loop-again returns-2)
