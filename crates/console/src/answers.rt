@@ -158,9 +158,10 @@ pub fn answer(
     let mut end = 0;
     while at < piece.len() && end <= 65456 {
         let stop = feed_at(piece, at);
+        let rest = &piece[at..stop];
         if stop == piece.len() {
             return Answers {
-                progress: keep_rest(reached, line, &piece[at..stop]),
+                progress: keep_rest(reached, line, rest),
                 used: stop,
                 written: end,
             };
@@ -172,7 +173,7 @@ pub fn answer(
             cache,
             entries,
             line,
-            &piece[at..stop],
+            rest,
             out,
             end,
         );

@@ -28,7 +28,7 @@ returns c =
     let stop = c .before .before .before .before .before .before .feed-at in
     let k = c .before .before .keep-rest in
     let keeps = kept-by (k .result) (l .reached) (l .memory) (l .cache) (l .entries) (l .line) (k .last .1 .0) _ (k .ensures .0) in (
-      rest-more (a .program) _ _ _ (a .piece .now) (l .at) (l .inv .5) (begun-short (l .inv .3) (l .line)) (stop .result) (omega arith) (stop .ensures .0) (c .before .before .before .before .before .if2 .taken) keeps,
+      rest-more (a .program) _ _ _ (a .piece .now) (l .at) (l .inv .5) (begun-short (l .inv .3) (l .line)) (stop .result) (omega arith) (stop .ensures .0) (c .before .before .before .before .if2 .taken) keeps,
       (
         record { used-within = omega arith; written-within = omega arith; buffer-full = λ h. absurd (omega arith); goes-on = λ h. omega arith },
         k .ensures .1,
@@ -41,7 +41,7 @@ end-line-requires c κs =
 
 -- A line feed stands inside the piece.
 inside : (c : tie.After-reached Inv-loop μ-loop) → c .before .before .before .before .before .before .before .before .before .before .before .feed-at .result < length (c .before .before .before .before .before .before .before .before .before .before .before .before .before .before .before .before .before .args .piece .now)
-inside c = omega (arith, c .before .before .before .before .before .before .before .before .before .before .before .feed-at .ensures .2, c .before .before .before .before .before .before .before .before .before .before .if2 .left)
+inside c = omega (arith, c .before .before .before .before .before .before .before .before .before .before .before .feed-at .ensures .2, c .before .before .before .before .before .before .before .before .before .if2 .left)
 
 add-at : tie.Need-add-at Inv-loop μ-loop
 add-at c = omega (arith, inside c, c .before .before .before .before .before .before .before .before .before .before .before .before .before .before .before .before .before .good)
@@ -89,5 +89,5 @@ pub answer-spec : {M : Type 1} → statement M
 answer-spec =
     tie.close
     (tie.spec Inv-loop μ-loop loop-holds (λ c κs. search needs) (λ c. search needs) (λ c. search needs) (λ c. search needs)
-    (λ c κs. search needs) (λ c. search needs) returns (λ c. search needs) (λ c. search needs) (λ c. search needs) end-line-requires
+    (λ c κs. search needs) (λ c. search needs) returns end-line-requires
     add-at loop-less loop-again (λ c. search needs) returns-2 (λ c. search needs) returns-3)
