@@ -72,3 +72,22 @@ fn scripts_and_counts_are_printed() {
     assert_eq!(code, Some(0));
     assert!(counts.starts_with("3 scripts, 120 lines\n"));
 }
+
+/// The words after the program's name in each line of README that runs it, without the comment.
+fn readme_commands() -> Vec<Vec<String>> {
+    let readme = std::fs::read_to_string(concat!(env!("CARGO_MANIFEST_DIR"), "/../README.md")).unwrap();
+    let of = |line: &str| line.trim().strip_prefix("reference/target/release/reference ").map(str::to_owned);
+    let words = |command: String| command.split('#').next().unwrap().split_whitespace().map(str::to_owned).collect();
+    readme.lines().filter_map(of).map(words).collect()
+}
+
+#[test]
+fn readme_commands_end_as_readme_says() {
+    let commands = readme_commands();
+    assert!(commands.len() >= 4, "{commands:?}");
+    for command in commands {
+        let words: Vec<&str> = command.iter().map(String::as_str).collect();
+        let caught = if words.contains(&"--mistake") { 1 } else { 0 };
+        assert_eq!(ended(&words).0, Some(caught), "{words:?}");
+    }
+}
