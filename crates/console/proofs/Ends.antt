@@ -15,9 +15,9 @@ use Rattle.script.proofs.TextLaws.{put-front}
 use Rattle.script.specs.declared.Program.{Program}
 use Rattle.console.specs.declared.answers.Asked.{Asked}
 use Rattle.console.specs.declared.answers.Progress.{Progress}
-use Rattle.console.specs.declared.session.Session.{Session}
-use Rattle.console.specs.Session.{Within}
-use Rattle.console.specs.Lines.{Done, carriedOut}
+use Rattle.session.specs.declared.Session.{Session}
+use Rattle.session.specs.Session.{Within}
+use Rattle.session.specs.Lines.{Done, carriedOut}
 use Rattle.console.specs.Transcript.{following, lineText}
 use Rattle.console.specs.Pieces.{Carried, carried, Fed, leaving, ended, afterLine, Ready, Reads, Ends}
 

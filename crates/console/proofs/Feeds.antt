@@ -2,12 +2,13 @@
 use Prim.Native.Nat.{ℕ, zero, suc, _+_, _-_, _≤_, _<_}
 use mathlib.Core.Path.{_≡_, sym, ap, _∙_}
 use mathlib.Core.Bool.{Bool, true, not, _&&_}
-use mathlib.Core.List.{List, _++_}
+use mathlib.Core.List.{List, [], _++_, append-nil, append-assoc}
 use native.Mathlib.Omega.{arith}
 use lib.Dec.{eqb}
-use lib.ListN.{length, take, drop, getD, drop-of-length-le}
-use lib.Seq.{drop-cons, length-take-le, take-append-add}
+use lib.ListN.{length, take, drop, getD, length-drop, drop-of-length-le}
+use lib.Seq.{drop-cons, drop-drop, drop-length, length-take-le, take-all, take-append-add, take-length}
 use borrow.Author.Tests.{eq-eqb, ne-eqb}
+use borrow.Rule.Slice.PartMut.{midOf, putMid}
 use Rattle.board.proofs.Laws.Bools.{clash, and-left, and-right, not-of}
 use Rattle.bytes.specs.Bytes.{indexOf, indexAfter}
 use Rattle.script.specs.Ascii.{feed}
@@ -52,6 +53,21 @@ quiet-later s i (suc n) h t =
     let next : i + suc (suc n) ≡ suc (i + suc n) = omega arith in
     let further = feed-later s (i + suc n) (omega arith) (other s (i + suc n) byte) in
     omega (arith, quiet-later s i n (omega arith) fewer, further, ap (λ (k : ℕ). indexOf feed (drop k s)) next)
+
+-- ---- what is kept of a line
+
+-- A text copied to the front of what lies behind `at` is the text written there.
+pub appended : (row : List ℕ) (at : ℕ) (text last : List ℕ) → at + length text ≤ length row → last ≡ take (length text) text ++ drop (length text) (midOf at (length row - at) row) → putMid at (length row - at) row last ≡ put row at text
+appended row at text last h e =
+    let size : length row - at ≡ length (drop at row) = sym (length-drop at row) in
+    let part : midOf at (length row - at) row ≡ drop at row = take-all (length row - at) (drop at row) (omega arith) in
+    let rest : drop (length row - at) (drop at row) ≡ [] = ap (λ (k : ℕ). drop k (drop at row)) size ∙ drop-length (drop at row) in
+    let behind : drop (length text) (midOf at (length row - at) row) ≡ drop (at + length text) row = ap (drop (length text)) part ∙ drop-drop (length text) at row in
+    let whole : last ≡ text ++ drop (at + length text) row =
+    e ∙ ap (λ (t : List ℕ). t ++ drop (length text) (midOf at (length row - at) row)) (take-length text) ∙ ap (λ (t : List ℕ). text ++ t) behind in
+    ap (λ (t : List ℕ). take at row ++ (last ++ t)) rest
+    ∙ ap (λ (t : List ℕ). take at row ++ t) (append-nil last ∙ whole)
+    ∙ sym (append-assoc (take at row) text (drop (at + length text) row))
 
 -- The first `n` bytes of `more`, put behind the bytes kept, are all of it that is kept.
 pub kept-line : (line more after : List ℕ) (begun n end : ℕ) → length line ≡ 80 → begun + n ≤ 80 → n ≤ length more → take n more ≡ take (80 - begun) more → end ≡ begun + n → after ≡ put line begun (take n more) → take end after ≡ take 80 (take begun line ++ more)

@@ -12,9 +12,9 @@ use Rattle.board.proofs.Laws.Bools.{chosen, passedOver}
 use Rattle.bytes.specs.Bytes.{indexOf, indexAfter}
 use Rattle.script.specs.Ascii.{feed}
 use Rattle.script.specs.declared.Program.{Program}
-use Rattle.console.specs.declared.session.Session.{Session}
+use Rattle.session.specs.declared.Session.{Session}
 use Rattle.console.specs.declared.answers.Progress.{Progress}
-use Rattle.console.specs.Session.{boardOf}
+use Rattle.session.specs.Session.{boardOf}
 use Rattle.console.specs.Pieces.{Carried, carried, Fed, leaving, kept, ended, byteFed, andThen, fed, lastText, carriedBy, Ready, Ends, Stops}
 
 -- ---- the bytes kept of a line

@@ -13,8 +13,8 @@ use Rattle.script.specs.Ascii.{feed}
 use Rattle.script.specs.Grammar.{joined, meaning}
 use Rattle.script.specs.Answers.{headerText}
 use Rattle.script.specs.declared.Program.{Program}
-use Rattle.console.specs.Session.{firstBoard}
-use Rattle.console.specs.Lines.{carriedOut}
+use Rattle.session.specs.Session.{firstBoard}
+use Rattle.session.specs.Lines.{carriedOut}
 use Rattle.console.specs.Transcript.{linesOf, following, lineText, answers}
 use Rattle.console.specs.Pieces.{Carried, carried, first, Fed, leaving, kept, ended, andThen, fed, lastText, outputs, AnyPieces}
 use Rattle.console.proofs.Ends.{ended-kept}

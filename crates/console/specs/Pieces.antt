@@ -13,9 +13,9 @@ use Rattle.script.specs.Answers.{headerText}
 use Rattle.script.specs.declared.Program.{Program}
 use Rattle.console.specs.declared.answers.Asked.{Asked}
 use Rattle.console.specs.declared.answers.Progress.{Progress}
-use Rattle.console.specs.declared.session.Session.{Session}
-use Rattle.console.specs.Session.{boardOf, firstBoard, Within}
-use Rattle.console.specs.Lines.{carriedOut}
+use Rattle.session.specs.declared.Session.{Session}
+use Rattle.session.specs.Session.{boardOf, firstBoard, Within}
+use Rattle.session.specs.Lines.{carriedOut}
 use Rattle.console.specs.Transcript.{following, lineText, transcript}
 
 -- What is carried from piece to piece: the board, the lines answered, and the line begun.

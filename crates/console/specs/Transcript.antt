@@ -9,8 +9,8 @@ use Rattle.script.specs.Ascii.{feed}
 use Rattle.script.specs.Grammar.{joined, meaning}
 use Rattle.script.specs.Answers.{headerText, answerText, letterOf}
 use Rattle.script.specs.declared.Program.{Program}
-use Rattle.console.specs.Session.{firstBoard}
-use Rattle.console.specs.Lines.{carriedOut}
+use Rattle.session.specs.Session.{firstBoard}
+use Rattle.session.specs.Lines.{carriedOut}
 
 -- "one call a line": an input cut at its line feeds; the last line may lack its own.
 unfoldable pub linesOf : List ℕ → List (List ℕ)

@@ -6,11 +6,10 @@ ghost use lib.ListN.{length, take};
 ghost use Rattle.console.specs.Pieces.{first, leaving, kept, ended, fed, lastText, carriedBy, afterLine, Ready, Reads, Ends, Stops};
 use crate::input::feed_at;
 use crate::input::keep;
-use crate::session;
-use crate::session::Session;
 use script::Line;
 use script::Program;
 use script::Shown;
+use session::Session;
 
 // What is carried from piece to piece: the session, the lines answered, and how many bytes of the line begun are kept.
 pub struct Progress {

@@ -1,7 +1,6 @@
 // The shell of the programs: a script on standard input, its answers on standard output.
 mod answers;
 mod input;
-mod session;
 mod shell;
 
 pub use shell::run;

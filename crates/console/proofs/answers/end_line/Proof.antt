@@ -9,10 +9,10 @@ use Rattle.script.specs.Answers.{letterOf}
 use Rattle.script.specs.declared.Line.the-variants as line
 use Rattle.script.specs.declared.Shown.the-variants.{Unknown, Nothing}
 use Rattle.console.specs.declared.answers.Progress.{Progress}
-use Rattle.console.specs.Session.{boardOf}
-use Rattle.console.specs.Lines.{done, left}
+use Rattle.session.specs.Session.{boardOf}
+use Rattle.session.specs.Lines.{done, left}
 use Rattle.console.specs.Pieces.{carriedBy}
-use Rattle.console.proofs.Acts.{acted}
+use Rattle.session.proofs.Acts.{acted}
 use Rattle.console.proofs.Ends.{line-ends, ends-as, ready-after}
 use Rattle.console.proofs.answers.end_line.Statement.{statement}
 use Rattle.console.proofs.answers.end_line.Tie as tie

@@ -5,7 +5,7 @@ use mathlib.Core.List.{List, _++_}
 use lib.ListN.{take}
 use borrow.Author.Needs.{needs}
 use Rattle.console.specs.Pieces.{Reads}
-use Rattle.console.proofs.Parts.{part-size}
+use Rattle.session.proofs.Rows.{part-size}
 use Rattle.console.proofs.Ends.{reads-kept}
 use Rattle.console.proofs.answers.read_line.Statement.{statement}
 use Rattle.console.proofs.answers.read_line.Tie as tie

@@ -5,7 +5,8 @@ use native.Mathlib.Omega.{arith}
 use lib.ListN.{take, length-take, length-drop}
 use lib.Seq.{length-take-le}
 use borrow.Author.Needs.{needs}
-use Rattle.console.proofs.Parts.{part-size, appended}
+use Rattle.session.proofs.Rows.{part-size}
+use Rattle.console.proofs.Feeds.{appended}
 use Rattle.console.proofs.input.append.Statement.{statement}
 use Rattle.console.proofs.input.append.Tie as tie
 

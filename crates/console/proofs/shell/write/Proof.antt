@@ -1,7 +1,7 @@
 -- `console::shell::write` is safe: the part written is within the buffer.
 use native.Mathlib.Omega.{arith}
 use borrow.Author.Needs.{needs}
-use Rattle.console.proofs.Parts.{part-size}
+use Rattle.session.proofs.Rows.{part-size}
 use Rattle.console.proofs.shell.write.Statement.{statement}
 use Rattle.console.proofs.shell.write.Tie as tie
 

@@ -1,9 +1,9 @@
--- `console::session::act` meets its contract: each arm is told the line, and its contract is that line's.
+-- `session::act` meets its contract: each arm is told the line, and its contract is that line's.
 use mathlib.Core.Path.{refl}
 use borrow.Author.Needs.{needs}
-use Rattle.console.proofs.Acts.{acted, hidden, cut-off, same-within}
-use Rattle.console.proofs.session.act.Statement.{statement}
-use Rattle.console.proofs.session.act.Tie as tie
+use Rattle.session.proofs.Acts.{acted, hidden, cut-off, same-within}
+use Rattle.session.proofs.act.Statement.{statement}
+use Rattle.session.proofs.act.Tie as tie
 
 returns : tie.Need-returns
 returns c = (acted _ _ _ (c .before .before .before .before .before .line .given .1) (c .format .ensures .0), c .format .ensures .1)

@@ -19,9 +19,9 @@ use Rattle.script.specs.declared.Line.the-variants as line
 use Rattle.script.specs.declared.Shown.{Shown}
 use Rattle.script.specs.declared.Shown.the-variants.{Unknown, Nothing, Number}
 use Rattle.damage.specs.Damages.{outcome}
-use Rattle.console.specs.declared.session.Session.{Session}
-use Rattle.console.specs.declared.session.Answered.{Answered}
-use Rattle.console.specs.Session.{boardOf}
+use Rattle.session.specs.declared.Session.{Session}
+use Rattle.session.specs.declared.Answered.{Answered}
+use Rattle.session.specs.Session.{boardOf}
 
 -- What a line leaves and shows: the board, the answer and the value.
 pub record Done : Type 0 where

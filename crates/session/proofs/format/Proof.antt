@@ -1,15 +1,15 @@
--- `console::session::format` meets its contract: the parts lent are within the rows.
+-- `session::format` meets its contract: the parts lent are within the rows.
 use Prim.Native.Nat.{_≤_}
 use mathlib.Core.Path.{_≡_, refl, sym, _∙_}
 use mathlib.Core.Bool.{false}
 use native.Mathlib.Omega.{arith}
 use borrow.Author.Needs.{needs}
 use Rattle.board.specs.Board.{outside}
-use Rattle.console.specs.Session.{boardOf}
-use Rattle.console.proofs.Parts.{part-size}
-use Rattle.console.proofs.Formats.{lines-within, format-down, format-up}
-use Rattle.console.proofs.session.format.Statement.{statement}
-use Rattle.console.proofs.session.format.Tie as tie
+use Rattle.session.specs.Session.{boardOf}
+use Rattle.session.proofs.Rows.{part-size}
+use Rattle.session.proofs.Formats.{lines-within, format-down, format-up}
+use Rattle.session.proofs.format.Statement.{statement}
+use Rattle.session.proofs.format.Tie as tie
 
 -- The limits hold.
 inside : (c : tie.After-state) → outside (c .before .before .before .before .before .before .args .lines) (c .before .before .before .before .before .before .args .workers) ≡ false

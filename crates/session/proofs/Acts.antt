@@ -13,11 +13,11 @@ use Rattle.script.specs.declared.Line.{Line}
 use Rattle.script.specs.declared.Line.the-variants as line
 use Rattle.script.specs.declared.Shown.{Shown}
 use Rattle.script.specs.declared.Shown.the-variants.{Nothing, Number}
-use Rattle.console.specs.declared.session.Session.{Session}
-use Rattle.console.specs.declared.session.Answered.{Answered}
-use Rattle.console.specs.Session.{boardOf, Within}
-use Rattle.console.specs.Lines.{Done, done, carriedOut, left, Switched}
-use Rattle.console.proofs.Parts.{part-back, take-replicate}
+use Rattle.session.specs.declared.Session.{Session}
+use Rattle.session.specs.declared.Answered.{Answered}
+use Rattle.session.specs.Session.{boardOf, Within}
+use Rattle.session.specs.Lines.{Done, done, carriedOut, left, Switched}
+use Rattle.session.proofs.Rows.{part-back, take-replicate}
 
 module _ (i j k : ℕ) (m c e m′ c′ e′ : List ℕ) (im : i ≤ length m) (jc : j ≤ length c) (ke : k ≤ length e) (hm : length m′ ≡ length (take i m)) (hc : length c′ ≡ length (take j c)) (he : length e′ ≡ length (take k e)) where
   -- The board once the parts of its rows are back.

@@ -1,13 +1,13 @@
--- `console::session::repeat` meets its contract. The invariant: the calls left to make lead to the same outcome as all of them.
+-- `session::repeat` meets its contract. The invariant: the calls left to make lead to the same outcome as all of them.
 use mathlib.Core.Path.{_≡_, refl, sym, _∙_}
 use native.Mathlib.Omega.{arith}
 use lib.ListN.{length}
 use borrow.Author.Needs.{needs}
 use Rattle.board.specs.Next.{lent}
-use Rattle.console.specs.Lines.{given, repeated}
-use Rattle.console.proofs.Formats.{one-call, no-call}
-use Rattle.console.proofs.session.repeat.Statement.{statement}
-use Rattle.console.proofs.session.repeat.Tie as tie
+use Rattle.session.specs.Lines.{given, repeated}
+use Rattle.session.proofs.Formats.{one-call, no-call}
+use Rattle.session.proofs.repeat.Statement.{statement}
+use Rattle.session.proofs.repeat.Tie as tie
 
 abbrev Inv-loop : tie.InvT-loop
 Inv-loop call memory₀ cache₀ entries₀ times left₀ number₀ value₀ now₀ memory cache entries left number value now =

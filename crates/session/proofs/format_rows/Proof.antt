@@ -1,4 +1,4 @@
--- `console::session::format_rows` meets its contract: the rows are zeros, then comes the start, then the steps.
+-- `session::format_rows` meets its contract: the rows are zeros, then comes the start, then the steps.
 use mathlib.Core.Path.{_≡_, ap, _∙_}
 use mathlib.Core.List.{List}
 use Prim.Native.Nat.{ℕ, _+_}
@@ -6,10 +6,10 @@ use lib.ListN.{length, replicate}
 use borrow.Author.Needs.{needs}
 use Rattle.board.specs.Next.{lent, Outcome}
 use Rattle.board.specs.Statements.{stepsFrom}
-use Rattle.console.specs.Lines.{given, repeated, formatted}
-use Rattle.console.proofs.Formats.{repeated-steps}
-use Rattle.console.proofs.session.format_rows.Statement.{statement}
-use Rattle.console.proofs.session.format_rows.Tie as tie
+use Rattle.session.specs.Lines.{given, repeated, formatted}
+use Rattle.session.proofs.Formats.{repeated-steps}
+use Rattle.session.proofs.format_rows.Statement.{statement}
+use Rattle.session.proofs.format_rows.Tie as tie
 
 -- As many zeros as the row has words.
 abbrev zeros : List ℕ → List ℕ

@@ -19,8 +19,8 @@ use Rattle.board.proofs.Laws.Bools.{chosen, passedOver, or-left}
 use Rattle.board.proofs.Laws.Taken.{Clear, take as taken-if, lines-in, rows-fine}
 use Rattle.script.specs.declared.Line.the-variants as line
 use Rattle.script.specs.declared.Shown.the-variants.{Nothing, Number}
-use Rattle.console.specs.Lines.{repeated, done, rowsFor, formatted, carriedOut}
-use Rattle.console.proofs.Acts.{board-back}
+use Rattle.session.specs.Lines.{repeated, done, rowsFor, formatted, carriedOut}
+use Rattle.session.proofs.Acts.{board-back}
 
 -- One call fewer to make from the outcome that a call gives.
 pub one-call : (n : ℕ) (call : Call) (o after : Outcome) → 0 < n → after ≡ outcome call (o .board) → repeated (n - 1) call after ≡ repeated n call o

@@ -1,13 +1,11 @@
--- The first words of a row: what the whole is once they come back, zeroed or written behind.
+-- The first words of a row: what the whole is once they come back, or are zeroed.
 use Prim.Native.Nat.{ℕ, _+_, _-_, _≤_, _<_}
 use mathlib.Core.Path.{_≡_, refl, sym, ap, _∙_}
-use mathlib.Core.List.{List, [], _++_, append-nil, append-assoc}
+use mathlib.Core.List.{List, _++_, append-nil}
 use native.Mathlib.Omega.{arith}
-use lib.ListN.{length, take, drop, set, replicate, length-drop, length-set, length-replicate, replicate-append-replicate}
-use lib.Seq.{length-take-le, take-at, take-all, take-length, drop-drop, drop-length}
+use lib.ListN.{length, take, drop, set, replicate, length-set, length-replicate, replicate-append-replicate}
+use lib.Seq.{length-take-le, take-at, drop-length}
 use borrow.Author.Fill.{fill-none, fill-more}
-use borrow.Rule.Slice.PartMut.{midOf, putMid}
-use Rattle.script.specs.Writing.{put}
 
 -- A part of `n` words has `n` words.
 pub part-size : (n : ℕ) (row : List ℕ) → n ≤ length row → n ≡ length (take n row)
@@ -54,18 +52,3 @@ zeroed-all {row} {now} {i} z h =
     ∙ ap (λ (k : ℕ). replicate k 0 ++ drop k row) all
     ∙ ap (λ (l : List ℕ). replicate (length row) 0 ++ l) (drop-length row)
     ∙ append-nil (replicate (length row) 0)
-
--- ---- a text written behind others
-
--- A text copied to the front of what lies behind `at` is the text written there.
-pub appended : (row : List ℕ) (at : ℕ) (text last : List ℕ) → at + length text ≤ length row → last ≡ take (length text) text ++ drop (length text) (midOf at (length row - at) row) → putMid at (length row - at) row last ≡ put row at text
-appended row at text last h e =
-    let size : length row - at ≡ length (drop at row) = sym (length-drop at row) in
-    let part : midOf at (length row - at) row ≡ drop at row = take-all (length row - at) (drop at row) (omega arith) in
-    let rest : drop (length row - at) (drop at row) ≡ [] = ap (λ (k : ℕ). drop k (drop at row)) size ∙ drop-length (drop at row) in
-    let behind : drop (length text) (midOf at (length row - at) row) ≡ drop (at + length text) row = ap (drop (length text)) part ∙ drop-drop (length text) at row in
-    let whole : last ≡ text ++ drop (at + length text) row =
-    e ∙ ap (λ (t : List ℕ). t ++ drop (length text) (midOf at (length row - at) row)) (take-length text) ∙ ap (λ (t : List ℕ). text ++ t) behind in
-    ap (λ (t : List ℕ). take at row ++ (last ++ t)) rest
-    ∙ ap (λ (t : List ℕ). take at row ++ t) (append-nil last ∙ whole)
-    ∙ sym (append-assoc (take at row) text (drop (at + length text) row))

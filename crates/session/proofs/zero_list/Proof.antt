@@ -1,11 +1,11 @@
--- `console::session::zero` meets its contract. The invariant: the first `i` words are zeroed.
+-- `session::zero_list` meets its contract. The invariant: the first `i` words are zeroed.
 use Prim.Native.Nat.{_-_}
 use native.Mathlib.Omega.{arith}
 use lib.ListN.{length}
 use borrow.Author.Needs.{needs}
-use Rattle.console.proofs.Parts.{Zeroed, zeroed-none, zeroed-more, zeroed-all}
-use Rattle.console.proofs.session.zero.Statement.{statement}
-use Rattle.console.proofs.session.zero.Tie as tie
+use Rattle.session.proofs.Rows.{Zeroed, zeroed-none, zeroed-more, zeroed-all}
+use Rattle.session.proofs.zero_list.Statement.{statement}
+use Rattle.session.proofs.zero_list.Tie as tie
 
 abbrev Inv-loop : tie.InvT-loop
 Inv-loop row₀ i₀ row i = Zeroed row₀ row i
@@ -22,8 +22,8 @@ loop-again c = zeroed-more (c .before .loop .inv) (omega arith)
 returns : tie.Need-returns Inv-loop μ-loop
 returns c = zeroed-all (c .before .loop .inv) (omega arith)
 
-pub zero-spec : {M : Type 1} → statement M
-zero-spec =
+pub zero-list-spec : {M : Type 1} → statement M
+zero-list-spec =
     tie.close
     (tie.spec Inv-loop μ-loop loop-holds (search needs) (search needs) (search needs) (search needs) loop-again
     (search needs) returns)

@@ -1,10 +1,10 @@
--- `console::session::harm` meets its contract: the session's lengths are the rows' sizes.
+-- `session::harm` meets its contract: the session's lengths are the rows' sizes.
 use mathlib.Core.Path.{ap}
 use borrow.Author.Needs.{needs}
 use Rattle.damage.specs.Damages.{Outcome}
-use Rattle.console.specs.Lines.{done}
-use Rattle.console.proofs.session.harm.Statement.{statement}
-use Rattle.console.proofs.session.harm.Tie as tie
+use Rattle.session.specs.Lines.{done}
+use Rattle.session.proofs.harm.Statement.{statement}
+use Rattle.session.proofs.harm.Tie as tie
 
 returns : tie.Need-returns
 returns c =

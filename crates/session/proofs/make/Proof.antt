@@ -1,12 +1,12 @@
--- `console::session::make` meets its contract: the parts lent are within the rows.
+-- `session::make` meets its contract: the parts lent are within the rows.
 use mathlib.Core.Path.{refl}
 use native.Mathlib.Omega.{arith}
 use borrow.Author.Needs.{needs}
-use Rattle.console.specs.Lines.{repeated}
-use Rattle.console.proofs.Parts.{part-size}
-use Rattle.console.proofs.Acts.{made}
-use Rattle.console.proofs.session.make.Statement.{statement}
-use Rattle.console.proofs.session.make.Tie as tie
+use Rattle.session.specs.Lines.{repeated}
+use Rattle.session.proofs.Rows.{part-size}
+use Rattle.session.proofs.Acts.{made}
+use Rattle.session.proofs.make.Statement.{statement}
+use Rattle.session.proofs.make.Tie as tie
 
 returns : tie.Need-returns
 unfolding repeated

@@ -6,7 +6,7 @@ use Rattle.board.specs.declared.Phase.the-variants.{Off}
 use Rattle.board.specs.Board.{Board, rowWords, listWords}
 use Rattle.board.specs.State.{started}
 use Rattle.board.specs.Next.{lent}
-use Rattle.console.specs.declared.session.Session.{Session}
+use Rattle.session.specs.declared.Session.{Session}
 
 -- The board of a session.
 abbrev pub boardOf : Session → List ℕ → List ℕ → List ℕ → Board

@@ -1,0 +1,4 @@
+-- Laws that several functions' proofs cite.
+pub mod Rows
+pub mod Acts
+pub mod Formats
