@@ -94,7 +94,7 @@ pub record Ready (p : Progress) : Type 0 where
   pub session-within : Within (p .session)
   pub line-within : p .begun ≤ 80
 
--- The line that goes on at `from` goes on at `i`: it ends at the same line feed.
+-- The line that goes on at `from` goes on at `i`: it ends at the same place.
 pub record LineGoesOn (text : List ℕ) (from i : ℕ) : Type 0 where
   pub later : from ≤ i
   pub inside : i ≤ length text
