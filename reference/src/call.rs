@@ -1,4 +1,4 @@
-//! The calls of 01 and how one is performed.
+//! The calls and how one is performed.
 
 use crate::board::{Board, Rows, State};
 use crate::causes::cause;
@@ -8,15 +8,35 @@ use crate::mistake::Mistake;
 /// One call with its arguments, each the number it is.
 #[derive(Clone, Copy, PartialEq, Eq, Debug)]
 pub enum Call {
-    Format { lines: u64, workers: u64 },
+    Format {
+        lines: u64,
+        workers: u64,
+    },
     Recovery,
     Step,
-    Update { worker: u64, cell: u64, value: u64 },
-    RestartPoint { worker: u64, value: u64 },
-    Advance { worker: u64 },
+    Update {
+        worker: u64,
+        cell: u64,
+        value: u64,
+    },
+    RestartPoint {
+        worker: u64,
+        value: u64,
+    },
+    Advance {
+        worker: u64,
+    },
     Request,
-    WriteBack { line: u64 },
-    Read { cell: u64 },
+    WriteBack {
+        line: u64,
+    },
+    Read {
+        cell: u64,
+    },
+    /// A page in a text row of so many bytes; `page` is lent the row and writes it.
+    Page {
+        room: u64,
+    },
 }
 
 impl Call {

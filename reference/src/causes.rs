@@ -1,10 +1,11 @@
-//! Why a call is turned down: the table of 01, tested in rising order of number.
+//! Why a call is turned down: the table of 01 and what 02 adds to it, tested in rising order of number.
 
 use crate::board::{Condition, Lent, Phase, State, Store};
 use crate::call::Call;
 use crate::effects::{act_at, Act};
 use crate::line::{cells, row_words, sizes_allowed, LINE_WORDS};
 use crate::mistake::Mistake;
+use crate::page::page_bytes;
 
 /// The number of the first cause that holds, 0 for a call that is taken.
 pub fn cause(call: &Call, state: &State, rows: &Lent, mistake: Option<Mistake>) -> u8 {
@@ -21,6 +22,7 @@ pub fn cause(call: &Call, state: &State, rows: &Lent, mistake: Option<Mistake>) 
         Call::Request => request_cause(state, rows),
         Call::WriteBack { line } => write_back_cause(line, state, rows),
         Call::Read { cell } => read_cause(cell, state, rows),
+        Call::Page { room } => page_cause(room, state, rows, mistake),
     }
 }
 
@@ -194,6 +196,16 @@ fn read_cause(cell: u64, state: &State, rows: &Lent) -> u8 {
         return 7;
     }
     0
+}
+
+/// "12 where the row is too short, checked last"
+fn page_cause(room: u64, state: &State, rows: &Lent, mistake: Option<Mistake>) -> u8 {
+    let short = room < page_bytes(state.lines as u64);
+    match running_cause(state, rows) {
+        0 if short => 12,
+        4 if short && mistake == Some(Mistake::PageTextFirst) => 12,
+        common => common,
+    }
 }
 
 /// Causes 2, 3 and 4 of a call that needs running.

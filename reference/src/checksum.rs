@@ -18,6 +18,11 @@ pub fn of_board(board: &Board) -> u64 {
     of_numbers(fields.chain(workers).chain(memory).chain(cache).chain(list))
 }
 
+/// "For `p` they are the bytes of the text row."
+pub fn of_bytes(text: &[u8]) -> u64 {
+    of_numbers(text.iter().map(|byte| u64::from(*byte)))
+}
+
 /// "its length, then its words"
 fn row(length: usize, words: impl Iterator<Item = u64>) -> impl Iterator<Item = u64> {
     std::iter::once(length as u64).chain(words)

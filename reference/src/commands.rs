@@ -6,7 +6,7 @@ use std::io;
 use reference::explore::check::Check;
 use reference::explore::{exhaustive, explore, Caught, Options};
 use reference::mistake::Mistake;
-use reference::{bench, drill, fault, fault_script, reached, script};
+use reference::{bench, drill, fault, fault_script, page, page_script, reached, script};
 
 use crate::help;
 use crate::streams::{input, output, print};
@@ -19,6 +19,8 @@ pub enum Stop {
     Failed(io::Error),
     /// An exploration caught a violation, which is printed.
     Violated,
+    /// The call was refused; what to say of it.
+    Refused(String),
 }
 
 impl From<io::Error> for Stop {
@@ -39,7 +41,9 @@ pub fn run(words: &[&str]) -> Ended {
         ["drill"] => Ok(drill::run(input()?, output()?)?),
         ["fault"] => Ok(fault::run(input()?, output()?)?),
         ["fault", "--reached", numbers @ ..] => print_reached(numbers),
-        ["script", "--fault", numbers @ ..] => print_fault_script(numbers),
+        ["page"] => print_page(),
+        ["script", "--fault", numbers @ ..] => print_seeded(fault_script::script, numbers),
+        ["script", "--page", numbers @ ..] => print_seeded(page_script::script, numbers),
         ["script", numbers @ ..] => print_script(numbers),
         ["explore", rest @ ..] => run_exploration(rest),
         ["bench", workload, numbers @ ..] => print_workload(workload, numbers),
@@ -63,10 +67,17 @@ fn print_reached(words: &[&str]) -> Ended {
     Ok(print(reached::reached(seeds, lines).to_string().as_bytes())?)
 }
 
-/// reference script --fault SEED LINES
-fn print_fault_script(words: &[&str]) -> Ended {
+/// reference page: the page of the board that a script leads to.
+fn print_page() -> Ended {
+    let refused = |number| Stop::Refused(format!("page: refused by cause {number}: {}", page::words(number)));
+    let text = page::after_script(input()?)?.map_err(refused)?;
+    Ok(print(&text)?)
+}
+
+/// reference script --fault SEED LINES, reference script --page SEED LINES
+fn print_seeded(script: fn(u64, u64) -> Vec<u8>, words: &[&str]) -> Ended {
     let &[seed, lines] = numbers(words)?.as_slice() else { return Err(misused()) };
-    Ok(print(&fault_script::script(seed, lines))?)
+    Ok(print(&script(seed, lines))?)
 }
 
 /// reference script SEED LINES [L W]
@@ -82,8 +93,8 @@ fn print_script(words: &[&str]) -> Ended {
 /// reference bench WORKLOAD L W N ROUNDS SEED: the workload's checksum.
 fn print_workload(workload: &str, words: &[&str]) -> Ended {
     let &[lines, workers, n, rounds, seed] = numbers(words)?.as_slice() else { return Err(misused()) };
-    let round = bench::Round::named(workload).ok_or_else(misused)?;
-    let sum = bench::run(round, lines, workers, n, rounds, seed).ok_or_else(misused)?;
+    let workload = bench::Workload::named(workload).ok_or_else(misused)?;
+    let sum = bench::run(workload, lines, workers, n, rounds, seed).ok_or_else(misused)?;
     Ok(print(format!("{sum}\n").as_bytes())?)
 }
 

@@ -27,6 +27,7 @@ pub fn take(call: &Call, state: &mut State, rows: &mut Rows, mistake: Option<Mis
         }
         Call::WriteBack { line } => write_back(line as usize, rows, mistake),
         Call::Read { cell } => return rows.cache[record_at(cell as usize)],
+        Call::Page { .. } => {}
     }
     0
 }

@@ -4,7 +4,7 @@ use std::io::{BufRead, Result as Done, Write};
 
 use crate::board::Board;
 use crate::call::Call;
-use crate::checksum::of_board;
+use crate::checksum::{of_board, of_bytes};
 use crate::damage::Damage;
 use crate::drill::{self, Drill};
 use crate::program::{self, Program, Reply};
@@ -19,11 +19,30 @@ pub enum Command {
     Damage(Damage),
     /// `T`
     Checksum,
+    /// `p room`
+    Page { room: u64 },
 }
 
+impl Command {
+    /// The call that a line makes by itself.
+    pub fn call(&self) -> Option<Call> {
+        match *self {
+            Command::Drill(drill::Command::Call(call)) => Some(call),
+            Command::Page { room } => Some(Call::Page { room }),
+            _ => None,
+        }
+    }
+}
+
+/// "over 70,000: `?`"
+pub const MOST_ROOM: u64 = 70_000;
+
+/// "each 0xAA before"
+pub const BYTE_BEFORE: u8 = 0xAA;
+
 /// The letters that the drill has not, and how many numbers each has.
-pub const FORMS: [(u8, usize); 8] =
-    [(b'f', 2), (b'W', 3), (b'M', 2), (b'N', 2), (b'Q', 2), (b'B', 2), (b'K', 5), (b'T', 0)];
+pub const FORMS: [(u8, usize); 9] =
+    [(b'f', 2), (b'W', 3), (b'M', 2), (b'N', 2), (b'Q', 2), (b'B', 2), (b'K', 5), (b'T', 0), (b'p', 1)];
 
 /// The fault program as a program.
 pub struct Fault;
@@ -36,6 +55,8 @@ impl Program for Fault {
         let damage = match (fields.letter, fields.count) {
             (b'f', 2) => return Ok(Command::Drill(drill::Command::Call(Call::Format { lines: a, workers: b }))),
             (b'T', 0) => return Ok(Command::Checksum),
+            (b'p', 1) if a > MOST_ROOM => return Err(Unread::NoRoom),
+            (b'p', 1) => return Ok(Command::Page { room: a }),
             (b'W', 3) => Damage::Lengths { memory: a, cache: b, list: c },
             (b'M', 2) => Damage::Memory { at: a, word: b },
             (b'N', 2) => Damage::Cache { at: a, word: b },
@@ -53,6 +74,11 @@ impl Program for Fault {
             Command::Drill(command) => Drill::execute(board, command),
             Command::Damage(damage) => damage.apply(board).map(|()| Reply { number: 0, value: None }),
             Command::Checksum => Ok(Reply { number: 0, value: Some(of_board(board)) }),
+            Command::Page { room } => {
+                let mut text = vec![BYTE_BEFORE; *room as usize];
+                let number = board.page(&mut text);
+                Ok(Reply { number, value: Some(of_bytes(&text)) })
+            }
         }
     }
 }

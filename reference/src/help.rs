@@ -7,23 +7,30 @@ use reference::mistake::MISTAKES;
 pub const USAGE: &str = "usage: reference drill
        reference fault
        reference fault --reached SEEDS LINES
+       reference page
        reference script SEED LINES [L W]
        reference script --fault SEED LINES
+       reference script --page SEED LINES
        reference explore SEED COUNT [--mistake NAME] [--only CHECK]
        reference explore --exhaustive [--mistake NAME] [--only CHECK]
        reference bench WORKLOAD L W N ROUNDS SEED
        reference help";
 
 /// Every command in a few words.
-const COMMANDS: [(&str, &str); 8] = [
+const COMMANDS: [(&str, &str); 10] = [
     ("drill", "01's drill: a script on standard input, its answers on standard output"),
     ("fault", "the same with damage, as fault.md says"),
     ("fault --reached", "how often the scripts of seeds 1 to SEEDS met each answer and each kind of ?"),
+    ("page", "the page of the board that a drill script on standard input leads to"),
     ("script", "a random script for the drill, on boards of any size or of L and W"),
     ("script --fault", "a random script for the fault program"),
+    ("script --page", "a random script for the page, mostly ending on a board that runs"),
     ("explore", "COUNT calls in random sequences with cuts, every check made after each event"),
     ("explore --exhaustive", "every state of the smallest board"),
-    ("bench", "a workload's checksum: update, again, checkpoint, recovery or write-back"),
+    (
+        "bench",
+        "a workload's checksum: update, again, checkpoint, recovery, write-back, page-equal, page-rising or page-random",
+    ),
 ];
 
 /// The commands, the checks and the mistakes.
@@ -44,5 +51,5 @@ pub fn mistakes() -> String {
 
 /// A name and a few words.
 fn entry(name: &str, words: &str) -> String {
-    format!("  {name:<20}  {words}\n")
+    format!("  {name:<22}  {words}\n")
 }

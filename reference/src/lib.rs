@@ -15,6 +15,8 @@ pub mod fault_script;
 pub mod line;
 pub mod machine;
 pub mod mistake;
+pub mod page;
+pub mod page_script;
 pub mod program;
 pub mod random;
 pub mod reached;

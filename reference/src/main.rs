@@ -15,6 +15,10 @@ fn main() -> ExitCode {
     match commands::run(&words) {
         Ok(()) => ExitCode::SUCCESS,
         Err(Stop::Violated) => ExitCode::FAILURE,
+        Err(Stop::Refused(message)) => {
+            streams::tell(&message);
+            ExitCode::FAILURE
+        }
         Err(Stop::Failed(error)) => {
             streams::tell(&format!("reference: {error}"));
             ExitCode::FAILURE

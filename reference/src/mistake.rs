@@ -1,6 +1,6 @@
 //! Boards that are wrong on purpose, so that `explore` can show that it catches them.
 
-/// A mistake or a useless board of 01, by the name it has on the command line.
+/// A mistake or a useless board of 01, or a mistaken page, by the name it has on the command line.
 #[derive(Clone, Copy, PartialEq, Eq, Debug)]
 pub enum Mistake {
     /// "Mark before backup"
@@ -29,10 +29,26 @@ pub enum Mistake {
     NoCause9,
     /// A marked cell that is not added to the list.
     Unlisted,
+    /// Equal marks by falling cell number.
+    PageFallingCells,
+    /// The oldest mark first.
+    PageOlderFirst,
+    /// Record and backup each in the other's column.
+    PageSwapped,
+    /// The last column one narrower.
+    PageNarrow,
+    /// 12 tested before 4.
+    PageTextFirst,
+    /// The byte after the page is changed.
+    PagePastEnd,
+    /// A refused page changes the text row's first byte.
+    PageRefusedWrites,
+    /// No line for the last cell.
+    PageLastCellMissing,
 }
 
 /// Every mistake with its name and a few words.
-pub const MISTAKES: [(&str, Mistake, &str); 13] = [
+pub const MISTAKES: [(&str, Mistake, &str); 21] = [
     ("mark-first", Mistake::MarkFirst, "an update stores the mark before the backup"),
     ("recovery-mark-first", Mistake::RecoveryMarkFirst, "recovery clears a mark before it restores the record"),
     ("recovery-cache-only", Mistake::RecoveryCacheOnly, "recovered lines are not written back"),
@@ -46,6 +62,14 @@ pub const MISTAKES: [(&str, Mistake, &str); 13] = [
     ("refuse-all", Mistake::RefuseAll, "every call is turned down"),
     ("no-cause-9", Mistake::NoCause9, "two workers may update one cell"),
     ("unlisted", Mistake::Unlisted, "a marked cell is not added to the list"),
+    ("page-falling-cells", Mistake::PageFallingCells, "a page has equal marks by falling cell number"),
+    ("page-older-first", Mistake::PageOlderFirst, "a page has the oldest mark first"),
+    ("page-swapped", Mistake::PageSwapped, "a page has record and backup swapped"),
+    ("page-narrow", Mistake::PageNarrow, "a page's last column is one narrower"),
+    ("page-text-first", Mistake::PageTextFirst, "a page's text row is tested before the other rows"),
+    ("page-past-end", Mistake::PagePastEnd, "a page changes the byte after it"),
+    ("page-refused-writes", Mistake::PageRefusedWrites, "a refused page changes its text row"),
+    ("page-last-cell-missing", Mistake::PageLastCellMissing, "a page has no line for the last cell"),
 ];
 
 impl Mistake {

@@ -31,6 +31,18 @@ impl Random {
         self.below(whole) < part
     }
 
+    /// A number of 1 to 20 digits, each count alike, now and then the least or the greatest of its count.
+    pub fn digits(&self) -> u64 {
+        let tens = self.below(20) as u32;
+        let least = if tens == 0 { 0 } else { 10u64.pow(tens) };
+        let most = 10u64.checked_pow(tens + 1).map_or(u64::MAX, |next| next - 1);
+        match self.below(8) {
+            0 => least,
+            1 => most,
+            _ => least + self.below(most - least + 1),
+        }
+    }
+
     /// One of these.
     pub fn pick<T: Copy>(&self, of: &[T]) -> T {
         of[self.below(of.len() as u64) as usize]

@@ -5,15 +5,14 @@ use std::fmt;
 
 use crate::board::Board;
 use crate::call::Call;
-use crate::drill;
 use crate::explore::table::{causes, deciding_part, parts};
-use crate::fault::{self, Command, Fault};
+use crate::fault::{self, Fault};
 use crate::fault_script::script;
 use crate::program::Program;
 use crate::text::{fields, Unread, UNREAD};
 
-/// The letters of calls with the answers that 01's table has for each.
-pub const CAUSES: [(u8, &[u8]); 10] = [
+/// The letters of calls with the answers that the table has for each.
+pub const CAUSES: [(u8, &[u8]); 11] = [
     (b'f', &[0, 1, 4]),
     (b'F', &[0, 1]),
     (b'R', &[0, 4, 5]),
@@ -24,10 +23,11 @@ pub const CAUSES: [(u8, &[u8]); 10] = [
     (b'C', &[0, 2, 3, 4, 10, 11]),
     (b'E', &[0, 2, 3, 4, 7]),
     (b'G', &[0, 2, 3, 4, 7]),
+    (b'p', &[0, 2, 3, 4, 12]),
 ];
 
-/// How many answers there are: 0, and the causes 1 to 11.
-const ANSWERS: usize = 12;
+/// How many answers there are: 0, and the causes 1 to 12.
+const ANSWERS: usize = 13;
 
 /// The counts over some scripts.
 #[derive(Clone, PartialEq, Eq, Debug)]
@@ -90,7 +90,7 @@ impl Reached {
     fn count_read(&mut self, board: &mut Board, line: &[u8]) -> Result<(), Unread> {
         let fields = fields(line)?;
         let command = Fault::command(&fields)?;
-        if let Command::Drill(drill::Command::Call(call)) = command {
+        if let Some(call) = command.call() {
             self.count_causes(board, &call, fields.letter);
         }
         let reply = Fault::execute(board, &command)?;
@@ -124,8 +124,9 @@ impl Reached {
     fn write_answers(&self, out: &mut fmt::Formatter) -> fmt::Result {
         writeln!(out, "| line |{}", (0..ANSWERS).map(|number| format!(" {number} |")).collect::<String>())?;
         writeln!(out, "|---|{}", "---|".repeat(ANSWERS))?;
-        let damaging = fault::FORMS.iter().map(|(letter, _)| *letter).filter(|letter| *letter != b'f');
-        for letter in CAUSES.iter().map(|(letter, _)| *letter).chain([b'X']).chain(damaging) {
+        let calls = CAUSES.map(|(letter, _)| letter);
+        let damaging = fault::FORMS.iter().map(|(letter, _)| *letter).filter(|letter| !calls.contains(letter));
+        for letter in calls.into_iter().chain([b'X']).chain(damaging) {
             writeln!(out, "| {} |{}", letter as char, counts(self.answers[letter as usize].iter().copied()))?;
         }
         writeln!(out)
@@ -133,7 +134,7 @@ impl Reached {
 
     /// For each part of a cause, the calls whose answer hung on it alone.
     fn write_parts(&self, out: &mut fmt::Formatter) -> fmt::Result {
-        let letters = b"fRSUPACEG";
+        let letters = b"fRSUPACEGp";
         let head = letters.iter().map(|letter| format!(" {} |", *letter as char)).collect::<String>();
         writeln!(out, "| answer | hung alone on |{head}")?;
         writeln!(out, "|---|---|{}", "---|".repeat(letters.len()))?;

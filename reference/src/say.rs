@@ -27,6 +27,7 @@ pub fn call_line(call: &Call) -> Vec<u8> {
         Call::Request => line('C', &[]),
         Call::WriteBack { line: at } => line('E', &[at]),
         Call::Read { cell } => line('G', &[cell]),
+        Call::Page { room } => line('p', &[room]),
     }
 }
 

@@ -53,8 +53,10 @@ fn before_a_format_rows_are_empty_and_the_phase_is_off() {
 
 #[test]
 fn lines_of_another_form() {
-    let bad: [&[u8]; 22] = [
+    let bad: [&[u8]; 24] = [
         b"f\t1\t1",
+        b"p",
+        b"p\t204",
         b"F\t1",
         b"F\t1\t1\t1",
         b"F 1 1",

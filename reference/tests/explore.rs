@@ -9,19 +9,20 @@ use reference::script::script;
 fn random_sequences_hold() {
     for seed in 0..4 {
         let tally = explore(&Options { seed, calls: 300_000, mistake: None, only: None }).expect("nothing is violated");
-        assert_eq!(tally.calls, 300_000);
+        assert!(tally.calls >= 300_000, "the last sequence's format is finished: {tally}");
         assert!(tally.answers.iter().all(|count| *count > 20), "every cause is met: {tally}");
         assert!(
             tally.recoveries > 1000 && tally.checkpoints > 1000 && tally.formats > 500 && tally.cuts > 1000,
             "{tally}"
         );
+        assert!(tally.pages > 2000, "{tally}");
     }
 }
 
 #[test]
 fn every_state_of_the_smallest_board_holds() {
     let reached = exhaustive::exhaust(None, None).expect("nothing is violated");
-    assert_eq!((reached.states, reached.transitions), (73_881, 378_361));
+    assert_eq!((reached.states, reached.transitions), (73_881, 431_073));
 }
 
 /// Calls and answers that the drill gives to a script.

@@ -190,7 +190,7 @@ fn a_number_that_cannot_be_put_there_does_nothing() {
 fn lines_of_another_form_do_nothing() {
     let lines =
         "f 1,f 1 1 1,W 16 16,W 16 16 2 0,M 0,M 0 0 0,N 0,N 0 0 0,Q 0,Q 0 0 0,B 0,B 0 0 0,K 0 0 0 0,K 0 0 0 0 0 0,\
-        K 0 0,T 0,p 0,a 0,b 0,n,H 0 0,V 0 0,O 0 0,u 0 1 7,w 16 16 2,m 0 0,q 0 0,k 0 0 0 0 0,t,TT,M +1 0,M 0x1 0,\
+        K 0 0,T 0,p,p 0 0,p 204 ,p +204,P,a 0,b 0,n,H 0 0,V 0 0,O 0 0,u 0 1 7,w 16 16 2,m 0 0,q 0 0,k 0 0 0 0 0,t,TT,M +1 0,M 0x1 0,\
         B 0 3 ,K  0 0 0 0";
     for line in lines.split(',').map(|line| line.trim_start_matches("        ")) {
         let answers = fault(&format!("F 1 1\n{line}\nT"));
@@ -203,6 +203,57 @@ fn lines_of_another_form_do_nothing() {
     let long = |zeros: usize| format!("F 1 1\nM 0 {}1\nT", "0".repeat(zeros));
     assert_eq!(fault(&long(74))[1], "M 0 -");
     assert_eq!(fault(&long(75))[1], "? ? -");
+}
+
+/// The page of the small board.
+const PAGE: &str = "\
+cell               record               backup                 mark
+   0                    0                    0                    0
+   1                    0                    0                    0
+";
+
+/// The checksum of bytes, and of so many more that are 0xAA.
+fn sum_of_text(page: &str, more: usize) -> u64 {
+    let bytes = page.bytes().map(u64::from).chain(std::iter::repeat_n(0xAA, more));
+    sum_of(&bytes.collect::<Vec<_>>())
+}
+
+#[test]
+fn a_page_and_the_checksum_of_its_text_row() {
+    assert_eq!(last("F 1 1\np 204"), format!("p 0 {}", sum_of_text(PAGE, 0)));
+    assert_eq!(last("F 1 1\np 205"), format!("p 0 {}", sum_of_text(PAGE, 1)));
+    assert_eq!(last("F 1 1\np 70000"), format!("p 0 {}", sum_of_text(PAGE, 70_000 - 204)));
+    assert_eq!(last("F 1 1\np 203"), format!("p 12 {}", sum_of_text("", 203)));
+    assert_eq!(last("F 1 1\np 0"), "p 12 14695981039346656037");
+    assert_eq!(last("p 0"), "p 2 14695981039346656037");
+    assert_eq!(last("p 70000"), format!("p 2 {}", sum_of_text("", 70_000)));
+    for line in ["p 70001", "p 65536000", "p 18446744073709551615", "p 18446744073709551616"] {
+        assert_eq!(last(&format!("F 1 1\n{line}")), "? ? -");
+    }
+    assert_eq!(sum("F 1 1\np 204\np 203\np 70001"), sum("F 1 1"));
+    let changed = "\
+cell               record               backup                 mark
+   1                    0                    0 18446744073709551615
+   0                   70                   71                   72
+";
+    let cells = "F 1 1\nN 8 70\nN 9 71\nN 10 72\nN 13 18446744073709551615\nM 8 5\nM 13 5";
+    assert_eq!(last(&format!("{cells}\np 204")), format!("p 0 {}", sum_of_text(changed, 0)));
+}
+
+#[test]
+fn a_page_is_refused_by_the_first_cause_that_holds() {
+    let none = |number: u8, room: usize| format!("p {number} {}", sum_of_text("", room));
+    let broken = fault("F 1 1\nB 0 2\nB 3 3\nW 16 16 1\np 203\nB 0 3\np 203\nB 3 0\np 203\nW 16 16 2\np 203\np 204");
+    let pages: Vec<&String> = broken.iter().filter(|answer| answer.starts_with('p')).collect();
+    let whole = format!("p 0 {}", sum_of_text(PAGE, 0));
+    assert_eq!(pages, [&none(2, 203), &none(3, 203), &none(4, 203), &none(12, 203), &whole]);
+    for (line, number) in [("B 1 512", 3), ("B 2 2", 3), ("K 0 2 0 2 0", 3), ("W 16 24 2", 4), ("W 15 16 2", 4)] {
+        assert_eq!(last(&format!("F 1 1\n{line}\np 69700")), none(number, 69_700), "{line}");
+        assert_eq!(last(&format!("F 1 1\n{line}\np 10")), none(number, 10), "{line}");
+    }
+    assert_eq!(number("F 511 8\np 69563"), "12");
+    assert_eq!(number("F 511 8\np 69564"), "0");
+    assert_eq!(number("F 511 8\nB 1 512\nW 4104 4104 1100\np 70000"), "3");
 }
 
 #[test]

@@ -1,11 +1,10 @@
 //! Random scripts for the fault program: what they reach, and that the board answers them as the table says.
 #![deny(warnings)]
 
-use std::collections::HashSet;
+use std::collections::{HashMap, HashSet};
 
 use reference::board::Board;
 use reference::call::{Answer, Call};
-use reference::drill;
 use reference::explore::answered;
 use reference::explore::check::Checks;
 use reference::explore::table::parts;
@@ -14,7 +13,7 @@ use reference::fault_script::script;
 use reference::mistake::{Mistake, MISTAKES};
 use reference::program::{answer, Program};
 use reference::reached::{orders, reached, CAUSES};
-use reference::say::{damage_line, drill_line};
+use reference::say::{call_line, damage_line, drill_line};
 use reference::text::{fields, UNREAD};
 
 /// The lines of a script.
@@ -36,26 +35,30 @@ fn two_hundred_scripts_reach_every_cause_of_every_call_and_every_kind_of_questio
     for letter in *b"XWMNQBKT" {
         assert!(reached.answers[letter as usize][0] >= 100, "{}", letter as char);
     }
+    for number in [0, 2, 3, 4, 12] {
+        let count = reached.answers[b'p' as usize][number];
+        assert!(count >= 50, "p answers {number} only {count} times");
+    }
     for ((_, words), count) in UNREAD.iter().zip(reached.unread) {
         assert!(count >= 50, "{words}: {count}");
     }
 }
 
 /// Each part of a cause, and the calls whose answer can hang on it alone.
-const PARTS: [(&str, &[u8]); 31] = [
+const PARTS: [(&str, &[u8]); 32] = [
     ("a format's L or W", b"f"),
-    ("phase", b"SUPACEG"),
+    ("phase", b"SUPACEGp"),
     ("a full list", b"A"),
-    ("a worker's cell", b"SUPACEG"),
-    ("place in a checkpoint", b"SUPACEG"),
+    ("a worker's cell", b"SUPACEGp"),
+    ("place in a checkpoint", b"SUPACEGp"),
     ("place in a recovery", b"SE"),
     ("place in a format", b"S"),
-    ("record's list length", b"SUPACEG"),
-    ("record's L or W", b"SUPACEG"),
+    ("record's list length", b"SUPACEGp"),
+    ("record's L or W", b"SUPACEGp"),
     ("list entry used", b"S"),
-    ("list's length", b"fSUPACEG"),
-    ("cache's length", b"fSUPACEG"),
-    ("memory's length", b"fSUPACEG"),
+    ("list's length", b"fSUPACEGp"),
+    ("cache's length", b"fSUPACEGp"),
+    ("memory's length", b"fSUPACEGp"),
     ("list's length at recovery", b"R"),
     ("cache's length at recovery", b"R"),
     ("memory's length at recovery", b"R"),
@@ -74,6 +77,7 @@ const PARTS: [(&str, &[u8]); 31] = [
     ("no request", b"S"),
     ("request while one stands", b"C"),
     ("the last epoch", b"SC"),
+    ("text row", b"p"),
 ];
 
 #[test]
@@ -81,7 +85,7 @@ fn two_hundred_scripts_reach_every_part_of_every_cause_by_itself() {
     let reached = reached(200, 400);
     assert!(parts().all(|(_, part)| PARTS.iter().any(|(known, _)| *known == part)));
     for (part, letters) in PARTS {
-        for letter in *b"fRSUPACEG" {
+        for letter in *b"fRSUPACEGp" {
             let count = reached.part(part, letter);
             assert_eq!(count > 0, letters.contains(&letter), "{part}, {}: {count}", letter as char);
         }
@@ -125,14 +129,6 @@ fn a_checksum_comes_every_few_lines() {
     }
 }
 
-/// The call that a line makes by itself.
-fn call_of(command: &Command) -> Option<Call> {
-    match command {
-        Command::Drill(drill::Command::Call(call)) => Some(*call),
-        _ => None,
-    }
-}
-
 #[test]
 fn every_call_of_every_script_answers_as_the_table_says() {
     for seed in 1..=200 {
@@ -145,8 +141,9 @@ fn every_call_of_every_script_answers_as_the_table_says() {
                 assert_eq!(before, board);
                 continue;
             };
-            if let Some(call) = command.ok().as_ref().and_then(call_of) {
-                let answer = Answer { number: reply.number, value: reply.value.unwrap_or(0) };
+            if let Some(call) = command.ok().and_then(|command| command.call()) {
+                let read = reply.value.filter(|_| matches!(call, Call::Read { .. }));
+                let answer = Answer { number: reply.number, value: read.unwrap_or(0) };
                 let held = answered(Checks { only: None }, &call, &before, &board, answer);
                 assert!(held.is_ok(), "seed {seed}: {held:?}");
             }
@@ -163,10 +160,52 @@ fn a_command_said_is_the_command_read() {
                 Command::Drill(command) => drill_line(command),
                 Command::Damage(damage) => damage_line(damage),
                 Command::Checksum => b"T".to_vec(),
+                Command::Page { room } => call_line(&Call::Page { room: *room }),
             };
             assert_eq!(fields(&said).and_then(|fields| Fault::command(&fields)), Ok(command));
         }
     }
+}
+
+/// A page's line in a few words: how its room stands to what the board's page needs.
+fn room_in_words(board: &Board, line: &[u8]) -> &'static str {
+    let numbers: Vec<&[u8]> = line.split(|byte| *byte == b'\t').skip(1).collect();
+    let need = 68 * (1 + 2 * i64::from(board.state.lines));
+    let [room] = numbers[..] else { return if numbers.is_empty() { "no room" } else { "two rooms" } };
+    let Ok(room) = std::str::from_utf8(room).unwrap_or("").parse::<i64>() else { return "no number" };
+    match (room, room - need) {
+        (70_001.., _) => "over the most",
+        (70_000, _) => "the most",
+        (0, _) => "none",
+        (_, -1) => "one too few",
+        (_, 0) => "just enough",
+        (_, 1) => "one more",
+        (_, 2..) => "more",
+        _ => "too few",
+    }
+}
+
+#[test]
+fn two_hundred_scripts_have_pages_in_text_rows_of_every_kind() {
+    let mut kinds: HashMap<&str, u64> = HashMap::new();
+    let mut pages = HashSet::new();
+    for seed in 1..=200 {
+        let mut board = Board::empty(None);
+        for line in lines(&script(seed, 400)) {
+            let words = (line.first() == Some(&b'p')).then(|| room_in_words(&board, line));
+            let reply = answer::<Fault>(&mut board, line);
+            if let Some(words) = words {
+                *kinds.entry(words).or_default() += 1;
+                pages.extend(reply.ok().filter(|reply| reply.number == 0).and_then(|reply| reply.value));
+            }
+        }
+    }
+    let all = ["none", "one too few", "just enough", "one more", "more", "too few", "the most", "over the most"];
+    for words in all.into_iter().chain(["no room", "two rooms"]) {
+        let count = kinds.get(words).copied().unwrap_or(0);
+        assert!(count >= 20, "{words}: {count}, {kinds:?}");
+    }
+    assert!(pages.len() >= 600, "{} different pages", pages.len());
 }
 
 /// What the board, right or mistaken, answers to a script.

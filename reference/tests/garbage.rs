@@ -30,6 +30,7 @@ fn calls() -> Vec<Call> {
             calls.push(Call::Update { worker: b, cell: a, value: 5 });
         }
     }
+    calls.extend([0, 1, 68, 203, 204, 205, 339, 340, 69_563, 69_564, 69_700].map(|room| Call::Page { room }));
     calls
 }
 
@@ -110,6 +111,7 @@ fn two_places_damaged() {
         Call::Request,
         Call::WriteBack { line: 2 },
         Call::Read { cell: 3 },
+        Call::Page { room: 340 },
         Call::Recovery,
         Call::Format { lines: 2, workers: 3 },
     ];

@@ -25,7 +25,9 @@ fn help_lists_commands_checks_and_mistakes() {
         assert_eq!(ended(words), (Some(0), help.clone(), String::new()), "{words:?}");
     }
     let names = CHECKS.iter().map(|check| check.0).chain(MISTAKES.iter().map(|mistake| mistake.0));
-    for name in names.chain(["drill", "fault", "fault --reached", "script --fault", "explore --exhaustive", "bench"]) {
+    let commands =
+        ["drill", "fault", "fault --reached", "page", "script --fault", "script --page", "explore --exhaustive"];
+    for name in names.chain(commands).chain(["bench"]) {
         assert!(help.contains(&format!("\n  {name} ")), "{name}");
     }
 }
@@ -42,12 +44,15 @@ fn an_unknown_check_or_mistake_lists_the_known_ones() {
 
 #[test]
 fn an_unknown_command_prints_the_usage() {
-    let unknown: [&[&str]; 13] = [
+    let unknown: [&[&str]; 17] = [
         &[],
         &["dril"],
         &["drill", "1"],
         &["fault", "x"],
         &["fault", "--reached", "1"],
+        &["page", "1"],
+        &["script", "--page", "1"],
+        &["script", "--page", "1", "2", "3"],
         &["script"],
         &["script", "1"],
         &["script", "--fault", "1"],
@@ -56,6 +61,7 @@ fn an_unknown_command_prints_the_usage() {
         &["explore", "1", "2", "--only"],
         &["bench", "update", "1"],
         &["bench", "nothing", "1", "1", "1", "1", "1"],
+        &["bench", "page-equal", "1", "1", "3", "1", "1"],
     ];
     for words in unknown {
         let (code, out, error) = ended(words);
@@ -68,6 +74,8 @@ fn an_unknown_command_prints_the_usage() {
 fn scripts_and_counts_are_printed() {
     let script = run(&["script", "--fault", "5", "40"]).stdout;
     assert_eq!(script, reference::fault_script::script(5, 40));
+    let script = run(&["script", "--page", "5", "40"]).stdout;
+    assert_eq!(script, reference::page_script::script(5, 40));
     let (code, counts, _) = ended(&["fault", "--reached", "3", "40"]);
     assert_eq!(code, Some(0));
     assert!(counts.starts_with("3 scripts, 120 lines\n"));

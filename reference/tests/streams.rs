@@ -1,4 +1,4 @@
-//! Where reading or writing fails, drill and fault program say so and end with status 1.
+//! Where reading or writing fails, drill, fault program and page say so and end with status 1.
 #![deny(warnings)]
 
 use std::fs::{File, OpenOptions};
@@ -6,22 +6,28 @@ use std::io::Write;
 use std::os::fd::OwnedFd;
 use std::os::unix::net::UnixStream;
 use std::process::{Command, Output, Stdio};
+use std::sync::atomic::{AtomicUsize, Ordering};
 
-/// One of the two programs with this input and output.
+/// One of the programs with this input and output.
 fn run(program: &str, input: Stdio, output: Stdio) -> Output {
     let mut command = Command::new(env!("CARGO_BIN_EXE_reference"));
     command.arg(program).stdin(input).stdout(output).stderr(Stdio::piped());
     command.spawn().unwrap().wait_with_output().unwrap()
 }
 
-/// Both programs end with status 1 and one line on standard error.
+/// Drill and fault program end with status 1 and one line on standard error.
 fn both_fail(input: impl Fn() -> Stdio, output: impl Fn() -> Stdio) {
     for program in ["drill", "fault"] {
-        let ended = run(program, input(), output());
-        assert_eq!(ended.status.code(), Some(1), "{program}");
-        let message = String::from_utf8(ended.stderr).unwrap();
-        assert!(message.starts_with("reference: ") && message.lines().count() == 1, "{program}: {message}");
+        fails(program, input(), output());
     }
+}
+
+/// One of the programs ends with status 1 and one line on standard error.
+fn fails(program: &str, input: Stdio, output: Stdio) {
+    let ended = run(program, input, output);
+    assert_eq!(ended.status.code(), Some(1), "{program}");
+    let message = String::from_utf8(ended.stderr).unwrap();
+    assert!(message.starts_with("reference: ") && message.lines().count() == 1, "{program}: {message}");
 }
 
 /// A socket's end as a program's stream.
@@ -29,10 +35,17 @@ fn stream(end: UnixStream) -> Stdio {
     OwnedFd::from(end).into()
 }
 
-/// An input that has a script of that many lines.
+/// An input that has a script of that many cuts.
 fn script(lines: usize) -> Stdio {
-    let path = std::env::temp_dir().join(format!("reference-streams-{}-{lines}", std::process::id()));
-    std::fs::write(&path, "X\n".repeat(lines)).unwrap();
+    text(&"X\n".repeat(lines))
+}
+
+/// An input that has this script.
+fn text(script: &str) -> Stdio {
+    static COUNT: AtomicUsize = AtomicUsize::new(0);
+    let count = COUNT.fetch_add(1, Ordering::Relaxed);
+    let path = std::env::temp_dir().join(format!("reference-streams-{}-{count}", std::process::id()));
+    std::fs::write(&path, script).unwrap();
     let file = File::open(&path).unwrap();
     std::fs::remove_file(&path).unwrap();
     file.into()
@@ -65,6 +78,28 @@ fn a_full_device_cannot_be_written() {
 fn an_output_that_nobody_reads_cannot_be_written() {
     both_fail(Stdio::null, || stream(UnixStream::pair().unwrap().0));
     both_fail(|| script(100_000), || stream(UnixStream::pair().unwrap().0));
+}
+
+#[test]
+fn a_page_that_cannot_be_read_or_written_is_a_failure() {
+    fails("page", File::open("/").unwrap().into(), Stdio::piped());
+    fails("page", OpenOptions::new().write(true).open("/dev/null").unwrap().into(), Stdio::piped());
+    for format in ["F\t1\t1\n", "F\t511\t8\n"] {
+        fails("page", text(format), File::open("/dev/null").unwrap().into());
+        fails("page", text(format), OpenOptions::new().write(true).open("/dev/full").unwrap().into());
+        let unread = stream(UnixStream::pair().unwrap().0);
+        fails("page", text(format), unread);
+    }
+}
+
+#[test]
+fn a_page_is_not_printed_where_reading_fails() {
+    let (mut ours, theirs) = UnixStream::pair().unwrap();
+    theirs.set_nonblocking(true).unwrap();
+    ours.write_all(b"F\t1\t1\n").unwrap();
+    let ended = run("page", stream(theirs), Stdio::piped());
+    assert_eq!((ended.status.code(), ended.stdout.as_slice()), (Some(1), &b""[..]));
+    assert!(ended.stderr.starts_with(b"reference: "));
 }
 
 #[test]

@@ -21,10 +21,12 @@ pub enum Check {
     Stores,
     /// The invariant of the design page.
     Invariant,
+    /// Ticket 1: a page's number, and each byte of its text row.
+    Page,
 }
 
 /// Every check with its name and a few words.
-pub const CHECKS: [(&str, Check, &str); 9] = [
+pub const CHECKS: [(&str, Check, &str); 10] = [
     ("causes", Check::Causes, "the table of causes; a refused call leaves all as it was"),
     ("outcome", Check::Outcome, "the complete outcome of a taken call"),
     ("reads", Check::Reads, "a taken read gives the machine's current value"),
@@ -34,6 +36,7 @@ pub const CHECKS: [(&str, Check, &str); 9] = [
     ("progress", Check::Progress, "steps that are owed are taken, as many as foretold"),
     ("stores", Check::Stores, "one store or one write-back a call"),
     ("invariant", Check::Invariant, "the design page's invariant"),
+    ("page", Check::Page, "a page's number and each byte of its text row"),
 ];
 
 impl Check {

@@ -55,6 +55,8 @@ impl Temper {
             Choice::Call(garbage::call(random, &watched.board.state))
         } else if falls_to(80) {
             Choice::Probe
+        } else if falls_to(20) {
+            Choice::Call(Call::Page { room: garbage::room(random, watched.board.state.lines.into()) })
         } else if falls_to(self.write_back) {
             let line = random.below(watched.board.state.lines as u64 + 1);
             Choice::Call(Call::WriteBack { line: if random.chance(1, 4) { 0 } else { line } })
@@ -83,7 +85,7 @@ impl Temper {
         if self.small_values {
             random.below(3)
         } else {
-            random.word()
+            random.pick(&[random.word(), random.digits()])
         }
     }
 }

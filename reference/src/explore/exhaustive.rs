@@ -15,7 +15,7 @@ use crate::mistake::Mistake;
 const LAST_EPOCH: u64 = 3;
 
 /// Every call of the smallest board with two values, refused ones too.
-const CALLS: [Call; 15] = [
+const CALLS: [Call; 18] = [
     Call::Format { lines: 1, workers: 1 },
     Call::Recovery,
     Call::Step,
@@ -31,6 +31,9 @@ const CALLS: [Call; 15] = [
     Call::Read { cell: 0 },
     Call::Read { cell: 1 },
     Call::Read { cell: 2 },
+    Call::Page { room: 203 },
+    Call::Page { room: 204 },
+    Call::Page { room: 205 },
 ];
 
 /// How much was seen.

@@ -2,7 +2,9 @@
 
 use crate::board::{Board, Condition, Phase, State, Store, UndoStep, Update};
 use crate::call::Call;
+use crate::fault::MOST_ROOM;
 use crate::line::{header, LINE_WORDS};
+use crate::page::page_bytes;
 use crate::random::Random;
 use crate::work::some_workers;
 
@@ -22,6 +24,20 @@ fn about(random: &Random, limit: u64) -> u64 {
         1..=4 => random.below(limit + 2),
         _ => (limit + random.below(3)).saturating_sub(1),
     }
+}
+
+/// A text row's bytes, mostly about those that a page of so many lines needs, at most those of the fault program.
+pub fn room(random: &Random, lines: u64) -> u64 {
+    let need = page_bytes(lines);
+    let room = match random.below(10) {
+        0 => 0,
+        1 => random.below(need),
+        2 => need + random.below(200),
+        3 | 4 => need - 1,
+        5 => need + 1,
+        _ => need,
+    };
+    room.min(MOST_ROOM)
 }
 
 /// "A cut may leave any words in cache and list and any state record"
@@ -106,8 +122,9 @@ pub fn board(random: &Random, board: &mut Board) {
     let workers = some_workers(random, lines);
     board.resize(lines);
     board.state = state(random, lines, workers);
+    let wide = random.chance(1, 4);
     for word_of_row in board.memory.iter_mut().chain(&mut board.cache) {
-        *word_of_row = random.below(4);
+        *word_of_row = if wide && random.chance(2, 3) { random.digits() } else { random.below(4) };
     }
     board.list.iter_mut().for_each(|entry| *entry = random.below(2 * lines) as u16);
     let epoch = random.pick(&[1, 2, u64::MAX - 1, u64::MAX]);
@@ -155,7 +172,7 @@ fn spoil_words(random: &Random, board: &mut Board) {
 pub fn call(random: &Random, state: &State) -> Call {
     let (lines, workers) = (state.lines as u64, state.workers as u64);
     let worker = about(random, workers);
-    match random.below(9) {
+    match random.below(10) {
         0 => Call::Format {
             lines: random.pick(&[lines, lines, about(random, lines), about(random, 511)]),
             workers: about(random, 8),
@@ -167,6 +184,7 @@ pub fn call(random: &Random, state: &State) -> Call {
         5 => Call::Advance { worker },
         6 => Call::Request,
         7 => Call::WriteBack { line: about(random, lines) },
-        _ => Call::Read { cell: about(random, 2 * lines) },
+        8 => Call::Read { cell: about(random, 2 * lines) },
+        _ => Call::Page { room: room(random, lines) },
     }
 }

@@ -7,6 +7,7 @@ pub(crate) mod garbage;
 mod invariant;
 mod key;
 mod outcome;
+mod page;
 mod promise;
 mod stores;
 pub mod table;
@@ -150,7 +151,7 @@ impl Explorer {
     fn call(&mut self, call: &Call, watched: &mut Watched) -> Result<(), Violation> {
         self.trace.push(format!("{call:?}"));
         let done = watched.call(call)?;
-        self.tally.answer(done.answer.number);
+        self.tally.answer(call, done.answer.number);
         match done.finished {
             Some(Finished::Format) => self.tally.formats += 1,
             Some(Finished::Checkpoint) => self.tally.checkpoints += 1,
@@ -211,6 +212,6 @@ impl Explorer {
     /// Count a call and keep it for the trace.
     fn note(&mut self, call: &Call, number: u8) {
         self.trace.push(format!("{call:?} (answer {number})"));
-        self.tally.answer(number);
+        self.tally.answer(call, number);
     }
 }

@@ -8,7 +8,7 @@ use crate::line::{header, line_words, LINE_WORDS};
 /// What a taken call did to the rows.
 pub fn rows_changed(call: &Call, before: &Board, after: &Board) -> Finding {
     match call {
-        Call::Format { .. } => unchanged(before, after),
+        Call::Format { .. } | Call::Page { .. } => unchanged(call, before, after),
         Call::Step if before.state.phase == Phase::Formatting => format_line(before, after),
         Call::Recovery => {
             ensure(after.memory == before.memory && after.cache == before.memory && after.list == before.list, || {
@@ -26,10 +26,10 @@ pub fn rows_changed(call: &Call, before: &Board, after: &Board) -> Finding {
     }
 }
 
-/// "The start changes no row."
-fn unchanged(before: &Board, after: &Board) -> Finding {
+/// "The start changes no row", nor does a page.
+fn unchanged(call: &Call, before: &Board, after: &Board) -> Finding {
     ensure(before.memory == after.memory && before.cache == after.cache && before.list == after.list, || {
-        "a format's start changed a row".into()
+        format!("{call:?} changed a row")
     })
 }
 

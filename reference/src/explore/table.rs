@@ -1,5 +1,5 @@
-//! The table "Why a call is turned down" a second time, as a list of causes and their numbers in no order:
-//! the answer is the smallest number whose cause holds. It shares no test with `causes`.
+//! The table "Why a call is turned down" with what 02 adds to it, a second time, as a list of causes and their numbers in
+//! no order: the answer is the smallest number whose cause holds. It shares no test with `causes`.
 
 use crate::board::{Condition, Lent, Phase, State, Store, Update};
 use crate::call::Call;
@@ -15,7 +15,8 @@ struct Case<'a> {
 type Part = (u8, &'static str, fn(&Case) -> bool);
 
 /// Every part of every cause.
-const TABLE: [Part; 31] = [
+const TABLE: [Part; 32] = [
+    (12, "text row", |case| matches!(case.call, Call::Page { room } if (room as u128) < 68 * (case.two_l() + 1))),
     (11, "the last epoch", |case| {
         case.rows.cache.first() == Some(&u64::MAX) && (case.call == Call::Request || case.at_epoch_store())
     }),

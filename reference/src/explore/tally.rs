@@ -2,6 +2,8 @@
 
 use std::fmt;
 
+use crate::call::Call;
+
 /// Counts of events.
 #[derive(Clone, PartialEq, Eq, Debug, Default)]
 pub struct Tally {
@@ -12,13 +14,15 @@ pub struct Tally {
     pub formats: u64,
     pub recoveries: u64,
     pub checkpoints: u64,
-    pub answers: [u64; 12],
+    pub pages: u64,
+    pub answers: [u64; 13],
 }
 
 impl Tally {
-    /// Count one answer, 0 for a taken call.
-    pub fn answer(&mut self, number: u8) {
+    /// Count one call and its answer, 0 for a taken one.
+    pub fn answer(&mut self, call: &Call, number: u8) {
         self.calls += 1;
+        self.pages += (matches!(call, Call::Page { .. }) && number == 0) as u64;
         self.answers[number as usize] += 1;
     }
 }
@@ -32,6 +36,7 @@ impl fmt::Display for Tally {
         writeln!(out, "formats finished within sequences {}", self.formats)?;
         writeln!(out, "recoveries finished {}", self.recoveries)?;
         writeln!(out, "checkpoints released {}", self.checkpoints)?;
+        writeln!(out, "pages taken {}", self.pages)?;
         for (number, count) in self.answers.iter().enumerate() {
             writeln!(out, "answer {number}: {count}")?;
         }

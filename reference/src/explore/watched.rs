@@ -2,7 +2,7 @@
 
 use super::check::{ensure, Check, Checks, Finding, Violation};
 use super::promise::{Finished, Promise};
-use super::{invariant, outcome, stores, table};
+use super::{invariant, outcome, page, stores, table};
 use crate::board::{Board, Phase};
 use crate::call::{Answer, Call};
 use crate::line::{cells, header, LINE_WORDS};
@@ -128,7 +128,7 @@ impl Watched {
     }
 }
 
-/// What holds of one call on any board: demand 1, the complete outcome and statement 6.
+/// What holds of one call on any board: demand 1, the complete outcome, a page's text row with it, and statement 6.
 pub fn answered(checks: Checks, call: &Call, before: &Board, after: &Board, answer: Answer) -> Result<(), Violation> {
     checks.run(Check::Causes, || {
         let expected = table::answer(call, &before.state, before.lent());
@@ -138,6 +138,9 @@ pub fn answered(checks: Checks, call: &Call, before: &Board, after: &Board, answ
         let still = answer.number == 0 || (before == after && answer.value == 0);
         ensure(still, || format!("{call:?} was refused and changed something"))
     })?;
+    if let Call::Page { room } = *call {
+        checks.run(Check::Page, || page::judged(before, room))?;
+    }
     if answer.number != 0 {
         return Ok(());
     }

@@ -97,6 +97,7 @@ impl Script {
             b'A' => self.prepare_advance(worker),
             b'C' => self.prepare_request(),
             b'E' => Call::WriteBack { line: self.random.below(self.lines() + 1) },
+            b'p' => self.prepare_page(),
             _ => Call::Read { cell: self.random.below(self.cells()) },
         }
     }
@@ -197,6 +198,7 @@ impl Script {
             9 => return self.same_cell(call),
             10 => return self.request_fault(call),
             11 => return self.last_epoch(call),
+            12 => *call = Call::Page { room: self.too_short() },
             _ => {}
         }
         Vec::new()

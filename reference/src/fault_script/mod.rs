@@ -4,6 +4,7 @@
 mod aim;
 mod odd;
 mod other_form;
+mod page;
 mod record;
 mod rows;
 mod stretch;

@@ -10,7 +10,7 @@ use crate::text::MOST_BYTES;
 impl Script {
     /// One line that prints `?`, or in a few cases one that just does not.
     pub(super) fn another_form(&mut self) {
-        let text = match self.random.below(14) {
+        let text = match self.random.below(15) {
             0 => Vec::new(),
             1 => self.long(),
             2 => self.unknown_letter(),
@@ -21,6 +21,7 @@ impl Script {
             9 | 10 => self.past_row(),
             11 => self.no_room(),
             12 => self.unused(),
+            13 => return self.page_of_another_form(),
             _ => {
                 let known = self.known();
                 spoil(&self.random, known)
@@ -60,7 +61,7 @@ impl Script {
 
     /// A letter that no line has today: one of a later ticket, of the other case, or of two bytes.
     fn unknown_letter(&self) -> Vec<u8> {
-        let letter = self.random.pick(b"pabnHVOuxcsegrtwmqkLZ09?\xff");
+        let letter = self.random.pick(b"abnHVOuxcsegrtwmqkLZ09?\xff");
         let mut text = self.small(letter, self.random.below(3) as usize);
         if self.random.chance(1, 4) {
             text.insert(1, self.form().0);

@@ -12,7 +12,7 @@ use crate::work::{good_call, some_workers};
 impl Script {
     /// One stretch, and a checksum after it.
     pub(super) fn stretch(&mut self) {
-        match self.random.below(32) {
+        match self.random.below(34) {
             0..=5 => self.work(50),
             6..=17 => self.aimed(),
             18 | 19 => self.odd_record(),
@@ -20,6 +20,7 @@ impl Script {
             23 => self.foreign_board(),
             24 => self.broken_format(),
             25 | 26 => self.other_forms(),
+            27 | 28 => self.pages(),
             _ => self.odd_places(),
         }
         self.sum();
@@ -44,6 +45,9 @@ impl Script {
         if random.chance(1, 12) {
             let at = random.pick(&[0, random.below(state.lines as u64 + 1)]);
             return self.call(Call::WriteBack { line: at });
+        }
+        if random.chance(1, 40) {
+            return self.page();
         }
         let call = match state.phase {
             Phase::Off => Call::Recovery,

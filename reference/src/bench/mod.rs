@@ -1,8 +1,11 @@
 //! Workloads for measuring: the same as those of the proved program in crates/bench, with the same checksum.
 
+mod page;
+
 use crate::board::{Phase, Rows, State};
 use crate::call::{perform, Answer, Call};
 use crate::line::{cells, line_of, mark_at, row_words, sizes_allowed};
+pub use page::Marks;
 
 /// What one round is.
 #[derive(Clone, Copy, PartialEq, Eq, Debug)]
@@ -27,15 +30,25 @@ pub enum Round {
     Reads,
 }
 
-impl Round {
-    /// The rounds that are measured, by their name on the command line.
-    pub fn named(name: &str) -> Option<Round> {
+/// What is measured.
+#[derive(Clone, Copy, PartialEq, Eq, Debug)]
+pub enum Workload {
+    Rounds(Round),
+    Pages(Marks),
+}
+
+impl Workload {
+    /// The workload of that name on the command line.
+    pub fn named(name: &str) -> Option<Workload> {
         Some(match name {
-            "update" => Round::Update,
-            "again" => Round::Again,
-            "checkpoint" => Round::Checkpoint,
-            "recovery" => Round::Recovery,
-            "write-back" => Round::WriteBack,
+            "update" => Workload::Rounds(Round::Update),
+            "again" => Workload::Rounds(Round::Again),
+            "checkpoint" => Workload::Rounds(Round::Checkpoint),
+            "recovery" => Workload::Rounds(Round::Recovery),
+            "write-back" => Workload::Rounds(Round::WriteBack),
+            "page-equal" => Workload::Pages(Marks::Equal),
+            "page-rising" => Workload::Pages(Marks::Rising),
+            "page-random" => Workload::Pages(Marks::Random),
             _ => return None,
         })
     }
@@ -202,7 +215,7 @@ fn prepare(round: Round, plan: Plan, board: &mut Board) {
 
 /// A workload's checksum: the answers of its rounds, and of a read of every cell after them. None for a size that is
 /// not allowed.
-pub fn run(round: Round, lines: u64, workers: u64, n: u64, rounds: u64, seed: u64) -> Option<u64> {
+pub fn run(workload: Workload, lines: u64, workers: u64, n: u64, rounds: u64, seed: u64) -> Option<u64> {
     if !sizes_allowed(lines, workers) || !(workers..=cells(lines)).contains(&n) {
         return None;
     }
@@ -212,8 +225,16 @@ pub fn run(round: Round, lines: u64, workers: u64, n: u64, rounds: u64, seed: u6
     let plan = Plan { lines, workers, n, worker: seed % workers, seed };
     let mut board = Board::off(lines);
     play(Round::Format, plan, 1, &mut board);
-    prepare(round, plan, &mut board);
-    let measured = play(round, plan, rounds, &mut board);
+    let measured = match workload {
+        Workload::Rounds(round) => {
+            prepare(round, plan, &mut board);
+            play(round, plan, rounds, &mut board)
+        }
+        Workload::Pages(marks) => {
+            page::prepare(marks, plan, &mut board);
+            page::play(plan, rounds, &mut board)
+        }
+    };
     let reads = play(Round::Reads, plan, 1, &mut board);
     Some(measured.wrapping_add(reads))
 }

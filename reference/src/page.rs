@@ -1,0 +1,121 @@
+//! Ticket 1: "a heading line (cell, record, backup, mark), then one line for each cell", and the program that prints it.
+
+use std::cmp::Reverse;
+use std::fmt::Display;
+use std::io::{BufRead, Result as Done, Write};
+
+use crate::board::{Board, Lent, State};
+use crate::call::Call;
+use crate::causes::cause;
+use crate::drill::Drill;
+use crate::line::{backup_at, cells, mark_at, record_at, MOST_LINES};
+use crate::mistake::Mistake;
+use crate::program::answer;
+use crate::text::{next_line, MOST_BYTES};
+
+/// "in columns of 4, 20, 20 and 20"
+const COLUMNS: [usize; 4] = [4, 20, 20, 20];
+
+/// "a heading line"
+const HEADING: [&str; 4] = ["cell", "record", "backup", "mark"];
+
+/// The columns' bytes, "one blank between, each ended by a line feed"
+const LINE_BYTES: u64 = 4 + 1 + 20 + 1 + 20 + 1 + 20 + 1;
+
+/// The bytes of the page of a board of so many lines.
+pub fn page_bytes(lines: u64) -> u64 {
+    LINE_BYTES * (cells(lines) + 1)
+}
+
+/// A page at the start of a lent text row: refused with its cause and every byte left as it was, or taken.
+pub fn page(state: &State, rows: &Lent, text: &mut [u8], mistake: Option<Mistake>) -> u8 {
+    let number = cause(&Call::Page { room: text.len() as u64 }, state, rows, mistake);
+    if number == 0 {
+        write_page(cells(state.lines.into()) as usize, rows.cache, text, mistake);
+    } else if mistake == Some(Mistake::PageRefusedWrites) {
+        text.iter_mut().take(1).for_each(|byte| *byte = b' ');
+    }
+    number
+}
+
+impl Board {
+    /// A page of this board.
+    pub fn page(&self, text: &mut [u8]) -> u8 {
+        page(&self.state, &self.lent(), text, self.mistake)
+    }
+}
+
+/// The heading, and a line for each cell.
+fn write_page(cells: usize, cache: &[u64], text: &mut [u8], mistake: Option<Mistake>) {
+    let columns = if mistake == Some(Mistake::PageNarrow) { [4, 20, 20, 19] } else { COLUMNS };
+    let mut rest = put_line(text, columns, HEADING);
+    for (mark, cell) in newest_first(cells, cache, mistake) {
+        let mut values = [cache[record_at(cell)], cache[backup_at(cell)]];
+        if mistake == Some(Mistake::PageSwapped) {
+            values.reverse();
+        }
+        rest = put_line(rest, columns, [cell as u64, values[0], values[1], mark]);
+    }
+    if mistake == Some(Mistake::PagePastEnd) {
+        rest.iter_mut().take(1).for_each(|byte| *byte = b' ');
+    }
+}
+
+/// "newest mark first, equal marks by rising cell number": equal ones stay in the order they had.
+fn newest_first(cells: usize, cache: &[u64], mistake: Option<Mistake>) -> Vec<(u64, usize)> {
+    let shown = if mistake == Some(Mistake::PageLastCellMissing) { cells - 1 } else { cells };
+    let mut marks: Vec<(u64, usize)> = (0..shown).map(|cell| (cache[mark_at(cell)], cell)).collect();
+    if mistake == Some(Mistake::PageFallingCells) {
+        marks.reverse();
+    }
+    if mistake == Some(Mistake::PageOlderFirst) {
+        marks.sort_by_key(|(mark, _)| *mark);
+    } else {
+        marks.sort_by_key(|(mark, _)| Reverse(*mark));
+    }
+    marks
+}
+
+/// A line at the start of a text row, and the rest of the row.
+fn put_line<T: Display>(mut text: &mut [u8], columns: [usize; 4], fields: [T; 4]) -> &mut [u8] {
+    for (at, (width, field)) in columns.into_iter().zip(fields).enumerate() {
+        let (column, rest) = text.split_at_mut(width);
+        put_right(column, field);
+        let (end, rest) = rest.split_at_mut(1);
+        end[0] = if at == 3 { b'\n' } else { b' ' };
+        text = rest;
+    }
+    text
+}
+
+/// "right-aligned, decimal": written at the left of its column, moved to the right, blanks before it.
+fn put_right(column: &mut [u8], field: impl Display) {
+    let mut free = &mut *column;
+    let _ = write!(free, "{field}");
+    let blanks = free.len();
+    column.copy_within(..column.len() - blanks, blanks);
+    column[..blanks].fill(b' ');
+}
+
+/// The page of the board that a drill script leads to, or the number that turns it down.
+pub fn after_script(mut input: impl BufRead) -> Done<Result<Vec<u8>, u8>> {
+    let mut board = Board::empty(None);
+    let mut line = Vec::with_capacity(MOST_BYTES + 1);
+    while next_line(&mut input, &mut line)? {
+        let _ = answer::<Drill>(&mut board, &line);
+    }
+    let mut text = vec![0; page_bytes(MOST_LINES) as usize];
+    let number = board.page(&mut text);
+    text.truncate(page_bytes(board.state.lines.into()) as usize);
+    Ok(if number == 0 { Ok(text) } else { Err(number) })
+}
+
+/// A page's causes in words.
+pub fn words(number: u8) -> &'static str {
+    match number {
+        2 => "phase doesn't allow the call",
+        3 => "state record",
+        4 => "rows",
+        _ => "text row too short",
+    }
+}
