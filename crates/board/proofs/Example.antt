@@ -19,7 +19,7 @@ use Rattle.board.specs.Causes.{badRecord, causes, firstStanding, cause}
 use Rattle.board.specs.Effects.{formatStep, recoveryStep, actAt, performAct, step, advance, advanceOf, effect}
 use Rattle.board.specs.Next.{Taken, taken, next, Kind, startsFormat, startsRecovery, stepping, writing, other, reading, kind, isStart, isStep, valueOf, Performed}
 use Rattle.board.specs.Machine.{Machine, beginning, changed, countUnder, fewer, advanced, checkpointStep, stepped, writeBackSeen, feed}
-use Rattle.board.specs.Sequence.{Takes, finished, steps, between, Begins, formatted, Run, opening, takenCall, refusedCall, called, cutBoard, performs, History, begun, further, undoSteps, recoverySteps}
+use Rattle.board.specs.Sequence.{Takes, finished, steps, between, Begins, formatted, Run, opening, takenCall, unfed, called, cutBoard, performs, History, begun, further, undoSteps, recoverySteps}
 use Rattle.board.specs.Statements.{CutAndRecovered}
 use Rattle.board.specs.Bench.{blankFor, afterCalls}
 use Rattle.board.proofs.Laws.Bools.{on, split, chosen, passedOver, and-off, and-left, and-right}
@@ -81,7 +81,7 @@ recoveredBoard = afterCalls recoveryCalls (next RecoveryStart cutOff)
 stays-up : (k : Call) (r : Run) → r .crashed ≡ false → made k r .crashed ≡ false
 unfolding made
 stays-up k r d =
-    on (λ (x : Run). x .crashed ≡ false) (eqb (cause k (r .board)) 0) (takenCall k (next k (r .board)) r) (refusedCall (next k (r .board)) r) (λ t. and-off (r .crashed) (not (isStart (kind k))) d) (λ t. d)
+    on (λ (x : Run). x .crashed ≡ false) (eqb (cause k (r .board)) 0) (takenCall k (next k (r .board)) r) (unfed (next k (r .board)) r) (λ t. and-off (r .crashed) (not (isStart (kind k))) d) (λ t. d)
 
 -- Calls alone carry a history on.
 calls-history : (ks : List Call) (r : Run) → r .crashed ≡ false → History r → History (madeAll ks r)

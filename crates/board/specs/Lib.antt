@@ -4,6 +4,7 @@ pub mod State
 pub mod Causes
 pub mod Effects
 pub mod Next
+pub mod Page
 pub mod Machine
 pub mod Sequence
 pub mod Statements

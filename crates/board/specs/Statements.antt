@@ -16,7 +16,7 @@ use Rattle.board.specs.State.{conditionOf, isFree, isWaiting, isFormatti
 use Rattle.board.specs.Effects.{writtenBack}
 use Rattle.board.specs.Next.{Taken, next, Kind, startsFormat, startsRecovery, stepping, writing, other, reading, kind, isStep, Performed}
 use Rattle.board.specs.Machine.{Machine, formatSteps}
-use Rattle.board.specs.Sequence.{Takes, Begins, Run, called, cutRun, KeepsLengths, Happens, performs, cuts, History, lastCheckpoint, recoverySteps}
+use Rattle.board.specs.Sequence.{Takes, Begins, Run, called, cutRun, KeepsLengths, Happens, performs, pages, cuts, History, lastCheckpoint, recoverySteps}
 
 -- ---- 1. reads
 
@@ -90,6 +90,7 @@ RecoveredSizes =
 -- What happens is a taken step of a format.
 unfoldable pub formatStepIn : {r r′ : Run} → Happens r r′ → Bool
 formatStepIn (performs {r = r} k number value b p a) = eqb number 0 && isStep (kind k) && isFormatting (r .board .state .phase)
+formatStepIn (pages text left number b p) = false
 formatStepIn (cuts s cache entries p) = false
 
 -- The board keeps its size: L, and every header word in memory but the epoch.

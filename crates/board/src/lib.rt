@@ -1,6 +1,7 @@
 // The declared types of the board: its state record and the calls that a host can make (document 01).
 ghost use mathlib.Core.Path.{_≡_};
 ghost use Rattle.board.specs.Board.{cells, rowWords, listWords};
+ghost use Rattle.board.specs.Page.{pageBytes};
 
 // What the board is doing.
 pub enum Phase {
@@ -82,6 +83,13 @@ pub fn list_words(lines: u16) -> usize
     ensures { λ r. ⌜ r ≡ listWords lines ⌝ }
 {
     cells(lines) as usize
+}
+
+// The bytes of a page: a heading and a line for each cell, 68 bytes each.
+pub fn page_bytes(lines: u16) -> usize
+    ensures { λ r. ⌜ r ≡ pageBytes lines ⌝ }
+{
+    68 * (cells(lines) as usize + 1)
 }
 
 // The same condition, built anew field by field. A record is copied whole only in memory; a worker whose fields are

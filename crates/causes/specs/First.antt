@@ -7,4 +7,4 @@ use Rattle.causes.specs.declared.order.Causes.{Causes}
 abbrev pub firstOf : Causes → ℕ
 firstOf c =
     cond (c .limits) 1 (cond (c .phase) 2 (cond (c .state) 3 (cond (c .rows) 4 (cond (c .header) 5 (cond (c .worker) 6
-    (cond (c .address) 7 (cond (c .condition) 8 (cond (c .conflict) 9 (cond (c .checkpoint) 10 (cond (c .epoch) 11 0))))))))))
+    (cond (c .address) 7 (cond (c .condition) 8 (cond (c .conflict) 9 (cond (c .checkpoint) 10 (cond (c .epoch) 11 (cond (c .text) 12 0)))))))))))

@@ -16,6 +16,7 @@ ghost use Prim.Native.Nat.{ℕ};
 ghost use Rattle.board.specs.declared.Call.{Call};
 ghost use Rattle.board.specs.Causes.{cause};
 ghost use Rattle.board.specs.Next.{lent};
+ghost use Rattle.board.specs.Page.{pageCause};
 
 // Format's start looks at its own L and W, and at the rows for that L.
 pub fn of_format_start(
@@ -164,6 +165,21 @@ pub fn of_read(state: State, memory: &[u64], cache: &[u64], entries: &[u16], cel
         state: record::bad_record(state),
         rows: rows::bad_rows(state.lines, memory, cache, entries),
         address: record::no_cell(state, cell),
+        ..NONE
+    })
+}
+
+// A page looks at the room in its text row, last of all.
+pub fn of_page(state: State, memory: &[u64], cache: &[u64], entries: &[u16], text: &[u8]) -> u8
+    ensures { λ r. ⌜ r ≡ pageCause
+        (lent state (now (memory .entry)) (now (cache .entry)) (now (entries .entry)))
+        (now (text .entry)) ⌝ }
+{
+    first(Causes {
+        phase: phases::not_running(state),
+        state: record::bad_record(state),
+        rows: rows::bad_rows(state.lines, memory, cache, entries),
+        text: rows::short_text(state.lines, text),
         ..NONE
     })
 }

@@ -27,6 +27,8 @@ pub const CONFLICT: u8 = 9;
 pub const CHECKPOINT: u8 = 10;
 // "the cache's epoch 2^64 − 1, at a request or at the epoch's store"
 pub const EPOCH: u8 = 11;
+// "12 where the row is too short": a page's text row
+pub const TEXT: u8 = 12;
 
 // Which causes stand.
 pub struct Causes {
@@ -41,6 +43,7 @@ pub struct Causes {
     pub conflict: bool,
     pub checkpoint: bool,
     pub epoch: bool,
+    pub text: bool,
 }
 
 // No cause stands.
@@ -56,6 +59,7 @@ pub const NONE: Causes = Causes {
     conflict: false,
     checkpoint: false,
     epoch: false,
+    text: false,
 };
 
 // The number of a cause that stands, else that of the causes after it.
@@ -69,7 +73,8 @@ fn earlier(stands: bool, number: u8, later: u8) -> u8
 pub fn first(c: Causes) -> u8
     ensures { λ r. ⌜ r ≡ firstOf c ⌝ }
 {
-    let n = earlier(c.epoch, EPOCH, TAKEN);
+    let n = earlier(c.text, TEXT, TAKEN);
+    let n = earlier(c.epoch, EPOCH, n);
     let n = earlier(c.checkpoint, CHECKPOINT, n);
     let n = earlier(c.conflict, CONFLICT, n);
     let n = earlier(c.condition, CONDITION, n);

@@ -1,15 +1,17 @@
-// Cause 4, "rows", the header's cause 5, and the epoch's cause 11.
+// Cause 4, "rows", the header's cause 5, the epoch's cause 11 and the text row's cause 12.
 use crate::limits;
 use crate::record;
 use board::State;
 ghost use mathlib.Core.Path.{_≡_};
 ghost use mathlib.Core.List.{List};
 ghost use Prim.Native.Nat.{ℕ};
-ghost use lib.ListN.{getD};
+ghost use lib.Dec.{ltb};
+ghost use lib.ListN.{length, getD};
 ghost use Rattle.board.specs.declared.State.{State};
 ghost use Rattle.board.specs.Causes.{badRows, badEntry, badRecoveryRows, badHeader, epochSpent, storesSpentEpoch};
 ghost use Rattle.board.specs.Board.{restNotZero};
 ghost use Rattle.board.specs.Next.{lent};
+ghost use Rattle.board.specs.Page.{pageBytes};
 
 // "2^64 − 1"
 const LAST_EPOCH: u64 = 0xffff_ffff_ffff_ffff;
@@ -28,6 +30,13 @@ pub fn bad_rows(lines: u16, memory: &[u64], cache: &[u64], entries: &[u16]) -> b
 {
     let words = board::row_words(lines);
     !(cache.len() == words) | !(memory.len() == words) | (entries.len() < board::list_words(lines))
+}
+
+// A page's text row is shorter than the page.
+pub fn short_text(lines: u16, text: &[u8]) -> bool
+    ensures { λ r. ⌜ r ≡ ltb (length (now (text .entry))) (pageBytes lines) ⌝ }
+{
+    text.len() < board::page_bytes(lines)
 }
 
 // "a list entry that this step uses is 2L or more"

@@ -67,3 +67,12 @@ pub fn store_field(row: &mut [u64], cell: usize, field: Field, value: u64)
     let start = 8 * cell_line(cell);
     store_in_line(&mut row[start..start + 8], cell % 2, field, value);
 }
+
+// A field of a cell, read in a row, 0 past its end.
+pub fn cell_field_or_zero(row: &[u64], cell: u16, field: Field) -> u64
+    ensures { λ r. ⌜ r ≡ fieldOf (now (row .entry)) cell field ⌝ }
+{
+    let c = cell as usize;
+    let at = 8 * cell_line(c) + word(c % 2, field);
+    if at < row.len() { row[at] } else { 0 }
+}

@@ -3,6 +3,7 @@ mod cell;
 mod row;
 
 pub use cell::cell_field;
+pub use cell::cell_field_or_zero;
 pub use cell::cell_line;
 pub use cell::field_in_line;
 pub use cell::store_field;

@@ -1,4 +1,4 @@
--- The characters of script and answer by their ASCII codes.
+-- The characters of scripts, answers and pages by their ASCII codes.
 use Prim.Native.Nat.{ℕ}
 
 abbrev pub tab : ℕ
@@ -6,6 +6,9 @@ tab = 9
 
 abbrev pub feed : ℕ
 feed = 10
+
+abbrev pub blank : ℕ
+blank = 32
 
 abbrev pub '-' : ℕ
 '-' = 45
@@ -72,3 +75,6 @@ abbrev pub 'X' : ℕ
 
 abbrev pub 'f' : ℕ
 'f' = 102
+
+abbrev pub 'p' : ℕ
+'p' = 112

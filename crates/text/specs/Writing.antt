@@ -1,8 +1,9 @@
--- What the contracts of the private functions of `src/answer.rt` cite: a row of bytes with a text written into it.
-use Prim.Native.Nat.{ℕ, _+_}
+-- A row of bytes with a text written into it.
+use Prim.Native.Nat.{ℕ, _+_, _-_}
 use mathlib.Core.Path.{_≡_}
 use mathlib.Core.List.{List, _++_}
-use lib.ListN.{length, take, drop}
+use lib.ListN.{length, take, drop, replicate}
+use Rattle.text.specs.Ascii.{blank}
 
 -- The row with `text` written from `at` on.
 abbrev pub put : List ℕ → ℕ → List ℕ → List ℕ
@@ -12,3 +13,7 @@ put row at text = take at row ++ text ++ drop (at + length text) row
 pub record Put (row : List ℕ) (at : ℕ) (text after : List ℕ) (end : ℕ) : Type 0 where
   pub ends : end ≡ at + length text
   pub holds : after ≡ put row at text
+
+-- "right-aligned": a text in a column of the given width, behind blanks.
+abbrev pub aligned : ℕ → List ℕ → List ℕ
+aligned width text = replicate (width - length text) blank ++ text

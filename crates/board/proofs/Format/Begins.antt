@@ -13,11 +13,11 @@ use Rattle.board.specs.Board.{Board}
 use Rattle.board.specs.State.{isOff, isFormatting, isRunning}
 use Rattle.board.specs.Next.{Taken, Kind, startsFormat, startsRecovery, stepping, writing, other, reading, kind, isStart, isStep}
 use Rattle.board.specs.Machine.{Machine, formatSteps}
-use Rattle.board.specs.Sequence.{Takes, finished, steps, between, Begins, formatted, opening}
+use Rattle.board.specs.Sequence.{Takes, finished, steps, between, paged, Begins, formatted, opening}
 use Rattle.board.proofs.Laws.Bools.{clash}
 use Rattle.board.proofs.Laws.Takes.{takes-none}
 use Rattle.board.proofs.Invariant.{Inv}
-use Rattle.board.proofs.Laws.Taken.{phaseBars, phase-passed, performed-taken, performed-refused}
+use Rattle.board.proofs.Laws.Taken.{phaseBars, phase-passed, performed-taken, performed-refused, page-board}
 use Rattle.board.proofs.Format.Board.{Formats, Fresh, format-begins, erasing-step, format-erases, finishing-step, format-finishes}
 use Rattle.board.proofs.Keeps.FormatStep.{fresh-inv}
 
@@ -60,6 +60,9 @@ format-taken l (steps {n = n} {b = b} p rest) f e =
     ]
 format-taken l (between {n = n} {number = number} k {b = b} p o rest) f e =
     let same = performed-refused k b p (λ z. format-refuses k b (f .phase) (o z) (performed-taken k b p z .0)) in
+    format-taken l rest (subst (λ (d : Board). Formats l d) (sym same) f) (ap (λ (d : Board). d .state .place + suc n) same ∙ e)
+format-taken l (paged {n = n} text left {b = b} p rest) f e =
+    let same = page-board b text p in
     format-taken l rest (subst (λ (d : Board). Formats l d) (sym same) f) (ap (λ (d : Board). d .state .place + suc n) same ∙ e)
 
 -- The invariant holds where a history begins.

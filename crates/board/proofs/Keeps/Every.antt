@@ -17,11 +17,11 @@ use Rattle.board.specs.Effects.{effect}
 use Rattle.board.specs.Next.{Taken, taken, kind, isStart, isStep}
 use Rattle.board.specs.Causes.{causes, cause}
 use Rattle.board.specs.Machine.{feed}
-use Rattle.board.specs.Sequence.{Run, takenCall, refusedCall, called, Happens, performs, cuts, History, begun, further}
+use Rattle.board.specs.Sequence.{Run, takenCall, unfed, called, Happens, performs, pages, cuts, History, begun, further}
 use Rattle.board.specs.Statements.{formatStepIn}
 use Rattle.board.proofs.Laws.Bools.{split, clash, decide}
 use Rattle.board.proofs.Invariant.{Inv}
-use Rattle.board.proofs.Laws.Taken.{standsAt, passed, performed-taken, performed-refused, afterTaken}
+use Rattle.board.proofs.Laws.Taken.{standsAt, passed, performed-taken, performed-refused, page-board, afterTaken}
 use Rattle.board.proofs.Format.Begins.{begins-inv}
 use Rattle.board.proofs.Checkpoint.Run.{Carried, quietly}
 use Rattle.board.proofs.Keeps.FormatStart.{carried-format-start}
@@ -73,12 +73,14 @@ carried-call (Read c) r i a t = carried-read r c i (uncut r a) t
 pub carried : {r r′ : Run} → Inv r → (e : Happens r r′) → Carried (formatStepIn e) r r′
 unfolding formatStepIn
 carried i (performs {r = r} k number value b p a) =
-    decide (λ (t : Bool). Carried (t && isStep (kind k) && isFormatting (r .board .state .phase)) r (cond t (takenCall k b r) (refusedCall b r))) (eqb number 0)
+    decide (λ (t : Bool). Carried (t && isStep (kind k) && isFormatting (r .board .state .phase)) r (cond t (takenCall k b r) (unfed b r))) (eqb number 0)
     (λ t.
     let z = eqb-true number 0 t in
     let done = performed-taken k (r .board) p z in
     subst (λ (d : Board). Carried (isStep (kind k) && isFormatting (r .board .state .phase)) r (takenCall k d r)) (sym (done .1)) (carried-call k r i (λ c. a c z) (done .0)))
-    (λ t. subst (λ (d : Board). Carried false r (refusedCall d r)) (sym (performed-refused k (r .board) p (eqb-false number 0 t))) (quietly i refl refl (λ c. refl)))
+    (λ t. subst (λ (d : Board). Carried false r (unfed d r)) (sym (performed-refused k (r .board) p (eqb-false number 0 t))) (quietly i refl refl (λ c. refl)))
+carried i (pages {r = r} text left number b p) =
+    subst (λ (d : Board). Carried false r (unfed d r)) (sym (page-board (r .board) text p)) (quietly i refl refl (λ c. refl))
 carried i (cuts {r = r} s cache entries p) =
     quietly
     (record {

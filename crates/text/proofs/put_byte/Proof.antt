@@ -1,9 +1,9 @@
--- `script::answer::put_byte` meets its contract: a byte written is a store.
+-- `text::put_byte` meets its contract: a byte written is a store.
 use mathlib.Core.Path.{refl}
 use borrow.Author.Needs.{needs}
-use Rattle.script.proofs.TextLaws.{put-set}
-use Rattle.script.proofs.answer.put_byte.Statement.{statement}
-use Rattle.script.proofs.answer.put_byte.Tie as tie
+use Rattle.text.proofs.Writing.{put-set}
+use Rattle.text.proofs.put_byte.Statement.{statement}
+use Rattle.text.proofs.put_byte.Tie as tie
 
 returns : tie.Need-returns
 returns c = record { ends = refl; holds = put-set (c .args .out .now) (c .args .at) (c .args .byte) (c .pre) }

@@ -1,4 +1,4 @@
--- `script::answer::put_text` meets its contract. The invariant: the first `i` bytes are copied.
+-- `text::put_text` meets its contract. The invariant: the first `i` bytes are copied.
 use Prim.Native.Nat.{ℕ, _+_, _-_, _≤_}
 use mathlib.Core.Path.{_≡_, refl, sym, ap, _∙_}
 use mathlib.Core.List.{List}
@@ -7,9 +7,9 @@ use native.Mathlib.Numerals.{add-one}
 use lib.ListN.{length, getD, set, length-set}
 use lib.Seq.{paste, paste-zero, paste-suc}
 use borrow.Author.Needs.{needs}
-use Rattle.script.proofs.TextLaws.{put-paste}
-use Rattle.script.proofs.answer.put_text.Statement.{statement}
-use Rattle.script.proofs.answer.put_text.Tie as tie
+use Rattle.text.proofs.Writing.{put-paste}
+use Rattle.text.proofs.put_text.Statement.{statement}
+use Rattle.text.proofs.put_text.Tie as tie
 
 abbrev Inv-loop : tie.InvT-loop
 Inv-loop out₀ at text i₀ out i = (i ≤ length text) × (out ≡ paste out₀ at text i) × (length out ≡ length out₀)

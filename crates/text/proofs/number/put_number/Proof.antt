@@ -1,45 +1,38 @@
--- `script::answer::put_number` meets its contract: what `io::decimal` writes is the number's text.
-use mathlib.Core.Path.{_≡_, ap, _∙_}
-use Prim.Native.Nat.{ℕ, _+_, _≤_}
+-- `text::number::put_number` meets its contract: a digit by itself, or the digits from the end of twenty bytes on.
+use Prim.Native.Nat.{_-_}
+use mathlib.Core.Path.{_≡_, refl, ap, _∙_}
 use native.Mathlib.Omega.{arith}
-use lib.ListN.{length, take}
+use lib.ListN.{length, drop, length-drop}
+use lib.Seq.{take-all}
 use borrow.Author.Needs.{needs}
-use Rattle.script.specs.Answers.{numberText}
-use Rattle.script.specs.Writing.{put}
-use Rattle.script.proofs.TextLaws.{few-digits, decimal-text, digit-put}
-use Rattle.script.proofs.answer.put_number.Statement.{statement}
-use Rattle.script.proofs.answer.put_number.Tie as tie
+use Rattle.text.specs.Numbers.{numberText}
+use Rattle.text.specs.Writing.{put}
+use Rattle.text.proofs.Numbers.{word-width, digit-put}
+use Rattle.text.proofs.Writing.{put-back}
+use Rattle.text.proofs.number.put_number.Statement.{statement}
+use Rattle.text.proofs.number.put_number.Tie as tie
 
-put-text-requires : tie.Need-put-text-requires
-put-text-requires c κs =
-    let d = c .before .before .decimal in
-    let few : d .result ≤ 20 = few-digits _ (d .result) (d .ensures .1 .0) (search needs) in
-    omega (arith, d .ensures .0 .1)
-
-add-result : tie.Need-add-result
-add-result c =
-    let d = c .before .before .before .before .before .decimal in
-    let few : d .result ≤ 20 = few-digits _ (d .result) (d .ensures .1 .0) (search needs) in
-    omega arith
+put-digits-requires : tie.Need-put-digits-requires
+put-digits-requires c κs = (word-width (c .before .before .before .args .n) (search needs), omega arith)
 
 returns : tie.Need-returns
 returns c = (digit-put (c .before .before .before .before .before .before .args .n) (c .before .before .before .before .if1 .taken) (c .before .before .put-byte .ensures), omega arith)
 
 returns-2 : tie.Need-returns-2
 returns-2 c =
-    let a = c .before .before .before .before .before .before .before .before .before .args in
-    let d = c .before .before .before .before .before .decimal in
-    let text : take (d .result) (d .last .1 .0) ≡ numberText (a .n) = d .ensures .1 .1 ∙ decimal-text (a .n) (d .result) (d .ensures .1 .0) in
-    let few : d .result ≤ 20 = few-digits (a .n) (d .result) (d .ensures .1 .0) (search needs) in (
+    let a = c .before .before .before .before .before .before .before .before .before .before .before .args in
+    let d = c .before .before .before .before .before .before .before .put-digits in
+    let part : drop (d .result) (d .last .0) ≡ numberText (a .n) = put-back (d .ensures) refl in
+    let size : length (drop (d .result) (d .last .0)) ≡ 20 - d .result = omega (arith, length-drop (d .result) (d .last .0), d .kept .0) in (
       record {
-        ends = ap (λ (k : ℕ). a .at + k) (d .ensures .0 .1 ∙ ap length text);
-        holds = c .before .before .put-text .ensures ∙ ap (put (a .out .now) (a .at)) text;
+        ends = omega (arith, d .ensures .ends, ap length part);
+        holds = c .before .before .put-text .ensures ∙ ap (put (a .out .now) (a .at)) (take-all (20 - d .result) (drop (d .result) (d .last .0)) (omega (arith, size)) ∙ part);
       },
-      omega arith,
+      omega (arith, d .ensures .ends),
     )
 
 pub put-number-spec : {M : Type 1} → statement M
 put-number-spec =
     tie.close
-    (tie.spec (search needs) (search needs) (search needs) (search needs) returns (search needs) (search needs)
-    (search needs) put-text-requires add-result (search needs) returns-2)
+    (tie.spec (search needs) (search needs) (search needs) (search needs) returns (search needs) put-digits-requires (search needs) (search needs) (search needs)
+    (search needs) (search needs) (search needs) (search needs) returns-2)

@@ -1,0 +1,5 @@
+-- `Theorems` has what is claimed of a number's text; `Bools`, `Numbers` and `Writing` are the laws that proofs here and above lean on.
+pub mod Bools
+pub mod Numbers
+pub mod Writing
+pub mod Theorems

@@ -1,0 +1,4 @@
+-- `Numbers` says how a number is written in decimal and read, `Writing` what a row of bytes is with a text written into it.
+pub mod Ascii
+pub mod Numbers
+pub mod Writing
