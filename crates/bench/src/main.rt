@@ -1,13 +1,13 @@
 // Workloads for measuring the calls: `bench KIND L W N ROUNDS SEED` prints the same checksum as the reference program's.
 ghost use Rattle.bench.specs.Sizes.{Allowed};
 
+mod pages;
 mod rounds;
 mod setup;
 mod workloads;
 
 use rounds::Kind;
 use rounds::Plan;
-use rounds::Round;
 use script::Number;
 
 // The argument at `i` as a number, 0 where it is none.
@@ -21,7 +21,7 @@ fn argument(i: usize) -> u64 {
 }
 
 // A workload's checksum, on rows of the plan's size.
-fn checksum(round: Round, plan: Plan, rounds: u32) -> u64
+fn checksum(kind: Kind, plan: Plan, rounds: u32) -> u64
     requires { ⌜ Allowed plan ⌝ }
 {
     let mut memory = [0u64; 4096];
@@ -30,7 +30,7 @@ fn checksum(round: Round, plan: Plan, rounds: u32) -> u64
     let words = board::row_words(plan.lines);
     let most = board::list_words(plan.lines);
     workloads::run(
-        round,
+        kind,
         plan,
         rounds,
         &mut memory[..words],
@@ -41,9 +41,10 @@ fn checksum(round: Round, plan: Plan, rounds: u32) -> u64
 
 // A kind or a size that is not allowed prints nothing.
 fn main() {
-    let Kind::Known(round) = rounds::numbered(argument(1)) else {
+    let kind = rounds::numbered(argument(1));
+    if let Kind::Unknown = kind {
         return;
-    };
+    }
     let lines = argument(2);
     let workers = argument(3);
     let n = argument(4);
@@ -63,6 +64,6 @@ fn main() {
         worker: seed % workers,
         seed,
     };
-    io::print_decimal(1, checksum(round, plan, rounds as u32));
+    io::print_decimal(1, checksum(kind, plan, rounds as u32));
     io::write_all(1, b"\n");
 }

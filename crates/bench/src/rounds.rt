@@ -26,20 +26,31 @@ pub enum Round {
     Reads,
 }
 
+// The marks of the cells of which pages are printed.
+pub enum Marks {
+    Equal,
+    Rising,
+    Random,
+}
+
 // What a KIND on the command line stands for.
 pub enum Kind {
-    Known(Round),
+    Calls(Round),
+    Pages(Marks),
     Unknown,
 }
 
-// The rounds that are measured, by their number.
+// The workloads that are measured, by their number.
 pub fn numbered(kind: u64) -> Kind {
     match kind {
-        1 => Kind::Known(Round::Update),
-        2 => Kind::Known(Round::Again),
-        3 => Kind::Known(Round::Checkpoint),
-        4 => Kind::Known(Round::Recovery),
-        5 => Kind::Known(Round::WriteBack),
+        1 => Kind::Calls(Round::Update),
+        2 => Kind::Calls(Round::Again),
+        3 => Kind::Calls(Round::Checkpoint),
+        4 => Kind::Calls(Round::Recovery),
+        5 => Kind::Calls(Round::WriteBack),
+        6 => Kind::Pages(Marks::Equal),
+        7 => Kind::Pages(Marks::Rising),
+        8 => Kind::Pages(Marks::Random),
         _ => Kind::Unknown,
     }
 }

@@ -6,6 +6,8 @@ ghost use Rattle.board.specs.Board.{rowWords};
 ghost use Rattle.line.specs.Line.{lineStart};
 ghost use Rattle.line.specs.Cell.{cellLine};
 ghost use Rattle.bench.specs.Sizes.{Allowed};
+use crate::pages;
+use crate::rounds::Kind;
 use crate::rounds::Plan;
 use crate::rounds::Round;
 use crate::rounds::call_at;
@@ -102,17 +104,11 @@ fn listed(
     }
 }
 
-// The state record that a workload's rounds start from.
-fn prepared(
-    round: Round,
-    plan: Plan,
-    memory: &mut [u64],
-    cache: &mut [u64],
-    entries: &mut [u16],
-) -> State
+// The state record that a format leaves.
+fn formatted(plan: Plan, memory: &mut [u64], cache: &mut [u64], entries: &mut [u16]) -> State
     requires { ⌜ Allowed plan × (length (now cache) ≡ rowWords (plan .lines)) ⌝ }
 {
-    let formatted = play(
+    let done = play(
         Round::Format,
         plan,
         1,
@@ -121,13 +117,28 @@ fn prepared(
         cache,
         entries,
     );
-    let fresh = formatted.state;
-    listed(round, plan, fresh, memory, cache, entries)
+    done.state
+}
+
+// Rounds of calls after a format.
+fn called(
+    round: Round,
+    plan: Plan,
+    rounds: u32,
+    fresh: State,
+    memory: &mut [u64],
+    cache: &mut [u64],
+    entries: &mut [u16],
+) -> Summed
+    requires { ⌜ Allowed plan × (length (now cache) ≡ rowWords (plan .lines)) ⌝ }
+{
+    let start = listed(round, plan, fresh, memory, cache, entries);
+    play(round, plan, rounds, start, memory, cache, entries)
 }
 
 // A workload from its format to the end of its rounds, with the sum of the rounds alone.
 fn measured(
-    round: Round,
+    kind: Kind,
     plan: Plan,
     rounds: u32,
     memory: &mut [u64],
@@ -136,13 +147,23 @@ fn measured(
 ) -> Summed
     requires { ⌜ Allowed plan × (length (now cache) ≡ rowWords (plan .lines)) ⌝ }
 {
-    let start = prepared(round, plan, memory, cache, entries);
-    play(round, plan, rounds, start, memory, cache, entries)
+    let fresh = formatted(plan, memory, cache, entries);
+    match kind {
+        Kind::Calls(round) => called(round, plan, rounds, fresh, memory, cache, entries),
+        Kind::Pages(marks) => Summed {
+            state: fresh,
+            sum: pages::printed(marks, plan, rounds, fresh, memory, cache, entries),
+        },
+        Kind::Unknown => Summed {
+            state: fresh,
+            sum: 0,
+        },
+    }
 }
 
 // A workload's checksum: the sum of its rounds, and of a read of every cell after them.
 pub fn run(
-    round: Round,
+    kind: Kind,
     plan: Plan,
     rounds: u32,
     memory: &mut [u64],
@@ -151,7 +172,7 @@ pub fn run(
 ) -> u64
     requires { ⌜ Allowed plan × (length (now cache) ≡ rowWords (plan .lines)) ⌝ }
 {
-    let done = measured(round, plan, rounds, memory, cache, entries);
+    let done = measured(kind, plan, rounds, memory, cache, entries);
     let end = done.state;
     let reads = play(Round::Reads, plan, 1, end, memory, cache, entries);
     std::num::wrapping_add_u64(done.sum, reads.sum)

@@ -1,6 +1,7 @@
 -- The proofs of the statements in `specs/`. Start at `Theorems`; `Invariant` is what they rest on.
 pub mod Bench
 pub mod Refusals
+pub mod Pages
 pub mod Invariant
 pub mod Laws
 pub mod Format

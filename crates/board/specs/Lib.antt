@@ -11,3 +11,4 @@ pub mod Statements
 pub mod Steps
 pub mod Bench
 pub mod Refusals
+pub mod Pages

@@ -4,7 +4,7 @@ mod merge;
 mod order;
 
 ghost use mathlib.Core.Path.{_≡_};
-ghost use lib.ListN.{length};
+ghost use lib.ListN.{length, replicate};
 ghost use Prim.Native.Nat.{_+_, _*_, _≤_};
 ghost use Rattle.text.specs.Writing.{put};
 ghost use Rattle.board.specs.Board.{cells, rowWords};
@@ -35,6 +35,13 @@ fn put_page(cache: &[u64], lines: u16, text: &mut [u8])
     let mut spare = [0u16; 1022];
     let n = board::cells(lines) as usize;
     put_ordered(cache, &mut cells[..n], &mut spare[..n], text);
+}
+
+// A text row with room for the largest page, all 0.
+pub fn text_row() -> [u8; 69564]
+    ensures { λ r. ⌜ r ≡ replicate 69564 0 ⌝ }
+{
+    [0; 69564]
 }
 
 // A page of the board's cells into the text row; bytes past the page stay.

@@ -10,7 +10,8 @@ use Rattle.text.specs.Ascii.{'0', '9'}
 -- A number's digits without leading zeros; `most` bounds how many there are.
 unfoldable pub spelled : ℕ → ℕ → List ℕ
 spelled zero n = []
-spelled (suc most) n = cond (ltb n 10) (('0' + n) ∷ []) (spelled most (n / 10) ++ (('0' + n % 10) ∷ []))
+spelled (suc most) n =
+    let longer = spelled most (n / 10) ++ (('0' + n % 10) ∷ []) in cond (ltb n 10) (('0' + n) ∷ []) longer
 
 -- A number's text: its fewest decimal digits; `n` has at most `n` + 1 of them.
 abbrev pub numberText : ℕ → List ℕ

@@ -5,8 +5,8 @@ use borrow.Author.Tests.{ltb-false}
 use Rattle.bench.proofs.main.Statement.{statement}
 use Rattle.bench.proofs.main.Tie as tie
 
-cast-t22 : tie.Need-cast-t22
-cast-t22 c = omega (arith, ltb-false)
+cast-t21 : tie.Need-cast-t21
+cast-t21 c = omega (arith, ltb-false)
 
 rem-print-decimal : tie.Need-rem-print-decimal
 rem-print-decimal c = omega (arith, ltb-false)
@@ -20,7 +20,7 @@ checksum-requires c κs = omega (arith, ltb-false)
 pub main-spec : {M : Type 1} → statement M
 main-spec =
     tie.close
-    (tie.spec (search needs) (search needs) (search needs) (search needs) (search needs) (search needs) (search needs)
+    (tie.spec (search needs) (search needs) (search needs) (search needs) (search needs) (search needs)
     (search needs) (search needs) (search needs) (search needs) (search needs) (search needs) (search needs)
-    (search needs) (search needs) cast-t22 rem-print-decimal cast-checksum checksum-requires (search needs)
+    (search needs) (search needs) cast-t21 rem-print-decimal cast-checksum checksum-requires (search needs)
     (search needs) (search needs) (search needs))

@@ -1,0 +1,14 @@
+-- The worked page and the table of pages, computed.
+use mathlib.Core.Path.{_≡_, refl}
+use mathlib.Core.List.{flatten}
+use Rattle.text.specs.Numbers.{spelled}
+use Rattle.line.specs.Cell.{fieldIndex, fieldOf}
+use Rattle.board.specs.State.{anyUnder}
+use Rattle.board.specs.Causes.{badRecord, firstStanding}
+use Rattle.board.specs.Page.{lineText, before, inserted, ordered, numbersUnder, pageText, pageCauses, pageCause, pageLeft}
+use Rattle.board.specs.Bench.{same}
+use Rattle.board.specs.Pages.{pageTable, pageGives, allPages, PagesHold}
+
+pub pages-hold : PagesHold
+unfolding flatten same spelled lineText before inserted ordered numbersUnder pageText pageCauses pageCause pageLeft firstStanding badRecord anyUnder fieldIndex fieldOf pageTable pageGives allPages
+pages-hold = record { worked = refl; past = refl; refused = refl; table = refl }

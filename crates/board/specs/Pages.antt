@@ -1,0 +1,75 @@
+-- Document 02, ticket 1: a page worked out, and pages that are turned down and just taken.
+use Prim.Native.Nat.{ℕ, _+_, _*_, _-_, _^_}
+use mathlib.Core.Path.{_≡_}
+use mathlib.Core.List.{List, [], _∷_, _++_, map, flatten}
+use mathlib.Core.Bool.{Bool, true, _&&_}
+use lib.Dec.{eqb}
+use lib.ListN.{replicate}
+use Rattle.text.specs.Ascii.{blank, feed}
+use Rattle.board.specs.declared.Phase.the-variants.{Running}
+use Rattle.board.specs.Board.{Board, headerWords}
+use Rattle.board.specs.State.{started}
+use Rattle.board.specs.Page.{pageText, pageCause, pageLeft}
+use Rattle.board.specs.Bench.{same}
+use Rattle.board.specs.Refusals.Boards.{sound, shortCache, listing, misfits, badRecords, quietEdges, requestedEdges, notRunningOf}
+
+-- ---- a page worked out
+
+-- L = 2, W = 1, in epoch 2: cells 0 and 2 are marked with epoch 1, cells 1 and 3 with epoch 2.
+abbrev pub workedBoard : Board
+workedBoard =
+    let cache = headerWords 2 2 1 ++ (10 ∷ 0 ∷ 1 ∷ 99 ∷ 0 ∷ 2 ∷ 0 ∷ 0 ∷ []) ++ (100 ∷ 0 ∷ 1 ∷ 7 ∷ (2 ^ 64 - 1) ∷ 2 ∷ 0 ∷ 0 ∷ []) in
+    record { state = started Running 2 1; memory = cache; cache = cache; entries = replicate 4 0 }
+
+-- Its page, as the second program prints it.
+abbrev pub workedLines : List (List ℕ)
+workedLines =
+    -- "cell               record               backup                 mark"
+    ((99 ∷ 101 ∷ 108 ∷ 108 ∷ []) ++ replicate 15 blank ++ (114 ∷ 101 ∷ 99 ∷ 111 ∷ 114 ∷ 100 ∷ []) ++ replicate 15 blank ++ (98 ∷ 97 ∷ 99 ∷ 107 ∷ 117 ∷ 112 ∷ []) ++ replicate 17 blank ++ (109 ∷ 97 ∷ 114 ∷ 107 ∷ feed ∷ [])) ∷
+    -- "   1                   99                    0                    2"
+    (replicate 3 blank ++ (49 ∷ []) ++ replicate 19 blank ++ (57 ∷ 57 ∷ []) ++ replicate 20 blank ++ (48 ∷ []) ++ replicate 20 blank ++ (50 ∷ feed ∷ [])) ∷
+    -- "   3                    7 18446744073709551615                    2"
+    (replicate 3 blank ++ (51 ∷ []) ++ replicate 20 blank ++ (55 ∷ []) ++ replicate 1 blank ++ (49 ∷ 56 ∷ 52 ∷ 52 ∷ 54 ∷ 55 ∷ 52 ∷ 52 ∷ 48 ∷ 55 ∷ 51 ∷ 55 ∷ 48 ∷ 57 ∷ 53 ∷ 53 ∷ 49 ∷ 54 ∷ 49 ∷ 53 ∷ []) ++ replicate 20 blank ++ (50 ∷ feed ∷ [])) ∷
+    -- "   0                   10                    0                    1"
+    (replicate 3 blank ++ (48 ∷ []) ++ replicate 19 blank ++ (49 ∷ 48 ∷ []) ++ replicate 20 blank ++ (48 ∷ []) ++ replicate 20 blank ++ (49 ∷ feed ∷ [])) ∷
+    -- "   2                  100                    0                    1"
+    (replicate 3 blank ++ (50 ∷ []) ++ replicate 18 blank ++ (49 ∷ 48 ∷ 48 ∷ []) ++ replicate 20 blank ++ (48 ∷ []) ++ replicate 20 blank ++ (49 ∷ feed ∷ [])) ∷ []
+
+-- ---- a table of pages
+
+-- A page asked of a board with a text row of so many bytes, each 170: the number that it returns.
+pub record PageCase : Type 0 where
+  pub board : Board
+  pub room : ℕ
+  pub number : ℕ
+
+-- A row of the table.
+abbrev pub pages : ℕ → ℕ → Board → PageCase
+pages number room b = record { board = b; room = room; number = number }
+
+-- Cause 2 while 3, 4 and 12 stand; 3 while 4 and 12 stand; 4 while 12 stands; 12 of rows one byte short and of none; and pages that are just taken.
+unfoldable pub pageTable : List PageCase
+pageTable =
+    map (pages 2 0) (notRunningOf (sound Running 1 1))
+    ++ map (pages 3 0) (listing 3 (shortCache (sound Running 1 1)) ∷ badRecords)
+    ++ map (pages 4 203) (misfits (sound Running 1 1))
+    ++ (pages 12 0 (sound Running 1 1) ∷ pages 12 203 (sound Running 1 1) ∷ pages 12 339 (sound Running 2 3) ∷ pages 12 1019 (sound Running 7 8) ∷ [])
+    ++ map (pages 0 204) quietEdges
+    ++ map (pages 0 204) requestedEdges
+    ++ (pages 0 205 (sound Running 1 1) ∷ pages 0 340 (sound Running 2 3) ∷ pages 0 1020 (sound Running 7 8) ∷ [])
+
+-- The page returns the number.
+unfoldable pub pageGives : PageCase → Bool
+pageGives k = eqb (pageCause (k .board) (replicate (k .room) 170)) (k .number)
+
+-- Every row of a table holds.
+unfoldable pub allPages : List PageCase → Bool
+allPages [] = true
+allPages (k ∷ ks) = pageGives k && allPages ks
+
+-- The worked page is the second program's, bytes past it stay, a refused page writes nothing, and the table holds.
+pub record PagesHold : Type 0 where
+  pub worked : same (pageText (workedBoard .cache) 4) (flatten workedLines) ≡ true
+  pub past : same (pageLeft workedBoard (replicate 343 170)) (flatten workedLines ++ (170 ∷ 170 ∷ 170 ∷ [])) ≡ true
+  pub refused : same (pageLeft workedBoard (replicate 339 170)) (replicate 339 170) ≡ true
+  pub table : allPages pageTable ≡ true
