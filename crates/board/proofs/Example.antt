@@ -1,4 +1,4 @@
--- An inhabited example: a history with a cut in the middle of a checkpoint, and a recovery with write-backs and a refused call among its steps.
+-- An inhabited example: a history with a cut in the middle of a checkpoint, pages of it taken and refused, and a recovery with write-backs and a refused call among its steps.
 use Prim.Native.Nat.{ℕ, zero, suc, _<_}
 use mathlib.Core.Path.{_≡_, refl, sym, ap, subst, _∙_}
 use mathlib.Core.List.{List, [], _∷_}
@@ -18,8 +18,9 @@ use Rattle.board.specs.State.{anyUnder, started}
 use Rattle.board.specs.Causes.{badRecord, causes, firstStanding, cause}
 use Rattle.board.specs.Effects.{formatStep, recoveryStep, actAt, performAct, step, advance, advanceOf, effect}
 use Rattle.board.specs.Next.{Taken, taken, next, Kind, startsFormat, startsRecovery, stepping, writing, other, reading, kind, isStart, isStep, valueOf, Performed}
+use Rattle.board.specs.Page.{pageCauses, pageCause, pageLeft}
 use Rattle.board.specs.Machine.{Machine, beginning, changed, countUnder, fewer, advanced, checkpointStep, stepped, writeBackSeen, feed}
-use Rattle.board.specs.Sequence.{Takes, finished, steps, between, Begins, formatted, Run, opening, takenCall, unfed, called, cutBoard, performs, History, begun, further, undoSteps, recoverySteps}
+use Rattle.board.specs.Sequence.{Takes, finished, steps, between, Begins, formatted, Run, opening, takenCall, unfed, called, cutBoard, performs, pages, History, begun, further, undoSteps, recoverySteps}
 use Rattle.board.specs.Statements.{CutAndRecovered}
 use Rattle.board.specs.Bench.{blankFor, afterCalls}
 use Rattle.board.proofs.Laws.Bools.{on, split, chosen, passedOver, and-off, and-left, and-right}
@@ -152,6 +153,15 @@ begins-fresh =
 pub run-history : History run
 unfolding run
 run-history = calls-history calls (opening fresh (beginning 1)) refl (begun begins-fresh)
+
+-- A page of it carries the history on and leaves the run as it was.
+pub paged-history : (text : List ℕ) → History run
+paged-history text = further run-history (pages text (pageLeft (run .board) text) (pageCause (run .board) text) (run .board) refl)
+
+-- With 204 bytes the page is taken, with one fewer it is refused.
+pub paged : (pageCause (run .board) (replicate 204 170) ≡ 0) × (pageCause (run .board) (replicate 203 170) ≡ 12)
+unfolding run calls fresh made madeAll afterCalls next cause causes firstStanding badRecord anyUnder effect step formatStep recoveryStep actAt performAct advance advanceOf lineOf withLine fieldIndex fieldOf withField feed changed countUnder fewer advanced checkpointStep stepped writeBackSeen pageCause pageCauses
+paged = (refl, refl)
 
 -- The rows keep their lengths; the recovery's start is taken, and then six steps, with two taken write-backs and a refused read among them.
 run-takes : (length (run .board .cache) ≡ 16) × (length (run .board .entries) ≡ 2) × (taken RecoveryStart cutOff && takesTest 6 recoveryCalls (next RecoveryStart cutOff) ≡ true) × (recoverySteps (run .board .memory) ≡ 6)
