@@ -4,9 +4,8 @@ use mathlib.Core.List.{List, [], _∷_}
 use Prim.Native.Nat.{ℕ, suc, _+_, _-_, _/_, _≤_, _<_}
 use native.Mathlib.Decide.{decLt}
 use native.Mathlib.Omega.{arith}
-use native.Mathlib.Numerals.{add-one}
 use lib.ListN.{length, take, drop, getD, set, replicate, drop-of-length-le, length-set, length-take, length-drop, length-replicate, getD-replicate, List·getD-append}
-use lib.Seq.{take-all, take-suc, take-suc-set, drop-cons, getD-set-same, getD-set-other, getD-take, getD-drop, getD-append-add, length-take-le}
+use lib.Seq.{drop-cons, getD-set-same, getD-set-other, getD-take, getD-drop, getD-append-add, length-take-le}
 use borrow.Rule.Slice.PartMut.{same-len-mid, set-mid-at, take-put, drop-put}
 use Rattle.line.specs.declared.Field.{Field}
 use Rattle.line.specs.declared.Field.the-variants.{Record, Backup, Mark}
@@ -176,13 +175,3 @@ unfolding fieldIndex
 spare-withField row c f v l k a b =
     getD-withField-other row c f v (lineStart l + k)
     (apart (cellLine c) l (cellWord c + fieldOffset f) k (omega (arith, offset-bound f)) a b)
-
--- ---- a row copied word by word
-
--- One word more is copied.
-pub copy-more : (to from : List ℕ) (i : ℕ) → i < length to → i < length from → take i to ≡ take i from → take (i + 1) (set to i (getD from i 0)) ≡ take (i + 1) from
-copy-more to from i h k e = rw (add-one, take-suc-set, take-suc from i 0, e)
-
--- All words are copied.
-pub copy-whole : (to from : List ℕ) (i : ℕ) → length to ≤ i → length from ≤ i → take i to ≡ take i from → to ≡ from
-copy-whole to from i h k e = sym (take-all i to h) ∙ e ∙ take-all i from k

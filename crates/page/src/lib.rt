@@ -21,6 +21,7 @@ fn put_ordered(cache: &[u64], cells: &mut [u16], spare: &mut [u16], text: &mut [
     ensures { λ _. ⌜ now (text .exit) ≡ put (now (text .entry)) 0 (pageText (now (cache .entry)) (length (now (cells .entry)))) ⌝ }
 {
     order::number(cells);
+    order::number(spare);
     order::sort(cache, cells, spare);
     lines::put_heading(text);
     lines::put_cells(cache, cells, text);

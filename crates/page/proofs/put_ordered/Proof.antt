@@ -23,20 +23,23 @@ page-written : (text cache : List ℕ) (n : ℕ) → 68 ≤ length text → put 
 unfolding lineText pageText
 page-written text cache n h = put-put text 0 headingText (flatten (map (cellText cache) (cellOrder cache n))) h
 
+sort-requires : tie.Need-sort-requires
+sort-requires c κs = c .before .before .before .before .number2 .ensures ∙ ap numbersUnder (c .before .before .before .before .before .before .before .before .before .before .before .before .before .before .pre .1) ∙ sym (c .before .before .before .before .before .before .before .before .number .ensures)
+
 put-cells-requires : tie.Need-put-cells-requires
 put-cells-requires c κs =
-    let start = c .before .before .before .before .before .before .before .before .before .before .before .before .before .before .before .before .before .before .before .before .before in
+    let start = c .before .before .before .before .before .before .before .before .before .before .before .before .before .before .before .before .before .before .before .before .before .before .before .before .before in
     let cache = start .args .cache .now in
     let n = length (start .args .cells .now) in
-    let is : c .before .before .before .before .before .before .before .before .before .before .sort .last .1 .0 ≡ cellOrder cache n = c .before .before .before .before .before .before .before .before .before .before .sort .ensures ∙ ap (ordered (before cache)) (c .before .before .before .before .before .before .before .before .before .before .before .before .before .before .before .number .ensures) in
+    let is : c .before .before .before .before .before .before .before .before .before .before .sort .last .1 .0 ≡ cellOrder cache n = c .before .before .before .before .before .before .before .before .before .before .sort .ensures ∙ ap (ordered (before cache)) (c .before .before .before .before .before .before .before .before .before .before .before .before .before .before .before .before .before .before .before .number .ensures) in
     (subst (AllHeld cache) (sym is) (all-held cache n (start .pre .2)), omega (arith, ap length is, order-length cache n, start .pre .3, c .before .before .before .before .put-heading .kept .0))
 
 returns : tie.Need-returns
 returns c =
-    let start = c .before .before .before .before .before .before .before .before .before .before .before .before .before .before .before .before .before .before .before .before .before .before .before .before in
+    let start = c .before .before .before .before .before .before .before .before .before .before .before .before .before .before .before .before .before .before .before .before .before .before .before .before .before .before .before .before in
     let cache = start .args .cache .now in
     let n = length (start .args .cells .now) in
-    let is : c .before .before .before .before .before .before .before .before .before .before .before .before .before .sort .last .1 .0 ≡ cellOrder cache n = c .before .before .before .before .before .before .before .before .before .before .before .before .before .sort .ensures ∙ ap (ordered (before cache)) (c .before .before .before .before .before .before .before .before .before .before .before .before .before .before .before .before .before .before .number .ensures) in
+    let is : c .before .before .before .before .before .before .before .before .before .before .before .before .before .sort .last .1 .0 ≡ cellOrder cache n = c .before .before .before .before .before .before .before .before .before .before .before .before .before .sort .ensures ∙ ap (ordered (before cache)) (c .before .before .before .before .before .before .before .before .before .before .before .before .before .before .before .before .before .before .before .before .before .before .number .ensures) in
     c .before .before .put-cells .ensures
     ∙ ap (λ (l : List ℕ). put l 68 (flatten (map (cellText cache) (c .before .before .before .before .before .before .before .before .before .before .before .before .before .sort .last .1 .0)))) (c .before .before .before .before .before .before .before .put-heading .ensures)
     ∙ ap (λ (l : List ℕ). put (put (start .args .text .now) 0 headingText) 68 (flatten (map (cellText cache) l))) is
@@ -44,4 +47,4 @@ returns c =
 
 pub put-ordered-spec : {M : Type 1} → statement M
 put-ordered-spec =
-    tie.close (tie.spec (search needs) (search needs) (search needs) put-cells-requires (search needs) (search needs) (search needs) returns)
+    tie.close (tie.spec (search needs) (search needs) sort-requires (search needs) put-cells-requires (search needs) (search needs) (search needs) returns)
