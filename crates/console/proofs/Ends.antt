@@ -9,9 +9,9 @@ use Rattle.board.specs.Board.{Board}
 use Rattle.script.specs.declared.Line.{Line}
 use Rattle.script.specs.Grammar.{meaning}
 use Rattle.script.specs.Answers.{answerText, letterOf}
-use Rattle.script.specs.Writing.{Put}
+use Rattle.text.specs.Writing.{Put}
 use Rattle.script.proofs.NumberLaws.{meaning-kept}
-use Rattle.script.proofs.TextLaws.{put-front}
+use Rattle.text.proofs.Writing.{put-front}
 use Rattle.script.specs.declared.Program.{Program}
 use Rattle.console.specs.declared.answers.Asked.{Asked}
 use Rattle.console.specs.declared.answers.Progress.{Progress}

@@ -11,9 +11,9 @@ use borrow.Author.Tests.{eq-eqb, ne-eqb}
 use borrow.Rule.Slice.PartMut.{midOf, putMid}
 use Rattle.board.proofs.Laws.Bools.{clash, and-left, and-right, not-of}
 use Rattle.bytes.specs.Bytes.{indexOf, indexAfter}
-use Rattle.script.specs.Ascii.{feed}
-use Rattle.script.specs.Writing.{put}
-use Rattle.script.proofs.TextLaws.{put-front}
+use Rattle.text.specs.Ascii.{feed}
+use Rattle.text.specs.Writing.{put}
+use Rattle.text.proofs.Writing.{put-front}
 
 -- At a line feed the line is over.
 pub feed-here : (s : List ℕ) (i : ℕ) → i < length s → getD s i 0 ≡ feed → indexOf feed (drop i s) ≡ 0

@@ -2,5 +2,6 @@
 pub mod Feeds
 pub mod Ends
 pub mod Pieces
+pub mod Pages
 pub mod Theorems
 pub mod Sample

@@ -10,12 +10,12 @@ use lib.Seq.{take-all, take-length, take-take, take-add, length-take-le}
 use borrow.Author.Tests.{eq-eqb, ne-eqb}
 use Rattle.board.proofs.Laws.Bools.{chosen, passedOver}
 use Rattle.bytes.specs.Bytes.{indexOf, indexAfter}
-use Rattle.script.specs.Ascii.{feed}
+use Rattle.text.specs.Ascii.{feed}
 use Rattle.script.specs.declared.Program.{Program}
 use Rattle.session.specs.declared.Session.{Session}
 use Rattle.console.specs.declared.answers.Progress.{Progress}
 use Rattle.session.specs.Session.{boardOf}
-use Rattle.console.specs.Pieces.{Carried, carried, Fed, leaving, kept, ended, byteFed, andThen, fed, lastText, carriedBy, Ready, Ends, Stops}
+use Rattle.console.specs.Pieces.{Carried, carried, Fed, leaving, kept, ended, byteFed, andThen, fed, finished, carriedBy, Ready, Ends, Stops}
 
 -- ---- the bytes kept of a line
 
@@ -142,18 +142,19 @@ begun-short {p} r line = omega (arith, r .line-within, length-take (p .begun) li
 -- ---- after the input
 
 -- No line is begun.
-pub none-last : (program : Program) (p : Progress) (m c e line : List ℕ) → p .begun ≡ 0 → [] ≡ lastText program (carriedBy p m c e line)
+pub none-last : (program : Program) (p : Progress) (m c e line : List ℕ) → p .begun ≡ 0 → leaving (carriedBy p m c e line) [] ≡ finished program (carriedBy p m c e line)
 none-last program p m c e line z =
     let none : length (take (p .begun) line) ≡ 0 = ap (λ (k : ℕ). length (take k line)) z in
     sym (chosen (eqb (length (take (p .begun) line)) 0) _ _ (eq-eqb _ 0 none))
 
 -- The line begun ends by the line feed that it lacks.
-pub line-last : (program : Program) (p : Progress) (m c e line : List ℕ) → Ready p → length line ≡ 80 → (p .begun ≡ 0 → ⊥) → {after : Carried} {text : List ℕ} {used written : ℕ} → leaving after text ≡ fed program (carriedBy p m c e line) (take used (feed ∷ [])) → Stops (feed ∷ []) used written → text ≡ lastText program (carriedBy p m c e line)
+pub line-last : (program : Program) (p : Progress) (m c e line : List ℕ) → Ready p → length line ≡ 80 → (p .begun ≡ 0 → ⊥) → {f : Fed} {used written : ℕ} → f ≡ fed program (carriedBy p m c e line) (take used (feed ∷ [])) → Stops (feed ∷ []) used written → f ≡ finished program (carriedBy p m c e line)
 unfolding fed
-line-last program p m c e line r size some {after} {text} {used} {written} e′ stops =
+line-last program p m c e line r size some {f} {used} {written} e′ stops =
     let from = carriedBy p m c e line in
     let begun : length (take (p .begun) line) ≡ p .begun = length-take-le (p .begun) line (omega (arith, r .line-within)) in
     let whole : used ≡ 1 = omega (arith, stops .used-within, stops .goes-on (omega arith)) in
-    ap (λ (f : Fed). f .text) (e′ ∙ ap (λ (n : ℕ). fed program from (take n (feed ∷ []))) whole)
-    ∙ append-nil (ended program from .text)
+    e′
+    ∙ ap (λ (n : ℕ). fed program from (take n (feed ∷ []))) whole
+    ∙ ap (leaving (ended program from .after)) (append-nil (ended program from .text))
     ∙ sym (passedOver (eqb (length (take (p .begun) line)) 0) _ _ (ne-eqb _ 0 (λ z. some (sym begun ∙ z))))

@@ -9,9 +9,10 @@ use Rattle.board.specs.Causes.{badRecord, causes, firstStanding, cause}
 use Rattle.board.specs.Effects.{formatStep, recoveryStep, actAt, performAct, step, advance, advanceOf, effect}
 use Rattle.board.specs.Next.{next, valueRead, valueOf}
 use Rattle.board.specs.Statements.{stepsFrom}
-use Rattle.script.specs.Ascii.{tab, feed, '-', '0', 'A', 'E', 'F', 'G', 'R', 'S', 'U', 'X'}
-use Rattle.script.specs.Grammar.{fields, allDigits, valueAfter, isNumber, allNumbers, drilled, formed, meaning}
-use Rattle.script.specs.Answers.{spelled, answerText, headerText}
+use Rattle.text.specs.Ascii.{tab, feed, '-', '0', 'A', 'E', 'F', 'G', 'R', 'S', 'U', 'X'}
+use Rattle.text.specs.Numbers.{spelled, allDigits, valueAfter}
+use Rattle.script.specs.Grammar.{fields, isNumber, allNumbers, drilled, formed, meaning}
+use Rattle.script.specs.Answers.{answerText, headerText}
 use Rattle.script.specs.declared.Program.the-variants.{Drill}
 use Rattle.console.specs.Transcript.{linesOf, answers, transcript}
 

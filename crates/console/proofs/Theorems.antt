@@ -1,4 +1,4 @@
--- However an input is cut into pieces, what is written is the transcript of the whole input.
+-- However an input is cut into pieces, what is written is the transcript of the whole input, and the board left is the one that the whole input leaves.
 use Prim.Native.Nat.{ℕ, suc}
 use mathlib.Core.Path.{_≡_, refl, sym, ap, _∙_}
 use mathlib.Core.Bool.{Bool, true, false, cond}
@@ -9,14 +9,18 @@ use native.Mathlib.Omega.{arith}
 use borrow.Author.Tests.{ne-eqb}
 use Rattle.board.proofs.Laws.Bools.{passedOver}
 use Rattle.board.specs.Board.{Board}
-use Rattle.script.specs.Ascii.{feed}
+use Rattle.text.specs.Ascii.{feed}
 use Rattle.script.specs.Grammar.{joined, meaning}
 use Rattle.script.specs.Answers.{headerText}
 use Rattle.script.specs.declared.Program.{Program}
+use Rattle.script.specs.declared.Program.the-variants.{Drill, Page}
+use Rattle.script.specs.declared.Line.{Line}
+use Rattle.script.proofs.NumberLaws.{meaning-page}
 use Rattle.session.specs.Session.{firstBoard}
 use Rattle.session.specs.Lines.{carriedOut}
-use Rattle.console.specs.Transcript.{linesOf, following, lineText, answers}
-use Rattle.console.specs.Pieces.{Carried, carried, first, Fed, leaving, kept, ended, andThen, fed, lastText, outputs, AnyPieces}
+use Rattle.console.specs.Transcript.{linesOf, following, lineText, answers, boardAfter}
+use Rattle.console.specs.Pieces.{Carried, carried, first, Fed, leaving, kept, ended, andThen, fed, finished, fedAll, AnyPieces, AnyPiecesBoard}
+use Rattle.console.specs.Printing.{printedOf, AnyPiecesPrinted, BoardOfDrill}
 use Rattle.console.proofs.Ends.{ended-kept}
 use Rattle.console.proofs.Pieces.{take-again, fed-append}
 
@@ -45,29 +49,49 @@ unfolding onto
 onto-more [] b ls = refl
 onto-more (c ∷ u) b ls = ap (joined c) (onto-more u b ls)
 
--- ---- what is written to one piece, and after it
+-- ---- one piece, and the end after it
 
--- What a piece and the input's end after it have written.
-abbrev closed : Program → Fed → List ℕ
-closed program f = f .text ++ lastText program (f .after)
+-- What a piece and the input's end after it leave and have written.
+abbrev closed : Program → Fed → Fed
+closed program f = andThen f (finished program (f .after))
 
--- What is written to input after a line's end, and at the end of it.
-closed-then : (program : Program) (f g : Fed) → closed program (andThen f g) ≡ f .text ++ closed program g
-closed-then program f g = append-assoc (f .text) (g .text) (lastText program (g .after))
+-- Three inputs one after the other, in either grouping.
+then-then : (f g h : Fed) → andThen (andThen f g) h ≡ andThen f (andThen g h)
+then-then f g h = ap (leaving (h .after)) (append-assoc (f .text) (g .text) (h .text))
+
+-- What whole lines leave and have written, each on the board that the one before it left.
+unfoldable linesFed : Program → ℕ → Board → List (List ℕ) → Fed
+linesFed program n b [] = leaving (carried b n []) []
+linesFed program n b (line ∷ more) =
+    andThen (ended program (carried b n line)) (linesFed program (following n) (carriedOut (meaning program line) b .board) more)
+
+-- They have the answers written.
+lines-text : (program : Program) (n : ℕ) (b : Board) (ls : List (List ℕ)) → linesFed program n b ls .text ≡ answers program n b ls
+unfolding linesFed answers
+lines-text program n b [] = refl
+lines-text program n b (line ∷ more) =
+    ap (λ (t : List ℕ). lineText program (following n) b line ++ t) (lines-text program (following n) (carriedOut (meaning program line) b .board) more)
+
+-- They leave the board after them.
+lines-board : (program : Program) (n : ℕ) (b : Board) (ls : List (List ℕ)) → linesFed program n b ls .after .board ≡ boardAfter program b ls
+unfolding linesFed boardAfter
+lines-board program n b [] = refl
+lines-board program n b (line ∷ more) = lines-board program (following n) (carriedOut (meaning program line) b .board) more
 
 -- Of a line that has a byte, a byte is kept.
 some-kept : (n c : ℕ) (u : List ℕ) → length (take (suc n) (c ∷ u)) ≡ 0 → ⊥
 some-kept n c u z = omega arith
 
 -- The line begun, whole, is the last one.
-last-line : (program : Program) (b : Board) (n : ℕ) (u : List ℕ) → lastText program (carried b n (take 80 u)) ≡ answers program n b (onto u [])
-unfolding answers onto
+last-line : (program : Program) (b : Board) (n : ℕ) (u : List ℕ) → finished program (carried b n (take 80 u)) ≡ linesFed program n b (onto u [])
+unfolding linesFed onto
 last-line program b n [] = refl
 last-line program b n (c ∷ u) =
-    passedOver (eqb (length (take 80 (c ∷ u))) 0) [] (ended program (carried b n (take 80 (c ∷ u))) .text) (ne-eqb (length (take 80 (c ∷ u))) 0 (some-kept 79 c u))
-    ∙ ap (λ (f : Fed). f .text) (ended-kept program b n (c ∷ u))
-    ∙ sym (append-nil (lineText program (following n) b (c ∷ u)))
-    ∙ sym (ap (answers program n b) (onto-none c u))
+    let whole = ended program (carried b n (c ∷ u)) in
+    passedOver (eqb (length (take 80 (c ∷ u))) 0) _ _ (ne-eqb (length (take 80 (c ∷ u))) 0 (some-kept 79 c u))
+    ∙ ended-kept program b n (c ∷ u)
+    ∙ ap (leaving (whole .after)) (sym (append-nil (whole .text)))
+    ∙ sym (ap (linesFed program n b) (onto-none c u))
 
 -- What is left and written, and then what is to more input.
 abbrev onward : Program → List ℕ → Fed → Fed
@@ -78,31 +102,33 @@ module _ (program : Program) (b : Board) (n : ℕ) (u : List ℕ) (c : ℕ) (cs 
   abbrev Byte : Bool → Type 0
   Byte t =
       closed program (onward program cs (cond t (ended program (carried b n (take 80 u))) (leaving (kept (carried b n (take 80 u)) (c ∷ [])) []))) ≡
-      answers program n b (onto u (cond t ([] ∷ linesOf cs) (joined c (linesOf cs))))
+      linesFed program n b (onto u (cond t ([] ∷ linesOf cs) (joined c (linesOf cs))))
 
   -- A line feed ends the line begun.
-  at-feed : closed program (fed program (ended program (carried b n u) .after) cs) ≡ answers program (following n) (carriedOut (meaning program u) b .board) (linesOf cs) → Byte true
-  unfolding answers
+  at-feed : closed program (fed program (ended program (carried b n u) .after) cs) ≡ linesFed program (following n) (carriedOut (meaning program u) b .board) (linesOf cs) → Byte true
+  unfolding linesFed
   at-feed again =
+      let line = ended program (carried b n u) in
+      let more = fed program (line .after) cs in
       ap (λ (f : Fed). closed program (onward program cs f)) (ended-kept program b n u)
-      ∙ closed-then program (ended program (carried b n u)) (fed program (ended program (carried b n u) .after) cs)
-      ∙ ap (λ (t : List ℕ). lineText program (following n) b u ++ t) again
-      ∙ sym (ap (answers program n b) (onto-line u [] (linesOf cs) ∙ ap (λ (l : List ℕ). l ∷ linesOf cs) (append-nil u)))
+      ∙ then-then line more (finished program (more .after))
+      ∙ ap (andThen line) again
+      ∙ sym (ap (linesFed program n b) (onto-line u [] (linesOf cs) ∙ ap (λ (l : List ℕ). l ∷ linesOf cs) (append-nil u)))
 
   -- Any other byte goes on the line begun.
-  inside : closed program (fed program (carried b n (take 80 (u ++ (c ∷ [])))) cs) ≡ answers program n b (onto (u ++ (c ∷ [])) (linesOf cs)) → Byte false
+  inside : closed program (fed program (carried b n (take 80 (u ++ (c ∷ [])))) cs) ≡ linesFed program n b (onto (u ++ (c ∷ [])) (linesOf cs)) → Byte false
   inside again =
       ap (λ (l : List ℕ). closed program (fed program (carried b n l) cs)) (take-again 80 u (c ∷ []))
       ∙ again
-      ∙ ap (answers program n b) (onto-more u c (linesOf cs))
+      ∙ ap (linesFed program n b) (onto-more u c (linesOf cs))
 
   -- One of the two.
   either : (t : Bool) → Byte true → Byte false → Byte t
   either true feeds goes-on = feeds
   either false feeds goes-on = goes-on
 
--- A piece and the input's end have the answers to its lines written, the first of which goes on the line begun.
-closed-fed : (program : Program) (b : Board) (n : ℕ) (u x : List ℕ) → closed program (fed program (carried b n (take 80 u)) x) ≡ answers program n b (onto u (linesOf x))
+-- A piece and the input's end do what its lines do, the first of which goes on the line begun.
+closed-fed : (program : Program) (b : Board) (n : ℕ) (u x : List ℕ) → closed program (fed program (carried b n (take 80 u)) x) ≡ linesFed program n b (onto u (linesOf x))
 unfolding fed linesOf onto
 closed-fed program b n u [] = last-line program b n u
 closed-fed program b n u (c ∷ cs) =
@@ -112,19 +138,46 @@ closed-fed program b n u (c ∷ cs) =
 
 -- ---- pieces
 
--- What is written to pieces is what is written to the whole.
-outputs-whole : (program : Program) (p : Carried) (pieces : List (List ℕ)) → outputs program p pieces ≡ closed program (fed program p (flatten pieces))
-unfolding outputs flatten fed
-outputs-whole program p [] = refl
-outputs-whole program p (x ∷ xs) =
+-- Pieces leave and have written what the whole does.
+all-whole : (program : Program) (p : Carried) (pieces : List (List ℕ)) → fedAll program p pieces ≡ closed program (fed program p (flatten pieces))
+unfolding fedAll flatten fed
+all-whole program p [] = refl
+all-whole program p (x ∷ xs) =
     let before = fed program p x in
     let more = fed program (before .after) (flatten xs) in
-    ap (λ (t : List ℕ). before .text ++ t) (outputs-whole program (before .after) xs)
-    ∙ sym (closed-then program before more)
+    ap (andThen before) (all-whole program (before .after) xs)
+    ∙ sym (then-then before more (finished program (more .after)))
     ∙ sym (ap (closed program) (fed-append program p x (flatten xs)))
 
--- The outputs are the transcript, however the input is cut.
-pub any-pieces : AnyPieces
+-- The pieces of an input do what its lines do.
+all-lines : (program : Program) (pieces : List (List ℕ)) → fedAll program first pieces ≡ linesFed program 0 firstBoard (linesOf (flatten pieces))
 unfolding onto
+all-lines program pieces = all-whole program first pieces ∙ closed-fed program firstBoard 0 [] (flatten pieces)
+
+-- What is written is the transcript, however the input is cut.
+pub any-pieces : AnyPieces
 any-pieces program pieces =
-    ap (λ (t : List ℕ). headerText ++ t) (outputs-whole program first pieces ∙ closed-fed program firstBoard 0 [] (flatten pieces))
+    ap (λ (f : Fed). headerText ++ f .text) (all-lines program pieces)
+    ∙ ap (λ (t : List ℕ). headerText ++ t) (lines-text program 0 firstBoard (linesOf (flatten pieces)))
+
+-- The board left is the whole input's, however it is cut.
+pub any-pieces-board : AnyPiecesBoard
+any-pieces-board program pieces =
+    ap (λ (f : Fed). f .after .board) (all-lines program pieces) ∙ lines-board program 0 firstBoard (linesOf (flatten pieces))
+
+-- ---- the page program
+
+-- What is printed is the page of the board that the whole input leaves.
+pub any-pieces-printed : AnyPiecesPrinted
+any-pieces-printed pieces = ap printedOf (any-pieces-board Page pieces)
+
+-- Lines leave the board that they leave in the drill.
+after-drill : (b : Board) (ls : List (List ℕ)) → boardAfter Page b ls ≡ boardAfter Drill b ls
+unfolding boardAfter
+after-drill b [] = refl
+after-drill b (line ∷ more) =
+    ap (λ (k : Line). boardAfter Page (carriedOut k b .board) more) (meaning-page line) ∙ after-drill (carriedOut (meaning Drill line) b .board) more
+
+-- So does a whole input.
+pub board-of-drill : BoardOfDrill
+board-of-drill input = after-drill firstBoard (linesOf input)

@@ -7,7 +7,7 @@ use lib.Dec.{eqb}
 use lib.ListN.{length, take, drop, getD}
 use Rattle.bytes.specs.Bytes.{indexOf}
 use Rattle.board.specs.Board.{Board}
-use Rattle.script.specs.Ascii.{feed}
+use Rattle.text.specs.Ascii.{feed}
 use Rattle.script.specs.Grammar.{meaning}
 use Rattle.script.specs.Answers.{headerText}
 use Rattle.script.specs.declared.Program.{Program}
@@ -16,7 +16,7 @@ use Rattle.console.specs.declared.answers.Progress.{Progress}
 use Rattle.session.specs.declared.Session.{Session}
 use Rattle.session.specs.Session.{boardOf, firstBoard, Within}
 use Rattle.session.specs.Lines.{carriedOut}
-use Rattle.console.specs.Transcript.{following, lineText, transcript}
+use Rattle.console.specs.Transcript.{following, lineText, transcript, lastBoard}
 
 -- What is carried from piece to piece: the board, the lines answered, and the line begun.
 pub record Carried : Type 0 where
@@ -64,19 +64,24 @@ unfoldable pub fed : Program → Carried → List ℕ → Fed
 fed program p [] = leaving p []
 fed program p (b ∷ bs) = andThen (byteFed program p b) (fed program (byteFed program p b .after) bs)
 
--- After the input: the last line's answer, where it lacks its line feed.
-abbrev pub lastText : Program → Carried → List ℕ
-lastText program p = cond (eqb (length (p .begun)) 0) [] (ended program p .text)
+-- After the input: the end of the last line, where it lacks its line feed.
+abbrev pub finished : Program → Carried → Fed
+finished program p = cond (eqb (length (p .begun)) 0) (leaving p []) (ended program p)
 
--- What is written to the pieces of an input, and after them.
-unfoldable pub outputs : Program → Carried → List (List ℕ) → List ℕ
-outputs program p [] = lastText program p
-outputs program p (piece ∷ more) = fed program p piece .text ++ outputs program (fed program p piece .after) more
+-- The pieces of an input, one after the other, and its end.
+unfoldable pub fedAll : Program → Carried → List (List ℕ) → Fed
+fedAll program p [] = finished program p
+fedAll program p (piece ∷ more) = andThen (fed program p piece) (fedAll program (fed program p piece .after) more)
 
--- However an input is cut into pieces, the header and the outputs are the transcript of the whole input.
+-- However an input is cut into pieces, the header and what is written to them are the transcript of the whole input.
 abbrev pub AnyPieces : Type 0
 AnyPieces =
-    (program : Program) (pieces : List (List ℕ)) → headerText ++ outputs program first pieces ≡ transcript program (flatten pieces)
+    (program : Program) (pieces : List (List ℕ)) → headerText ++ fedAll program first pieces .text ≡ transcript program (flatten pieces)
+
+-- However an input is cut into pieces, the board that they leave is the one that the whole input leaves.
+abbrev pub AnyPiecesBoard : Type 0
+AnyPiecesBoard =
+    (program : Program) (pieces : List (List ℕ)) → fedAll program first pieces .after .board ≡ lastBoard program (flatten pieces)
 
 -- ---- what contracts say
 

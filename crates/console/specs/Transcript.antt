@@ -1,11 +1,11 @@
--- Document 01, "The drill program", and the fault program, which has its format: what is written for a whole input, byte by byte.
+-- Document 01, "The drill program", and the fault program, which has its format: what is written for a whole input, byte by byte, and the board that it leaves.
 use Prim.Native.Nat.{ℕ, _+_, _%_, _^_}
 use mathlib.Core.Bool.{cond}
 use mathlib.Core.List.{List, [], _∷_, _++_}
 use lib.Dec.{eqb}
 use lib.ListN.{getD}
 use Rattle.board.specs.Board.{Board}
-use Rattle.script.specs.Ascii.{feed}
+use Rattle.text.specs.Ascii.{feed}
 use Rattle.script.specs.Grammar.{joined, meaning}
 use Rattle.script.specs.Answers.{headerText, answerText, letterOf}
 use Rattle.script.specs.declared.Program.{Program}
@@ -31,6 +31,15 @@ unfoldable pub answers : Program → ℕ → Board → List (List ℕ) → List 
 answers program n b [] = []
 answers program n b (line ∷ more) =
     lineText program (following n) b line ++ answers program (following n) (carriedOut (meaning program line) b .board) more
+
+-- The board after lines, each carried out on the board that the one before it left.
+unfoldable pub boardAfter : Program → Board → List (List ℕ) → Board
+boardAfter program b [] = b
+boardAfter program b (line ∷ more) = boardAfter program (carriedOut (meaning program line) b .board) more
+
+-- The board that a whole input leaves.
+abbrev pub lastBoard : Program → List ℕ → Board
+lastBoard program input = boardAfter program firstBoard (linesOf input)
 
 -- "Output: a header, then for each line".
 abbrev pub transcript : Program → List ℕ → List ℕ

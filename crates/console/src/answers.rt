@@ -3,7 +3,7 @@ ghost use mathlib.Core.Path.{_≡_};
 ghost use mathlib.Core.List.{List, _++_};
 ghost use Prim.Native.Nat.{ℕ, _+_, _≤_};
 ghost use lib.ListN.{length, take};
-ghost use Rattle.console.specs.Pieces.{first, leaving, kept, ended, fed, lastText, carriedBy, afterLine, Ready, Reads, Ends, Stops};
+ghost use Rattle.console.specs.Pieces.{first, leaving, kept, ended, fed, finished, carriedBy, afterLine, Ready, Reads, Ends, Stops};
 use crate::input::feed_at;
 use crate::input::keep;
 use script::Line;
@@ -25,9 +25,9 @@ pub struct Asked {
 }
 
 // After a line: what is carried on, and where its answer ends in the buffer.
-struct Ended {
-    progress: Progress,
-    end: usize,
+pub struct Ended {
+    pub progress: Progress,
+    pub end: usize,
 }
 
 // After a piece: what is carried on, the bytes of it that are used up, and the bytes of answers in the buffer.
@@ -187,7 +187,7 @@ pub fn answer(
     }
 }
 
-// After the input: the answer to a last line that lacks its line feed, at the start of `out`. Gives its length.
+// After the input: a last line that lacks its line feed is carried out, and answered at the start of `out`.
 pub fn answer_last(
     program: Program,
     progress: Progress,
@@ -196,13 +196,18 @@ pub fn answer_last(
     entries: &mut [u16; 1100],
     line: &mut [u8],
     out: &mut [u8; 65536],
-) -> usize
+) -> Ended
     requires { ⌜ Ready progress × (length (now line) ≡ 80) ⌝ }
-    ensures { λ r. ⌜ (take r (now (out .exit)) ≡ lastText program (carriedBy progress (now (memory .entry)) (now (cache .entry)) (now (entries .entry)) (now (line .entry)))) × (r ≤ 65536) ⌝ }
+    ensures finishes { λ r. ⌜ leaving (carriedBy (r .progress) (now (memory .exit)) (now (cache .exit)) (now (entries .exit)) (now (line .exit))) (take (r .end) (now (out .exit))) ≡ finished program (carriedBy progress (now (memory .entry)) (now (cache .entry)) (now (entries .entry)) (now (line .entry))) ⌝ }
+    ensures ready { λ r. ⌜ Ready (r .progress) × (r .end ≤ 65536) ⌝ }
 {
     if progress.begun == 0 {
-        return 0;
+        return Ended { progress, end: 0 };
     }
     let r = answer(program, progress, memory, cache, entries, line, b"\n", out);
-    r.written
+    let last = r.progress;
+    Ended {
+        progress: last,
+        end: r.written,
+    }
 }

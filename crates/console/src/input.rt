@@ -5,8 +5,8 @@ ghost use mathlib.Core.List.{_++_};
 ghost use Prim.Native.Nat.{_+_, _≤_};
 ghost use lib.ListN.{length, take, drop};
 ghost use Rattle.bytes.specs.Bytes.{indexOf};
-ghost use Rattle.script.specs.Ascii.{feed};
-ghost use Rattle.script.specs.Writing.{put};
+ghost use Rattle.text.specs.Ascii.{feed};
+ghost use Rattle.text.specs.Writing.{put};
 ghost use Rattle.console.specs.Pieces.{LineGoesOn};
 
 // Whether none of the eight bytes from `i` on ends a line. All of them are looked at, so that the compiler tests them at

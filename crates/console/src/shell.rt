@@ -1,7 +1,9 @@
 // The loop of a program: read, answer, write. No contract says what `read` and `write` do, so this file is what is left
 // to read with the eye: the pieces read are answered in the order in which they came, each answer is written once and in
-// order, and the header stands before all and the answer to a last line without its line feed behind. That the outputs
-// are then the transcript of the whole input, however it was cut into pieces, is proved (`AnyPieces`).
+// order, and the header stands before all and the answer to a last line without its line feed behind; or, in the page
+// program, none of that is written, and at the end the page is. That the outputs are then the transcript of the whole
+// input, or the page of the board that it leaves, however it was cut into pieces, is proved (`AnyPieces`,
+// `AnyPiecesPrinted`).
 ghost use mathlib.Core.Path.{_≡_};
 ghost use mathlib.Core.Bool.{true};
 ghost use Prim.Native.Nat.{_≤_};
@@ -9,6 +11,7 @@ ghost use lib.ListN.{length};
 ghost use Rattle.console.specs.Pieces.{fed, carriedBy, Ready};
 use crate::answers;
 use crate::answers::Progress;
+use crate::printing;
 use libc::STDERR_FILENO;
 use libc::STDIN_FILENO;
 use libc::STDOUT_FILENO;
@@ -29,6 +32,9 @@ fn complain(program: Program, why: &[u8]) {
         Program::Fault => {
             io::write_all(STDERR_FILENO, b"fault: ");
         }
+        Program::Page => {
+            io::write_all(STDERR_FILENO, b"page: ");
+        }
     }
     io::write_all(STDERR_FILENO, why);
 }
@@ -42,6 +48,16 @@ fn write(program: Program, out: &[u8], n: usize) -> bool
     }
     complain(program, b"writing failed\n");
     false
+}
+
+// Answers, the first `n` bytes of `out`, written; the page program writes none.
+fn show(program: Program, out: &[u8], n: usize) -> bool
+    requires { ⌜ n ≤ length (now out) ⌝ }
+{
+    if let Program::Page = program {
+        return true;
+    }
+    write(program, out, n)
 }
 
 // A piece, answered and written as much at a time as the buffer holds.
@@ -73,7 +89,7 @@ fn converse(
             &piece[used..],
             out,
         );
-        more = write(program, out, r.written);
+        more = show(program, out, r.written);
         used += r.used;
         reached = r.progress;
     }
@@ -83,7 +99,62 @@ fn converse(
     }
 }
 
-// Read, answer, write. At the end of the input the last line is answered, where it lacks its line feed.
+// Why there is no page.
+fn refuse(number: u8) {
+    match number {
+        2 => complain(
+            Program::Page,
+            b"refused by cause 2: phase doesn't allow the call\n",
+        ),
+        3 => complain(Program::Page, b"refused by cause 3: state record\n"),
+        4 => complain(Program::Page, b"refused by cause 4: rows\n"),
+        12 => complain(Program::Page, b"refused by cause 12: text row too short\n"),
+        _ => complain(Program::Page, b"refused\n"),
+    }
+}
+
+// The page of the board that the input leaves, put into the text row and written.
+fn print_page(
+    progress: Progress,
+    memory: &mut [u64; 4104],
+    cache: &mut [u64; 4104],
+    entries: &mut [u16; 1100],
+    line: &mut [u8; 80],
+    out: &mut [u8; 65536],
+    text: &mut [u8; 69564],
+)
+    requires { ⌜ Ready progress ⌝ }
+{
+    let r = printing::last_page(progress, memory, cache, entries, line, out, text);
+    if r.number == 0 {
+        write(Program::Page, text, r.bytes);
+    } else {
+        refuse(r.number);
+    }
+}
+
+// The end of the input: the last line is answered, where it lacks its line feed; the page program prints the page.
+fn finish(
+    program: Program,
+    progress: Progress,
+    memory: &mut [u64; 4104],
+    cache: &mut [u64; 4104],
+    entries: &mut [u16; 1100],
+    line: &mut [u8; 80],
+    out: &mut [u8; 65536],
+)
+    requires { ⌜ Ready progress ⌝ }
+{
+    if let Program::Page = program {
+        let mut text = page::text_row();
+        print_page(progress, memory, cache, entries, line, out, &mut text);
+    } else {
+        let last = answers::answer_last(program, progress, memory, cache, entries, line, out);
+        write(program, out, last.end);
+    }
+}
+
+// Read, answer, write.
 fn turn(
     program: Program,
     progress: Progress,
@@ -114,8 +185,7 @@ fn turn(
     if got < 0 {
         complain(program, b"reading failed\n");
     } else {
-        let last = answers::answer_last(program, progress, memory, cache, entries, line, out);
-        write(program, out, last);
+        finish(program, progress, memory, cache, entries, line, out);
     }
     Reached {
         progress,
@@ -123,7 +193,7 @@ fn turn(
     }
 }
 
-// A script on standard input, its answers on standard output. Nothing says that the input ends, so the turns are counted
+// A script on standard input, its answers or its page on standard output. Nothing says that the input ends, so the turns are counted
 // down, from a number that no run uses up.
 pub fn run(program: Program) {
     let mut memory = [0u64; 4104];
@@ -135,7 +205,7 @@ pub fn run(program: Program) {
     let header = script::header();
     let mut reached = Reached {
         progress: answers::start(),
-        more: write(program, &header, 23),
+        more: show(program, &header, 23),
     };
     let mut turns = u64::MAX;
     while turns > 0 && reached.more {

@@ -27,16 +27,38 @@ unfolding summed
 summed-append h [] ys = refl
 summed-append h (x ∷ xs) ys = summed-append (mixed h x) xs ys
 
--- One word of a row more.
-pub summed-more : (h : ℕ) (row : List ℕ) (i : ℕ) → i < length row → summed h (drop i row) ≡ summed (mixed h (getD row i 0)) (drop (i + 1) row)
-unfolding summed
-summed-more h row i within =
-    ap (summed h) (drop-cons row i 0 within) ∙ ap (λ (k : ℕ). summed (mixed h (getD row i 0)) (drop k row)) (sym (add-one i))
+-- ---- a row mixed in word by word
 
--- No word left.
-pub summed-end : (h : ℕ) (row : List ℕ) (i : ℕ) → length row ≤ i → summed h (drop i row) ≡ h
+-- The words from `i` on, mixed into what is reached, give the whole sum.
+pub record Mixing (whole : ℕ) (row : List ℕ) (reached i : ℕ) : Type 0 where
+  pub within : i ≤ length row
+  pub rest : whole ≡ summed reached (drop i row)
+
+-- Before the first word.
+pub mixing-none : (reached : ℕ) (row : List ℕ) → Mixing (summed reached row) row reached 0
+mixing-none reached row = record { within = omega arith; rest = refl }
+
+-- The same once the row's length is mixed in.
+pub mixing-row : {reached : ℕ} (h : ℕ) (row : List ℕ) → reached ≡ mixed h (length row) → Mixing (summed h (rowNumbers row)) row reached 0
 unfolding summed
-summed-end h row i past = ap (summed h) (drop-of-length-le row past)
+mixing-row h row e = record { within = omega arith; rest = ap (λ (x : ℕ). summed x row) (sym e) }
+
+-- A word more.
+pub mixing-more : {whole reached i next : ℕ} {row : List ℕ} → Mixing whole row reached i → i < length row → next ≡ mixed reached (getD row i 0) → Mixing whole row next (i + 1)
+unfolding summed
+mixing-more {whole} {reached} {i} {next} {row} m h e =
+    record {
+      within = omega arith;
+      rest = m .rest
+          ∙ ap (summed reached) (drop-cons row i 0 h)
+          ∙ ap (λ (k : ℕ). summed (mixed reached (getD row i 0)) (drop k row)) (sym (add-one i))
+          ∙ ap (λ (x : ℕ). summed x (drop (i + 1) row)) (sym e);
+    }
+
+-- All of them.
+pub mixing-all : {whole reached i : ℕ} {row : List ℕ} → Mixing whole row reached i → length row ≤ i → reached ≡ whole
+unfolding summed
+mixing-all {whole} {reached} {i} {row} m past = sym (m .rest ∙ ap (summed reached) (drop-of-length-le row past))
 
 -- Five parts, one after the other.
 five-parts : (h : ℕ) (a b c d e : List ℕ) → summed h (a ++ b ++ c ++ d ++ e) ≡ summed (summed (summed (summed (summed h a) b) c) d) e

@@ -1,4 +1,4 @@
--- The fault program's checksum of everything.
+-- The fault program's checksum of numbers, and the numbers of everything.
 use Prim.Native.Nat.{ℕ, _*_, _%_, _^_}
 use mathlib.Core.Bool.{Bool, true, false}
 use mathlib.Core.List.{List, [], _∷_, _++_}
@@ -24,6 +24,10 @@ mixed h x = (bitXor h x * 1099511628211) % 2 ^ 64
 unfoldable pub summed : ℕ → List ℕ → ℕ
 summed h [] = h
 summed h (x ∷ xs) = summed (mixed h x) xs
+
+-- "h is 14695981039346656037".
+abbrev pub checksumOf : List ℕ → ℕ
+checksumOf numbers = summed 14695981039346656037 numbers
 
 -- A phase as in `B`: "0 off, 1 formatting, 2 recovering, 3 running".
 abbrev pub phaseNumber : Phase → ℕ
@@ -78,6 +82,6 @@ abbrev pub everything : Board → List ℕ
 everything b =
     fieldNumbers (b .state) ++ workersNumbers (b .state) ++ rowNumbers (b .memory) ++ rowNumbers (b .cache) ++ rowNumbers (b .entries)
 
--- "h is 14695981039346656037".
+-- "the checksum of everything".
 unfoldable pub checksum : Board → ℕ
-checksum b = summed 14695981039346656037 (everything b)
+checksum b = checksumOf (everything b)

@@ -1,9 +1,9 @@
-// The checksum of everything.
+// The checksum of everything, and of a text row.
 ghost use mathlib.Core.Path.{_≡_};
 ghost use mathlib.Core.List.{[], _∷_};
 ghost use Prim.Native.Nat.{_*_, _%_, _^_};
 ghost use Rattle.board.specs.Next.{lent};
-ghost use Rattle.damage.specs.Checksum.{mixed, summed, phaseNumber, undoNumber, requestNumber, storeNumber, fieldNumbers, conditionNumbers, workersNumbers, rowNumbers, checksum};
+ghost use Rattle.damage.specs.Checksum.{mixed, summed, phaseNumber, undoNumber, requestNumber, storeNumber, fieldNumbers, conditionNumbers, workersNumbers, rowNumbers, checksumOf, checksum};
 use board::Condition;
 use board::Phase;
 use board::State;
@@ -56,6 +56,25 @@ fn mix_list(sum: u64, list: &[u16]) -> u64
     let mut i = 0;
     while i < list.len() {
         reached = mix(reached, wide(list[i]));
+        i += 1;
+    }
+    reached
+}
+
+fn byte_number(x: u8) -> u64
+    ensures { λ r. ⌜ r ≡ x ⌝ }
+{
+    x as u64
+}
+
+// "the bytes of the text row".
+pub fn bytes_checksum(bytes: &[u8]) -> u64
+    ensures { λ r. ⌜ r ≡ checksumOf (now (bytes .entry)) ⌝ }
+{
+    let mut reached = 14695981039346656037;
+    let mut i = 0;
+    while i < bytes.len() {
+        reached = mix(reached, byte_number(bytes[i]));
         i += 1;
     }
     reached

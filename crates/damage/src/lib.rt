@@ -1,10 +1,11 @@
-// What a line of the fault program does to a board: the damage that a repair workshop puts in, and the checksum of everything.
+// What a line of the fault program does to a board: the damage that a repair workshop puts in, and checksums.
 mod checksum;
 mod damages;
 mod record;
 mod rows;
 
 use board::State;
+pub use checksum::bytes_checksum;
 pub use damages::carry_out;
 use script::Shown;
 

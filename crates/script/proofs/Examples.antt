@@ -5,13 +5,14 @@ use Prim.Native.Nat.{ℕ}
 use lib.ListN.{replicate}
 use Rattle.board.specs.declared.Call.the-variants.{FormatStart, Step, Update, RestartPoint, Read}
 use Rattle.script.specs.declared.Line.{Line}
-use Rattle.script.specs.declared.Line.the-variants.{Format, Make, Show, Cut, Damage as Damaging, Unknown}
+use Rattle.script.specs.declared.Line.the-variants.{Format, Make, Show, Cut, Damage as Damaging, Page as Paging, Unknown}
 use Rattle.script.specs.declared.Damage.the-variants.{Field, Worker, Checksum}
 use Rattle.script.specs.declared.Program.the-variants.{Drill, Fault}
 use Rattle.script.specs.declared.Shown.the-variants as shown
-use Rattle.script.specs.Ascii.{tab, feed, '-', '0', '9', '?', 'A', 'B', 'F', 'G', 'K', 'P', 'S', 'T', 'U', 'X', 'f'}
-use Rattle.script.specs.Grammar.{fields, allDigits, valueAfter, isNumber, allNumbers, drilled, damaging, formed, meaning}
-use Rattle.script.specs.Answers.{spelled, answerText}
+use Rattle.text.specs.Ascii.{tab, feed, '-', '0', '9', '?', 'A', 'B', 'F', 'G', 'K', 'P', 'S', 'T', 'U', 'X', 'f', 'p'}
+use Rattle.text.specs.Numbers.{spelled, allDigits, valueAfter}
+use Rattle.script.specs.Grammar.{fields, isNumber, allNumbers, drilled, damaging, formed, meaning}
+use Rattle.script.specs.Answers.{answerText}
 
 -- A line of the script, and what it means.
 pub record Example : Type 0 where
@@ -60,10 +61,11 @@ pub lines-mean : map (λ (e : Example). meaning Drill (e .text)) examples ≡ ma
 unfolding fields allDigits valueAfter isNumber allNumbers drilled damaging formed meaning
 lines-mean = refl
 
--- The fault program's own letters: "T", "f 1 1", "B 6 1" and "K 7 2 0 9 5", with tabs for blanks, and a drill's letter.
+-- The fault program's own letters: "T", "p 9", "f 1 1", "B 6 1" and "K 7 2 0 9 5", with tabs for blanks, and a drill's letter.
 abbrev pub damages : List Example
 damages =
     row ('T' ∷ []) (Damaging Checksum) ∷
+    row ('p' ∷ tab ∷ '9' ∷ []) (Paging 9) ∷
     row ('f' ∷ tab ∷ 49 ∷ tab ∷ 49 ∷ []) (Make (FormatStart 1 1)) ∷
     row ('B' ∷ tab ∷ 54 ∷ tab ∷ 49 ∷ []) (Damaging (Field 6 1)) ∷
     row ('K' ∷ tab ∷ 55 ∷ tab ∷ 50 ∷ tab ∷ '0' ∷ tab ∷ '9' ∷ tab ∷ 53 ∷ []) (Damaging (Worker 7 2 0 9 5)) ∷
@@ -78,7 +80,7 @@ unfolding fields allDigits valueAfter isNumber allNumbers drilled damaging forme
 damages-mean = refl
 
 -- The drill knows none of them.
-pub damages-unknown : meaning Drill ('T' ∷ []) ∷ meaning Drill ('f' ∷ tab ∷ 49 ∷ tab ∷ 49 ∷ []) ∷ [] ≡ Unknown ∷ Unknown ∷ []
+pub damages-unknown : meaning Drill ('T' ∷ []) ∷ meaning Drill ('p' ∷ tab ∷ '9' ∷ []) ∷ meaning Drill ('f' ∷ tab ∷ 49 ∷ tab ∷ 49 ∷ []) ∷ [] ≡ Unknown ∷ Unknown ∷ Unknown ∷ []
 unfolding fields allDigits valueAfter isNumber allNumbers drilled damaging formed meaning
 damages-unknown = refl
 

@@ -10,7 +10,7 @@ use lib.ListN.{length, take, drop, getD, drop-of-length-le}
 use lib.Seq.{drop-cons, drop-drop}
 use borrow.Author.Tests.{eq-eqb, ne-eqb}
 use Rattle.board.proofs.Laws.Bools.{chosen, passedOver}
-use Rattle.script.specs.Ascii.{tab}
+use Rattle.text.specs.Ascii.{tab}
 use Rattle.script.specs.Grammar.{joined, fields}
 use Rattle.script.specs.Fields.{first, later}
 

@@ -13,13 +13,14 @@ use Rattle.board.proofs.Laws.Bools.{split, chosen, passedOver, and-off-right, a
 use Rattle.script.specs.declared.Line.{Line}
 use Rattle.script.specs.declared.Line.the-variants.{Unknown}
 use Rattle.script.specs.declared.Program.{Program}
-use Rattle.script.specs.declared.Program.the-variants.{Drill, Fault}
+use Rattle.script.specs.declared.Program.the-variants.{Drill, Fault, Page}
 use Rattle.script.specs.declared.Number.{Number}
 use Rattle.script.specs.declared.Number.the-variants as number
 use Rattle.script.specs.declared.Numbers.{Numbers}
 use Rattle.script.specs.declared.Numbers.the-variants as numbers
-use Rattle.script.specs.Ascii.{'0', '9'}
-use Rattle.script.specs.Grammar.{allDigits, valueAfter, value, isNumber, allNumbers, drilled, damaging, command, fields, formed, meaning}
+use Rattle.text.specs.Ascii.{'0', '9'}
+use Rattle.text.specs.Numbers.{allDigits, valueAfter, value}
+use Rattle.script.specs.Grammar.{isNumber, allNumbers, drilled, damaging, further, command, fields, formed, meaning}
 use Rattle.script.specs.Fields.{numberOf, withField, numbersOf, furtherOf, commandOf, first, later}
 use Rattle.script.proofs.FieldLaws.{fields-parts, first-take, first-single, later-parts}
 
@@ -100,6 +101,8 @@ six-unknown Drill letter a b c d e f ns true = refl
 six-unknown Drill letter a b c d e f ns false = refl
 six-unknown Fault letter a b c d e f ns true = refl
 six-unknown Fault letter a b c d e f ns false = refl
+six-unknown Page letter a b c d e f ns true = refl
+six-unknown Page letter a b c d e f ns false = refl
 
 -- One field more, a number or not.
 given-field : (program : Program) (letter : ℕ) (t : Bool) (got : Numbers) (n : ℕ) (u : Bool) (ns : List ℕ) → given program letter (withField got (cond t (number.Value n) number.Bad)) u ns ≡ given program letter got (t && u) (n ∷ ns)
@@ -141,15 +144,15 @@ pub asked-all : (program : Program) (letter : ℕ) (fs : List (List ℕ)) → co
 unfolding given
 asked-all program letter fs = given-all program letter numbers.Zero fs
 
--- The drill has no further letters.
-pub none-further : (letter : ℕ) (got : Numbers) → Unknown ≡ furtherOf Drill letter got
-none-further letter numbers.Zero = refl
-none-further letter (numbers.One a) = refl
-none-further letter (numbers.Two a b) = refl
-none-further letter (numbers.Three a b c) = refl
-none-further letter (numbers.Four a b c d) = refl
-none-further letter (numbers.Five a b c d e) = refl
-none-further letter numbers.Bad = refl
+-- A program that knows no further letter with its numbers knows none with the numbers read.
+pub none-further : (program : Program) (letter : ℕ) → ((ns : List ℕ) → Unknown ≡ further program letter ns) → (got : Numbers) → Unknown ≡ furtherOf program letter got
+none-further program letter none numbers.Zero = none []
+none-further program letter none (numbers.One a) = none (a ∷ [])
+none-further program letter none (numbers.Two a b) = none (a ∷ b ∷ [])
+none-further program letter none (numbers.Three a b c) = none (a ∷ b ∷ c ∷ [])
+none-further program letter none (numbers.Four a b c d) = none (a ∷ b ∷ c ∷ d ∷ [])
+none-further program letter none (numbers.Five a b c d e) = none (a ∷ b ∷ c ∷ d ∷ e ∷ [])
+none-further program letter none numbers.Bad = refl
 
 -- Where nothing is left, the numbers got are all.
 pub numbers-end : (got : Numbers) (s : List ℕ) (i : ℕ) → length s ≤ i → numbersOf got (later (drop i s)) ≡ got
@@ -196,6 +199,18 @@ meaning-letter program s h e =
     ∙ ap (λ (k : ℕ). formed program (first s ∷ later (drop k s))) e
     ∙ ap (λ (f : List ℕ). formed program (f ∷ later (drop 1 s))) (first-single s e)
     ∙ sym (asked-all program (getD s 0 0) (later (drop 1 s)))
+
+-- The page program's lines mean what the drill's do.
+formed-page : (fs : List (List ℕ)) → formed Page fs ≡ formed Drill fs
+unfolding formed
+formed-page [] = refl
+formed-page ([] ∷ fs) = refl
+formed-page ((letter ∷ []) ∷ fs) = refl
+formed-page ((a ∷ b ∷ more) ∷ fs) = refl
+
+pub meaning-page : (s : List ℕ) → meaning Page s ≡ meaning Drill s
+unfolding meaning
+meaning-page s = ap (cond (ltb 79 (length s)) Unknown) (formed-page (fields s))
 
 -- The first 80 bytes of a line say what it means.
 pub meaning-kept : (program : Program) (s : List ℕ) → meaning program (take 80 s) ≡ meaning program s

@@ -1,20 +1,10 @@
 -- Document 01, "The drill program": what is written. "Output: a header, then for each line its number from 1, call, answer, and the value read or -."
-use Prim.Native.Nat.{ℕ, zero, suc, _+_, _/_, _%_}
+use Prim.Native.Nat.{ℕ}
 use mathlib.Core.List.{List, [], _∷_, _++_}
-use mathlib.Core.Bool.{cond}
-use lib.Dec.{ltb}
 use Rattle.script.specs.declared.Shown.{Shown}
 use Rattle.script.specs.declared.Shown.the-variants as shown
-use Rattle.script.specs.Ascii.{tab, feed, '-', '0', '?'}
-
--- A number's digits without leading zeros; `most` bounds how many there are.
-unfoldable pub spelled : ℕ → ℕ → List ℕ
-spelled zero n = []
-spelled (suc most) n = cond (ltb n 10) (('0' + n) ∷ []) (spelled most (n / 10) ++ (('0' + n % 10) ∷ []))
-
--- A number's text: its fewest decimal digits; `n` has at most `n` + 1 of them.
-abbrev pub numberText : ℕ → List ℕ
-numberText n = spelled (suc n) n
+use Rattle.text.specs.Ascii.{tab, feed, '-', '?'}
+use Rattle.text.specs.Numbers.{numberText}
 
 -- "the value read or -"; `?` for what is unknown.
 abbrev pub shownText : Shown → List ℕ

@@ -11,8 +11,9 @@ use Rattle.script.specs.declared.Number.{Number}
 use Rattle.script.specs.declared.Number.the-variants as number
 use Rattle.script.specs.declared.Numbers.{Numbers}
 use Rattle.script.specs.declared.Numbers.the-variants as numbers
-use Rattle.script.specs.Ascii.{tab}
-use Rattle.script.specs.Grammar.{fields, value, isNumber, drilled, further}
+use Rattle.text.specs.Ascii.{tab}
+use Rattle.text.specs.Numbers.{value}
+use Rattle.script.specs.Grammar.{fields, isNumber, drilled, further}
 
 -- The bytes before the first tab.
 unfoldable pub first : List ℕ → List ℕ

@@ -1,16 +1,17 @@
--- Document 01, "The drill program", and the fault program, "the drill with damage": what a line of the script means. A line is its bytes, without the line feed.
-use Prim.Native.Nat.{ℕ, _+_, _*_, _-_, _^_}
+-- Document 01, "The drill program", the fault program, "the drill with damage", and the page program, which has the drill's lines: what a line of the script means. A line is its bytes, without the line feed.
+use Prim.Native.Nat.{ℕ, _-_, _^_}
 use mathlib.Core.List.{List, [], _∷_, map}
 use mathlib.Core.Bool.{Bool, true, cond, _&&_}
 use lib.Dec.{leb, ltb, eqb}
 use lib.ListN.{length}
 use Rattle.board.specs.declared.Call.the-variants.{FormatStart, RecoveryStart, Step, Update, RestartPoint, Advance, Request, WriteBack, Read}
 use Rattle.script.specs.declared.Line.{Line}
-use Rattle.script.specs.declared.Line.the-variants.{Format, Make, Show, Cut, Damage as Damaging, Unknown}
+use Rattle.script.specs.declared.Line.the-variants.{Format, Make, Show, Cut, Damage as Damaging, Page as Paging, Unknown}
 use Rattle.script.specs.declared.Damage.the-variants.{Lengths, Memory, Cache, Entry, Field, Worker, Checksum}
 use Rattle.script.specs.declared.Program.{Program}
-use Rattle.script.specs.declared.Program.the-variants.{Drill, Fault}
-use Rattle.script.specs.Ascii.{tab, '0', '9', 'A', 'B', 'C', 'E', 'F', 'G', 'K', 'M', 'N', 'P', 'Q', 'R', 'S', 'T', 'U', 'W', 'X', 'f'}
+use Rattle.script.specs.declared.Program.the-variants.{Drill, Fault, Page}
+use Rattle.text.specs.Numbers.{allDigits, value}
+use Rattle.text.specs.Ascii.{tab, 'A', 'B', 'C', 'E', 'F', 'G', 'K', 'M', 'N', 'P', 'Q', 'R', 'S', 'T', 'U', 'W', 'X', 'f', 'p'}
 
 -- A byte put in front of the first field.
 abbrev pub joined : ℕ → List (List ℕ) → List (List ℕ)
@@ -21,20 +22,6 @@ joined b (f ∷ fs) = (b ∷ f) ∷ fs
 unfoldable pub fields : List ℕ → List (List ℕ)
 fields [] = [] ∷ []
 fields (b ∷ bs) = cond (eqb b tab) ([] ∷ fields bs) (joined b (fields bs))
-
--- "numbers decimal": digits alone.
-unfoldable pub allDigits : List ℕ → Bool
-allDigits [] = true
-allDigits (b ∷ bs) = (leb '0' b && leb b '9') && allDigits bs
-
--- The number that digits write after those that write `n`.
-unfoldable pub valueAfter : ℕ → List ℕ → ℕ
-valueAfter n [] = n
-valueAfter n (b ∷ bs) = valueAfter (10 * n + (b - '0')) bs
-
--- The number that digits write.
-abbrev pub value : List ℕ → ℕ
-value f = valueAfter 0 f
 
 -- A field is a number: one digit or more, and not "a number past 2^64 − 1".
 unfoldable pub isNumber : List ℕ → Bool
@@ -64,7 +51,8 @@ drilled letter (a ∷ b ∷ c ∷ d ∷ more) other = other
 unfoldable pub damaging : ℕ → List ℕ → Line
 -- "T": the checksum of everything.
 damaging letter [] = cond (eqb letter 'T') (Damaging Checksum) Unknown
-damaging letter (a ∷ []) = Unknown
+-- "p room: a page in a text row of `room` bytes".
+damaging letter (a ∷ []) = cond (eqb letter 'p') (Paging a) Unknown
 -- "f L W: a format's start alone"; "M i v", "N i v", "Q i v", "B k v".
 damaging letter (a ∷ b ∷ []) =
     cond (eqb letter 'f') (Make (FormatStart a b)) (cond (eqb letter 'M') (Damaging (Memory a b)) (cond (eqb letter 'N') (Damaging (Cache a b)) (cond (eqb letter 'Q') (Damaging (Entry a b)) (cond (eqb letter 'B') (Damaging (Field a b)) Unknown))))
@@ -79,6 +67,7 @@ damaging letter (a ∷ b ∷ c ∷ d ∷ e ∷ f ∷ more) = Unknown
 abbrev pub further : Program → ℕ → List ℕ → Line
 further Drill letter numbers = Unknown
 further Fault letter numbers = damaging letter numbers
+further Page letter numbers = Unknown
 
 -- What a letter with its numbers asks for in a program: "the drill's letters with the same meaning".
 abbrev pub command : Program → ℕ → List ℕ → Line

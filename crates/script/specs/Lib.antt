@@ -1,6 +1,4 @@
--- `Grammar` says what a line of the script means, `Answers` what is written. `Fields` and `Writing` have what only private functions' contracts cite.
-pub mod Ascii
+-- `Grammar` says what a line of the script means, `Answers` what is written. `Fields` has what only private functions' contracts cite.
 pub mod Grammar
 pub mod Answers
 pub mod Fields
-pub mod Writing

@@ -104,6 +104,7 @@ fn further(program: Program, letter: u8, got: Numbers) -> Line
     match program {
         Program::Drill => Line::Unknown,
         Program::Fault => damaging(letter, got),
+        Program::Page => Line::Unknown,
     }
 }
 

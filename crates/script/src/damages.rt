@@ -20,6 +20,16 @@ fn with_none(letter: u8) -> Line
     }
 }
 
+// "p room".
+fn with_one(letter: u8, a: u64) -> Line
+    ensures { λ r. ⌜ r ≡ damaging letter (a ∷ []) ⌝ }
+{
+    match letter {
+        b'p' => Line::Page { room: a },
+        _ => Line::Unknown,
+    }
+}
+
 // "f L W", "M i v", "N i v", "Q i v", "B k v".
 fn with_two(letter: u8, a: u64, b: u64) -> Line
     ensures { λ r. ⌜ r ≡ damaging letter (a ∷ b ∷ []) ⌝ }
@@ -90,7 +100,7 @@ pub fn damaging(letter: u8, got: Numbers) -> Line
 {
     match got {
         Numbers::Zero => with_none(letter),
-        Numbers::One(_) => Line::Unknown,
+        Numbers::One(a) => with_one(letter, a),
         Numbers::Two(a, b) => with_two(letter, a, b),
         Numbers::Three(a, b, c) => with_three(letter, a, b, c),
         Numbers::Four(_, _, _, _) => Line::Unknown,

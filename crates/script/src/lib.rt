@@ -1,5 +1,5 @@
-// The lines of the drill (document 01, "The drill program") and of the fault program, the drill with damage: a line of
-// the script read, a line of the answer written.
+// The lines of the drill (document 01, "The drill program"), of the fault program, the drill with damage, and of the page
+// program, which has the drill's: a line of the script read, a line of the answer written.
 mod answer;
 mod commands;
 mod damages;
@@ -16,16 +16,18 @@ pub use fields::number as decimal;
 pub enum Program {
     Drill,
     Fault,
+    Page,
 }
 
 // What a line of the script asks for: a format to the end, one call of the board, one call whose value is shown, a cut,
-// damage, or nothing that is known.
+// damage, a page in a text row of `room` bytes, or nothing that is known.
 pub enum Line {
     Format { lines: u64, workers: u64 },
     Make { call: Call },
     Show { call: Call },
     Cut,
     Damage { damage: Damage },
+    Page { room: u64 },
     Unknown,
 }
 

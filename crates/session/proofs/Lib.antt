@@ -2,3 +2,4 @@
 pub mod Rows
 pub mod Acts
 pub mod Formats
+pub mod Pages

@@ -1,8 +1,9 @@
--- Document 01, "The drill program": what a line of the script does to the board, and what is shown of it. The fault program's damage is `outcome`'s.
+-- Document 01, "The drill program": what a line of the script does to the board, and what is shown of it. The fault program's damage is `outcome`'s, its page `paged`.
 use Prim.Native.Nat.{ℕ, zero, suc}
 use mathlib.Core.Path.{_≡_}
 use mathlib.Core.Bool.{cond}
 use mathlib.Core.List.{List}
+use lib.Dec.{ltb}
 use lib.ListN.{length, replicate}
 use Rattle.board.specs.declared.State.{State}
 use Rattle.board.specs.declared.Phase.the-variants.{Off}
@@ -12,12 +13,14 @@ use Rattle.board.specs.Board.{Board, rowWords, listWords, outside}
 use Rattle.board.specs.Causes.{cause}
 use Rattle.board.specs.Next.{lent, next, valueOf}
 use Rattle.board.specs.Next as board
+use Rattle.board.specs.Page.{pageCause, pageLeft}
 use Rattle.board.specs.Machine.{formatSteps}
 use Rattle.board.specs.Statements.{stepsFrom}
 use Rattle.script.specs.declared.Line.{Line}
 use Rattle.script.specs.declared.Line.the-variants as line
 use Rattle.script.specs.declared.Shown.{Shown}
 use Rattle.script.specs.declared.Shown.the-variants.{Unknown, Nothing, Number}
+use Rattle.damage.specs.Checksum.{checksumOf}
 use Rattle.damage.specs.Damages.{outcome}
 use Rattle.session.specs.declared.Session.{Session}
 use Rattle.session.specs.declared.Answered.{Answered}
@@ -50,6 +53,14 @@ switchedOff s =
 abbrev pub cutOff : Board → Board
 cutOff b = lent (switchedOff (b .state)) (b .memory) (replicate (length (b .cache)) 0) (b .entries)
 
+-- "p room: a page in a text row of `room` bytes, each 0xAA before".
+abbrev pub textRow : ℕ → List ℕ
+textRow room = replicate room 170
+
+-- "the call's" number, and "the checksum of the whole text row, refused or not".
+abbrev pub paged : ℕ → Board → Done
+paged room b = done b (Number (pageCause b (textRow room))) (Number (checksumOf (pageLeft b (textRow room))))
+
 -- What a line does. A format is turned down by its limits alone, and then changes nothing. "A G turned down prints value 0".
 abbrev pub carriedOut : Line → Board → Done
 carriedOut (line.Format l w) b =
@@ -58,6 +69,8 @@ carriedOut (line.Make call) b = done (next call b) (Number (cause call b)) Nothi
 carriedOut (line.Show call) b = done (next call b) (Number (cause call b)) (Number (valueOf call b))
 carriedOut line.Cut b = done (cutOff b) (Number 0) Nothing
 carriedOut (line.Damage d) b = done (outcome d b .board) (outcome d b .answer) (outcome d b .value)
+-- "over 70,000: `?`".
+carriedOut (line.Page room) b = cond (ltb 70000 room) (done b Unknown Nothing) (paged room b)
 carriedOut line.Unknown b = done b Unknown Nothing
 
 -- ---- what contracts say

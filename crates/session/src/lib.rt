@@ -4,10 +4,11 @@ ghost use Prim.Native.Nat.{_≤_};
 ghost use lib.ListN.{length, replicate};
 ghost use Rattle.board.specs.State.{started};
 ghost use Rattle.board.specs.Next.{lent};
+ghost use Rattle.board.specs.Page.{PagePerformed};
 ghost use Rattle.script.specs.declared.Line.the-variants.{Format, Show};
 ghost use Rattle.damage.specs.Damages.{HasRoom};
 ghost use Rattle.session.specs.Session.{boardOf, Within, Fits, Room};
-ghost use Rattle.session.specs.Lines.{given, repeated, formatted, Switched, carriedOut, left};
+ghost use Rattle.session.specs.Lines.{given, repeated, formatted, textRow, Switched, carriedOut, left};
 use board::Call;
 use board::Phase;
 use board::State;
@@ -269,6 +270,67 @@ fn harm(
     }
 }
 
+// A page of the board into a text row. Gives its number.
+pub fn put_page(
+    session: Session,
+    memory: &[u64],
+    cache: &[u64],
+    entries: &[u16],
+    text: &mut [u8],
+) -> u8
+    requires { ⌜ Fits session (now memory) (now cache) (now entries) ⌝ }
+    ensures { λ r. ⌜ PagePerformed
+        (boardOf session (now (memory .entry)) (now (cache .entry)) (now (entries .entry)))
+        (now (text .entry))
+        r
+        (boardOf session (now (memory .entry)) (now (cache .entry)) (now (entries .entry)))
+        (now (text .exit)) ⌝ }
+{
+    let state = session.state;
+    let in_memory = session.memory;
+    let in_cache = session.cache;
+    let list = session.list;
+    let r = page::page(
+        state,
+        &memory[..in_memory],
+        &cache[..in_cache],
+        &entries[..list],
+        text,
+    );
+    r.number
+}
+
+// "each 0xAA before", with room for the longest text row.
+fn text_row() -> [u8; 70000]
+    ensures { λ r. ⌜ r ≡ textRow 70000 ⌝ }
+{
+    [0xAAu8; 70000]
+}
+
+// "p room": a page in a text row of `room` bytes.
+fn print(session: Session, memory: &[u64], cache: &[u64], entries: &[u16], room: u64) -> Answered
+    requires { ⌜ Fits session (now memory) (now cache) (now entries) ⌝ }
+    ensures { λ r. ⌜ left r (now (memory .entry)) (now (cache .entry)) (now (entries .entry)) ≡ carriedOut (Line.Page room) (boardOf session (now (memory .entry)) (now (cache .entry)) (now (entries .entry))) ⌝ }
+    ensures { λ r. ⌜ r .session ≡ session ⌝ }
+{
+    if room > 70000 {
+        return Answered {
+            session,
+            answer: Shown::Unknown,
+            value: Shown::Nothing,
+        };
+    }
+    let bytes = room as usize;
+    let mut text = text_row();
+    let number = put_page(session, memory, cache, entries, &mut text[..bytes]);
+    let sum = damage::bytes_checksum(&text[..bytes]);
+    Answered {
+        session,
+        answer: Shown::Number(number as u64),
+        value: Shown::Number(sum),
+    }
+}
+
 // A line of the script.
 pub fn act(
     session: Session,
@@ -287,6 +349,7 @@ pub fn act(
         Line::Show { call } => make(session, memory, cache, entries, call),
         Line::Cut => cut(session, cache),
         Line::Damage { damage } => harm(session, memory, cache, entries, damage),
+        Line::Page { room } => print(session, memory, cache, entries, room),
         Line::Unknown => Answered {
             session,
             answer: Shown::Unknown,

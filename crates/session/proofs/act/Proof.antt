@@ -33,10 +33,14 @@ returns-5 : tie.Need-returns-5
 returns-5 c = (acted _ _ _ (c .before .before .before .before .before .line4 .given .1) (c .harm .ensures .0), c .harm .ensures .1)
 
 returns-6 : tie.Need-returns-6
-returns-6 c = (acted _ _ _ (c .enum-told2 .given .1) refl, c .before .before .pre)
+returns-6 c =
+    (acted _ _ _ (c .before .before .before .before .before .before .before .before .line5 .given .1) (c .print .ensures .0), same-within (c .print .ensures .1) (refl, refl, refl) (c .before .before .before .before .before .before .before .before .before .before .pre))
+
+returns-7 : tie.Need-returns-7
+returns-7 c = (acted _ _ _ (c .enum-told2 .given .1) refl, c .before .before .pre)
 
 pub act-spec : {M : Type 1} → statement M
 act-spec =
     tie.close
     (tie.spec (search needs) (search needs) (search needs) (search needs) (search needs) (search needs) (search needs)
-    (search needs) (search needs) (search needs) (search needs) (search needs) returns returns-2 returns-3 returns-4 returns-5 returns-6)
+    (search needs) (search needs) (search needs) (search needs) (search needs) (search needs) (search needs) returns returns-2 returns-3 returns-4 returns-5 returns-6 returns-7)

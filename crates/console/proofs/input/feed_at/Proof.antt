@@ -6,7 +6,7 @@ use native.Mathlib.Numerals.{add-one}
 use lib.ListN.{length, drop}
 use borrow.Author.Needs.{needs}
 use Rattle.bytes.specs.Bytes.{indexOf}
-use Rattle.script.specs.Ascii.{feed}
+use Rattle.text.specs.Ascii.{feed}
 use Rattle.console.proofs.Feeds.{feed-here, feed-later, feed-end}
 use Rattle.console.proofs.input.feed_at.Statement.{statement}
 use Rattle.console.proofs.input.feed_at.Tie as tie

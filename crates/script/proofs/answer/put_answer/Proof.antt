@@ -2,7 +2,7 @@
 use native.Mathlib.Omega.{arith}
 use borrow.Author.Needs.{needs}
 use Rattle.script.specs.Answers.{answerText}
-use Rattle.script.proofs.TextLaws.{and-then}
+use Rattle.text.proofs.Writing.{and-then}
 use Rattle.script.proofs.answer.put_answer.Statement.{statement}
 use Rattle.script.proofs.answer.put_answer.Tie as tie
 

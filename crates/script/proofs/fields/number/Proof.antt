@@ -7,7 +7,7 @@ use lib.ListN.{length, drop, getD}
 use borrow.Author.Needs.{needs}
 use borrow.Author.Tests.{lt-leb}
 use Rattle.board.proofs.Laws.Bools.{and-off, and-off-right}
-use Rattle.script.specs.Ascii.{'0', '9'}
+use Rattle.text.specs.Ascii.{'0', '9'}
 use Rattle.script.specs.Fields.{numberOf}
 use Rattle.script.proofs.NumberLaws.{numberFrom, number-starts, number-empty, number-ends, number-goes-on, number-breaks, number-past}
 use Rattle.script.proofs.fields.number.Statement.{statement}
