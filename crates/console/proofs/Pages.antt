@@ -15,7 +15,7 @@ use Rattle.board.proofs.Laws.Taken.{numbered, Clear, first-clear}
 use Rattle.text.proofs.Writing.{put-front}
 use Rattle.page.specs.Statements.{Words}
 use Rattle.session.proofs.Formats.{lines-within}
-use Rattle.console.specs.Printing.{Printed, printing, largestRow, printedOf, NeverShort}
+use Rattle.console.specs.Printing.{printing, largestRow, printedOf, NeverShort}
 
 -- A page's number goes by the text row's length alone.
 cause-by-length : (b : Board) (s t : List ℕ) → length s ≡ length t → pageCause b s ≡ pageCause b t

@@ -13,7 +13,7 @@ use Rattle.board.proofs.Laws.Bools.{chosen, passedOver}
 use Rattle.script.specs.declared.Line.the-variants as line
 use Rattle.script.specs.declared.Shown.the-variants.{Unknown, Nothing, Number}
 use Rattle.damage.specs.Checksum.{checksumOf}
-use Rattle.session.specs.Lines.{Done, done, textRow, carriedOut}
+use Rattle.session.specs.Lines.{done, textRow, carriedOut}
 use Rattle.session.proofs.Rows.{part-back, take-replicate}
 
 -- A page leaves the board that it is made of.

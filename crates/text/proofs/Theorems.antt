@@ -3,7 +3,7 @@ use Prim.Native.Nat.{ℕ, zero, suc, _-_, _^_, _≤_, _<_}
 use mathlib.Core.Path.{_≡_, refl}
 use native.Mathlib.Omega.{arith}
 use lib.ListN.{length}
-use Rattle.text.specs.Numbers.{spelled, numberText, ReadsBack, NoLeadingZero, Widths, NumbersHold}
+use Rattle.text.specs.Numbers.{spelled, numberText, NoLeadingZero, NumbersHold}
 use Rattle.text.proofs.Numbers.{number-value, number-digits, number-first, number-width, number-long}
 
 below : (k n : ℕ) → 0 < k → n < 10 ^ k → length (numberText n) ≤ k

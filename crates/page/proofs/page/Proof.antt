@@ -1,7 +1,7 @@
 -- `page::page` meets its contract: taken, the page is written; refused, nothing is.
 use Prim.Native.Nat.{ℕ, _≤_}
-use mathlib.Core.Path.{_≡_, refl, sym, ap, _∙_}
-use mathlib.Core.Bool.{true, false}
+use mathlib.Core.Path.{_≡_, refl, sym, _∙_}
+use mathlib.Core.Bool.{false}
 use mathlib.Core.List.{List}
 use lib.Dec.{ltb, eqb}
 use lib.ListN.{length}
@@ -9,9 +9,7 @@ use borrow.Author.Needs.{needs}
 use borrow.Author.Tests.{ltb-false, eq-eqb, ne-eqb}
 use Rattle.text.specs.Writing.{put}
 use Rattle.text.proofs.Bools.{chosen, passedOver}
-use Rattle.board.specs.declared.State.{State}
 use Rattle.board.specs.Board.{Board, cells, rowWords}
-use Rattle.board.specs.Causes.{firstStanding}
 use Rattle.board.specs.Next.{lent}
 use Rattle.board.specs.Page.{pageText, pageBytes, pageCauses, pageCause, pageLeft, PagePerformed}
 use Rattle.board.proofs.Laws.Taken.{numbered, Clear, first-clear}

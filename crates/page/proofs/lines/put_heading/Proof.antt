@@ -1,5 +1,4 @@
 -- `page::lines::put_heading` meets its contract: the bytes are the heading's.
-use mathlib.Core.Path.{_≡_, refl}
 use borrow.Author.Needs.{needs}
 use Rattle.board.specs.Page.{lineText}
 use Rattle.page.proofs.lines.put_heading.Statement.{statement}
