@@ -12,7 +12,7 @@ use Rattle.line.specs.Cell.{fieldIndex, fieldOf, withField}
 use Rattle.board.specs.declared.State.{State}
 use Rattle.board.specs.declared.Phase.the-variants.{Off, Running}
 use Rattle.board.specs.declared.Call.{Call}
-use Rattle.board.specs.declared.Call.the-variants.{FormatStart, RecoveryStart, Step, Update, RestartPoint, Advance, Request, WriteBack, Read}
+use Rattle.board.specs.declared.Call.the-variants.{FormatStart, RecoveryStart, Step, Update, RestartPoint, Advance, Request, WriteBack, Read, GoAway, ComeBack}
 use Rattle.board.specs.Board.{Board, cells}
 use Rattle.board.specs.State.{anyUnder, started}
 use Rattle.board.specs.Causes.{badRecord, causes, firstStanding, cause}

@@ -9,7 +9,7 @@ use Rattle.line.specs.Line.{lineStart}
 use Rattle.line.specs.Cell.{cellLine}
 use Rattle.board.specs.declared.State.{State}
 use Rattle.board.specs.declared.Condition.{Condition}
-use Rattle.board.specs.declared.Condition.the-variants.{Free, Waiting, Updating}
+use Rattle.board.specs.declared.Condition.the-variants.{Free, Waiting, Updating, Away}
 use Rattle.board.specs.declared.Store.{Store}
 use Rattle.board.specs.declared.Store.the-variants.{Backup, Mark, Record}
 use Rattle.board.specs.declared.UndoStep.{UndoStep}
@@ -17,10 +17,10 @@ use Rattle.board.specs.declared.UndoStep.the-variants.{Restore, Unmark, 
 use Rattle.board.specs.declared.Phase.{Phase}
 use Rattle.board.specs.declared.Phase.the-variants.{Off, Formatting, Recovering, Running}
 use Rattle.board.specs.Board.{Board, cells, listWords, linesOutside, workersOutside, epochOf, linesOf, workersOf, restNotZero, lastEpoch}
-use Rattle.board.specs.State.{allFree, conditionOf, isWaiting}
+use Rattle.board.specs.State.{allFree, conditionOf}
 use Rattle.board.specs.Machine.{Unfinished, none, update, Machine, markedCount}
 use Rattle.board.specs.Sequence.{Run}
-use Rattle.board.specs.Statements.{Spare}
+use Rattle.board.specs.Statements.{AllQuiescent, Spare}
 use Rattle.board.proofs.Laws.View.{View, view, Sized}
 
 -- ---- rows
@@ -187,21 +187,19 @@ BeforeStore Record e v = v .mark ≡ e
 abbrev pub WorkerInv : ℕ → List ℕ → Condition → Unfinished → Type 0
 WorkerInv l cache Free u = u ≡ none
 WorkerInv l cache Waiting u = u ≡ none
+WorkerInv l cache Away u = u ≡ none
 WorkerInv l cache (Updating next c v) u = (u ≡ update c v (storesLeft next)) × (c < cells l) × BeforeStore next (epochOf cache) (view cache c)
 
 -- The worker has an unfinished update of cell `d`.
 abbrev pub Touches : Condition → ℕ → Type 0
 Touches Free d = ⊥
 Touches Waiting d = ⊥
+Touches Away d = ⊥
 Touches (Updating next c v) d = c ≡ d
 
 -- The steps that a requested checkpoint has taken.
 abbrev pub progress : State → ℕ
 progress s = cond (s .requested) (s .place) 0
-
--- Every worker under W waits.
-abbrev pub AllWait : State → Type 0
-AllWait s = (w : ℕ) → w < s .workers → isWaiting (conditionOf s w) ≡ true
 
 -- Memory and cache have the same record of every cell.
 abbrev pub SameRecords : ℕ → Board → Type 0
@@ -221,8 +219,8 @@ pub record Early (l : ℕ) (b : Board) (m : Machine) : Type 0 where
   pub written : (i : ℕ) → i < progress (b .state) → view (b .memory) (getD (b .entries) i 0) .value ≡ view (b .cache) (getD (b .entries) i 0) .value
   -- the place is at most the list's length
   pub within : progress (b .state) ≤ b .state .listed
-  -- once the first step is taken all workers wait
-  pub waiting : 0 < progress (b .state) → AllWait (b .state)
+  -- once the first step is taken all workers wait or are away
+  pub waiting : 0 < progress (b .state) → AllQuiescent (b .state)
   -- a requested checkpoint has an epoch to go to
   pub room : b .state .requested ≡ true → epochOf (b .cache) ≡ lastEpoch → ⊥
 
@@ -236,8 +234,8 @@ pub record Gap (l : ℕ) (b : Board) : Type 0 where
   pub epochs : epochOf (b .cache) ≡ epochOf (b .memory) + 1
   -- every record is in memory
   pub same : SameRecords l b
-  -- all workers wait
-  pub waiting : AllWait (b .state)
+  -- all workers wait or are away
+  pub waiting : AllQuiescent (b .state)
 
 -- From line 0's write-back to the release.
 pub record Late (l : ℕ) (b : Board) (m : Machine) : Type 0 where
@@ -251,8 +249,8 @@ pub record Late (l : ℕ) (b : Board) (m : Machine) : Type 0 where
   pub epochs : epochOf (b .cache) ≡ epochOf (b .memory)
   -- every record is in memory
   pub same : SameRecords l b
-  -- all workers wait
-  pub waiting : AllWait (b .state)
+  -- all workers wait or are away
+  pub waiting : AllQuiescent (b .state)
   -- the checkpoint is complete
   pub complete : (c : ℕ) → c < cells l → m .checkpointed c ≡ m .current c
   -- no cell is logged in the new epoch

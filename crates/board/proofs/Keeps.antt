@@ -10,4 +10,5 @@ pub mod Advance
 pub mod WriteBack
 pub mod CheckpointStep
 pub mod Quiet
+pub mod Away
 pub mod Every

@@ -4,6 +4,7 @@ pub mod Count
 pub mod View
 pub mod Rows
 pub mod Taken
+pub mod Workers
 pub mod Idle
 pub mod Takes
 pub mod Reading

@@ -2,16 +2,18 @@
 use mathlib.Core.Path.{_≡_, refl}
 use mathlib.Core.List.{flatten}
 use mathlib.Core.Bool.{true}
+use Rattle.line.specs.Line.{lineOf, withLine}
 use Rattle.line.specs.Cell.{fieldIndex, fieldOf}
 use Rattle.board.specs.State.{anyUnder}
 use Rattle.board.specs.Causes.{badRecord, causes, firstStanding, cause}
-use Rattle.board.specs.Next.{valueRead}
+use Rattle.board.specs.Effects.{formatStep, recoveryStep, actAt, performAct, step, effect}
+use Rattle.board.specs.Next.{next, valueRead}
 use Rattle.board.specs.Bench.{allTakenIn, afterEvents, sees, allSeen, holds}
 use Rattle.board.specs.Refusals.{refusals, RefusalsHold}
 use Rattle.board.proofs.Bench.{allHold, each}
 
 tested : allHold refusals ≡ true
-unfolding flatten allHold refusals holds allTakenIn afterEvents sees allSeen valueRead cause causes firstStanding badRecord anyUnder fieldIndex fieldOf
+unfolding flatten allHold refusals holds allTakenIn afterEvents sees allSeen next valueRead cause causes firstStanding badRecord anyUnder effect step formatStep recoveryStep actAt performAct lineOf withLine fieldIndex fieldOf
 tested = refl
 
 -- Every call is turned down and taken as the table of refusals says.

@@ -6,7 +6,7 @@ use Rattle.line.specs.declared.Field.{Field}
 use Rattle.line.specs.Cell.{cellLine, fieldIndex, fieldOf, withField}
 use Rattle.board.specs.declared.State.{State}
 use Rattle.board.specs.declared.Condition.{Condition}
-use Rattle.board.specs.declared.Condition.the-variants.{Free, Waiting, Updating}
+use Rattle.board.specs.declared.Condition.the-variants.{Free, Waiting, Updating, Away}
 use Rattle.board.specs.declared.Store.{Store}
 use Rattle.board.specs.declared.Store.the-variants.{Backup, Mark, Record}
 use Rattle.board.specs.declared.UndoStep.{UndoStep}
@@ -14,7 +14,7 @@ use Rattle.board.specs.declared.UndoStep.the-variants.{Restore, Unmark, 
 use Rattle.board.specs.declared.Phase.{Phase}
 use Rattle.board.specs.declared.Phase.the-variants.{Off, Formatting, Recovering, Running}
 use Rattle.board.specs.declared.Call.{Call}
-use Rattle.board.specs.declared.Call.the-variants.{FormatStart, RecoveryStart, Step, Update, RestartPoint, Advance, Request, WriteBack, Read}
+use Rattle.board.specs.declared.Call.the-variants.{FormatStart, RecoveryStart, Step, Update, RestartPoint, Advance, Request, WriteBack, Read, GoAway, ComeBack}
 use Rattle.board.specs.Board.{Board, epochOf}
 use Rattle.board.specs.State.{placed, conditionOf, isFormatting}
 use Rattle.board.specs.Next.{kind}
@@ -66,6 +66,7 @@ worker-stores : (k : Condition) (w : ℕ) (s : State) (b : Board) → OneStore b
 unfolding advanceOf
 worker-stores Free w s b = noStore refl refl
 worker-stores Waiting w s b = noStore refl refl
+worker-stores Away w s b = noStore refl refl
 worker-stores (Updating n c v) w s b = advance-stores n w c v s b
 
 -- What any call but a format's step and a recovery's start does where it is taken.
@@ -80,6 +81,8 @@ effect-stores (Advance w) b e = worker-stores (conditionOf (b .state) w) w (b .s
 effect-stores Request b e = noStore refl refl
 effect-stores (WriteBack l) b e = oneLine l refl refl
 effect-stores (Read c) b e = noStore refl refl
+effect-stores (GoAway w) b e = noStore refl refl
+effect-stores (ComeBack w) b e = noStore refl refl
 
 -- A taken call stores one word of the cache, writes one line back, or does neither.
 pub single-stores : SingleStores

@@ -15,7 +15,7 @@ use Rattle.board.specs.Next.{Taken, next, valueRead, valueOf, Performed}
 use Rattle.board.specs.Machine.{Machine, beginning, formatSteps}
 use Rattle.board.specs.Sequence.{Begins, formatted, Run, cutRun, cuts, History, begun, further, rose, lastCheckpoint, recoverySteps}
 use Rattle.board.specs.Statements
-use Rattle.board.specs.Statements.{Reads, ReadsCheckpointed, Recovered, Recovery, CutAndRecovered, ReadAlike, Demand3, LastCheckpoint, OwnSizes, RecoveredSizes, Completes, formatStepIn, Completion, stepsFrom, FormatEnds, RecoveryEnds, CheckpointEnds, RecoveryStarts, HistoryBegins, HasRecovery, UpdateEnds, SingleStores, Spare, SpareWords}
+use Rattle.board.specs.Statements.{Reads, ReadsCheckpointed, Recovered, Recovery, CutAndRecovered, ReadAlike, Demand3, LastCheckpoint, OwnSizes, RecoveredSizes, Completes, formatStepIn, Completion, stepsFrom, FormatEnds, RecoveryEnds, CheckpointEnds, AwayHoldsUpNone, GoesAndComes, RecoveryStarts, HistoryBegins, HasRecovery, UpdateEnds, SingleStores, Spare, SpareWords}
 use Rattle.board.proofs.Laws.Bools.{on, not-off}
 use Rattle.board.proofs.Invariant.{Inv}
 use Rattle.board.proofs.Laws.Taken.{standsAt, passed, performed-number, performed-value, performed-taken, performing}
@@ -23,6 +23,7 @@ use Rattle.board.proofs.Laws.Takes.{all-takes}
 use Rattle.board.proofs.Laws.Reading.{in-phase, read-taken, read-current}
 use Rattle.board.proofs.Checkpoint.Run.{is-running}
 use Rattle.board.proofs.Keeps.Every.{carried, history-inv}
+use Rattle.board.proofs.Keeps.Away
 use Rattle.board.proofs.Recovery.Finishes.{Done, recovers}
 use Rattle.board.proofs.Keeps.RecoveryStart.{recovery-kept}
 use Rattle.board.proofs.Recovery.Starts.{start-taken}
@@ -151,7 +152,7 @@ completion r r′ h e = carried (history-inv r h) e .completion
 
 -- ---- 4. progress
 
--- Formats, recoveries, checkpoints and updates end, and recovery can be started.
+-- Formats, recoveries, checkpoints and updates end, workers that are away or not; workers go and come; and recovery can be started.
 pub format-ends : FormatEnds
 format-ends = FormatSteps.format-ends
 
@@ -159,7 +160,13 @@ pub recovery-ends : RecoveryEnds
 recovery-ends = RecoverySteps.recovery-ends
 
 pub checkpoint-ends : CheckpointEnds
-checkpoint-ends r h = CheckpointSteps.checkpoint-ends r (history-inv r h)
+checkpoint-ends r h d e on first wait = CheckpointSteps.checkpoint-ends r (history-inv r h) d e on wait (r .board .state .listed + 3) (omega arith) .0
+
+pub away-holds-up-none : AwayHoldsUpNone
+away-holds-up-none r h = CheckpointSteps.checkpoint-ends r (history-inv r h)
+
+pub goes-and-comes : GoesAndComes
+goes-and-comes r h = Away.goes-and-comes r (history-inv r h)
 
 pub recovery-starts : RecoveryStarts
 recovery-starts r h e = start-taken r (history-inv r h) e

@@ -9,7 +9,7 @@ use lib.ListN.{length}
 use borrow.Author.Tests.{leb-false, lt-leb, ne-eqb}
 use Rattle.board.specs.declared.State.{State}
 use Rattle.board.specs.declared.Condition.{Condition}
-use Rattle.board.specs.declared.Condition.the-variants.{Free, Waiting, Updating}
+use Rattle.board.specs.declared.Condition.the-variants.{Free, Waiting, Updating, Away}
 use Rattle.board.specs.declared.Store.{Store}
 use Rattle.board.specs.declared.Store.the-variants.{Backup, Mark, Record}
 use Rattle.board.specs.declared.Phase.the-variants.{Running}
@@ -30,7 +30,8 @@ use Rattle.board.proofs.Laws.Reading.{running-record, read-taken, read-
 use Rattle.board.proofs.Laws.View.{view-mark}
 use Rattle.board.proofs.Invariant.{Inv, WorkerInv, RunningInv}
 use Rattle.board.proofs.Checkpoint.Run.{is-running, running-run}
-use Rattle.board.proofs.Keeps.OneCell.{Ready, ready, condition-at}
+use Rattle.board.proofs.Laws.Workers.{condition-at}
+use Rattle.board.proofs.Keeps.OneCell.{Ready, ready}
 use Rattle.board.proofs.Keeps.Update.{keeps-update, keeps-restart, marked-logged, update-cell, restart-cell}
 use Rattle.board.proofs.Keeps.Advance.{carried-advance}
 
@@ -48,7 +49,7 @@ module _ {r : Run} {w c v : ℕ} {next : Store} (u : Before r w c v next) where
   -- What is known of the board then.
   now : Ready r w
   now =
-      ready r w isUpdating refl (u .inv) (u .uncut) (not-on (isRunning (r .board .state .phase)) (ap isRunning (u .phase)))
+      ready r w isUpdating refl refl (u .inv) (u .uncut) (not-on (isRunning (r .board .state .phase)) (ap isRunning (u .phase)))
       (lt-leb (r .board .state .workers) w (u .under)) (not-on (isUpdating (conditionOf (r .board .state) w)) (ap isUpdating (u .here)))
 
   -- The worker's update is the machine's.
@@ -193,13 +194,13 @@ unfolding standsAt causes effect
 update-ends r inv d w c v k (updates) value b p =
     let (t, same) = performed-taken (Update w c v) (r .board) p refl in
     let pass = passed (Update w c v) (r .board) t in
-    let now = ready r w isFree refl inv d (pass 2) (pass 6) (pass 8) in
+    let now = ready r w isFree refl refl inv d (pass 2) (pass 6) (pass 8) in
     subst (Ended w c v (cond (r .machine .marked c) 1 3)) (sym same)
     (started-ends r w c v (Update w c v) (keeps-update r w c v inv d t) (and-off (r .crashed) true d) now (update-cell r w c v now t) refl)
 update-ends r inv d w c v k (restarts e) value b p =
     let (t, same) = performed-taken (RestartPoint w v) (r .board) p refl in
     let pass = passed (RestartPoint w v) (r .board) t in
-    let now = ready r w isFree refl inv d (pass 2) (pass 6) (pass 8) in
+    let now = ready r w isFree refl refl inv d (pass 2) (pass 6) (pass 8) in
     subst (λ (x : ℕ). Ended w x v (cond (r .machine .marked x) 1 3) b) (sym e)
     (subst (Ended w w v (cond (r .machine .marked w) 1 3)) (sym same)
     (started-ends r w w v (RestartPoint w v) (keeps-restart r w v inv d t) (and-off (r .crashed) true d) now (restart-cell r w now) refl))

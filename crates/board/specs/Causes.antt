@@ -1,4 +1,4 @@
--- Document 01, "Why a call is turned down": the cause table, one test a row, and for each call its rows in rising order.
+-- Document 01, "Why a call is turned down", and document 02, ticket 2: the cause table, one test a row, and for each call its rows in the order tested.
 use Prim.Native.Nat.{ℕ, _+_, _-_, _/_, _%_}
 use mathlib.Core.List.{List, [], _∷_}
 use mathlib.Core.Bool.{Bool, true, false, cond, not, _&&_, _||_}
@@ -8,10 +8,10 @@ use Rattle.board.specs.declared.State.{State}
 use Rattle.board.specs.declared.Phase.{Phase}
 use Rattle.board.specs.declared.Phase.the-variants.{Off, Formatting, Recovering, Running}
 use Rattle.board.specs.declared.Call.{Call}
-use Rattle.board.specs.declared.Call.the-variants.{FormatStart, RecoveryStart, Step, Update, RestartPoint, Advance, Request, WriteBack, Read}
+use Rattle.board.specs.declared.Call.the-variants.{FormatStart, RecoveryStart, Step, Update, RestartPoint, Advance, Request, WriteBack, Read, GoAway, ComeBack}
 use Rattle.board.specs.Board
 use Rattle.board.specs.Board.{Board, cells, rowWords, listWords, outside, workersOutside, epochOf, linesOf, workersOf, restNotZero, lastEpoch}
-use Rattle.board.specs.State.{conditionOf, isFree, isWaiting, isUpdating, updates, mustList, anyWorker, othersUpdate, isOff, isFormatting, isRunning}
+use Rattle.board.specs.State.{conditionOf, isFree, isUpdating, isAway, quiescent, updates, mustList, anyWorker, othersUpdate, isOff, isFormatting, isRunning}
 
 -- A row of the table: the cause's number, and whether it stands.
 pub record Cause : Type 0 where
@@ -90,7 +90,7 @@ badHeader row =
     || workersOutside (linesOf row) (workersOf row)
     || restNotZero row
 
--- ---- causes 6 to 11
+-- ---- causes 6 to 8
 
 -- "worker W or more".
 abbrev pub noWorker : State → ℕ → Bool
@@ -108,7 +108,7 @@ noCell s c = leb (cells (s .lines)) c
 abbrev pub noLine : State → ℕ → Bool
 noLine s l = ltb (s .lines) l
 
--- "update or restart point by a worker not free".
+-- "update or restart point by a worker not free"; 02: "going away when not free".
 abbrev pub busy : State → ℕ → Bool
 busy s w = not (isFree (conditionOf s w))
 
@@ -116,9 +116,21 @@ busy s w = not (isFree (conditionOf s w))
 abbrev pub idle : State → ℕ → Bool
 idle s w = not (isUpdating (conditionOf s w))
 
--- "running step with none requested, or with a worker under W not waiting".
+-- 02: "coming back when not away".
+abbrev pub notAway : State → ℕ → Bool
+notAway s w = not (isAway (conditionOf s w))
+
+-- ---- cause 13, "after 8"
+
+-- 02: "coming back after a checkpoint's first step and before its release".
+abbrev pub checkpointBegun : State → Bool
+checkpointBegun s = s .requested && ltb 0 (s .place)
+
+-- ---- causes 10 and 11
+
+-- "running step with none requested, or with a worker under W not waiting"; 02: "away counts as waiting".
 abbrev pub notReady : State → Bool
-notReady s = isRunning (s .phase) && (not (s .requested) || anyWorker s (λ condition. not (isWaiting condition)))
+notReady s = isRunning (s .phase) && (not (s .requested) || anyWorker s (λ condition. not (quiescent condition)))
 
 -- "the cache's epoch 2^64 − 1, at a request".
 abbrev pub epochSpent : Board → Bool
@@ -134,7 +146,7 @@ storesSpentEpoch b = checkpointing (b .state) && eqb (b .state .place) (b .state
 abbrev pub row : ℕ → Bool → Cause
 row number stands = record { number = number; stands = stands }
 
--- "Checked in rising order of number": what can turn each call down.
+-- "Checked in rising order of number", and 02's 13 "after 8": what can turn each call down.
 unfoldable pub causes : Call → Board → List Cause
 causes (FormatStart l w) b =
     row 1 (outside l w)
@@ -193,6 +205,21 @@ causes (Read c) b =
     ∷ row 3 (badRecord (b .state))
     ∷ row 4 (badRows (b .state .lines) b)
     ∷ row 7 (noCell (b .state) c)
+    ∷ []
+causes (GoAway w) b =
+    row 2 (notRunning b)
+    ∷ row 3 (badRecord (b .state))
+    ∷ row 4 (badRows (b .state .lines) b)
+    ∷ row 6 (noWorker (b .state) w)
+    ∷ row 8 (busy (b .state) w)
+    ∷ []
+causes (ComeBack w) b =
+    row 2 (notRunning b)
+    ∷ row 3 (badRecord (b .state))
+    ∷ row 4 (badRows (b .state .lines) b)
+    ∷ row 6 (noWorker (b .state) w)
+    ∷ row 8 (notAway (b .state) w)
+    ∷ row 13 (checkpointBegun (b .state))
     ∷ []
 
 -- The number of the first cause that stands, 0 where none does.

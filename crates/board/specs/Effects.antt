@@ -1,4 +1,4 @@
--- Document 01, "Steps": what a taken call does, store by store.
+-- Document 01, "Steps", and document 02, ticket 2: what a taken call does, store by store.
 use Prim.Native.Nat.{ℕ, _+_}
 use mathlib.Core.List.{List}
 use mathlib.Core.Bool.{Bool, true, false, cond, not, _&&_}
@@ -6,7 +6,7 @@ use lib.Dec.{leb, ltb, eqb}
 use lib.ListN.{getD, set}
 use Rattle.board.specs.declared.State.{State}
 use Rattle.board.specs.declared.Condition.{Condition}
-use Rattle.board.specs.declared.Condition.the-variants.{Free, Waiting, Updating}
+use Rattle.board.specs.declared.Condition.the-variants.{Free, Waiting, Updating, Away}
 use Rattle.board.specs.declared.Store.{Store}
 use Rattle.board.specs.declared.Store.the-variants.{Backup, Mark, Record}
 use Rattle.board.specs.declared.UndoStep.{UndoStep}
@@ -14,7 +14,7 @@ use Rattle.board.specs.declared.UndoStep.the-variants.{Restore, Unmark, 
 use Rattle.board.specs.declared.Phase.{Phase}
 use Rattle.board.specs.declared.Phase.the-variants.{Off, Formatting, Recovering, Running}
 use Rattle.board.specs.declared.Call.{Call}
-use Rattle.board.specs.declared.Call.the-variants.{FormatStart, RecoveryStart, Step, Update, RestartPoint, Advance, Request, WriteBack, Read}
+use Rattle.board.specs.declared.Call.the-variants.{FormatStart, RecoveryStart, Step, Update, RestartPoint, Advance, Request, WriteBack, Read, GoAway, ComeBack}
 use Rattle.line.specs.declared.Field.{Field}
 use Rattle.line.specs.Line.{lineOf, withLine}
 use Rattle.line.specs.Cell.{cellLine, fieldOf, withField}
@@ -148,15 +148,16 @@ advance Mark w c v s b =
     record { state = relisted (conditioned s w (Updating Record c v)) (s .listed + 1); memory = b .memory; cache = markedNow (b .cache) c; entries = set (b .entries) (s .listed) c }
 advance Record w c v s b = cached (recorded (b .cache) c v) (conditioned s w (afterLast s c)) b
 
--- An advance of a worker, by its condition; of one free or waiting there is none.
+-- An advance of a worker, by its condition; of one free, waiting or away there is none.
 unfoldable pub advanceOf : Condition → ℕ → State → Board → Board
 advanceOf Free w s b = b
 advanceOf Waiting w s b = b
 advanceOf (Updating next c v) w s b = advance next w c v s b
+advanceOf Away w s b = b
 
 -- ---- every call
 
--- What each call does where no cause stands: "Each of the two starts sets every field"; "Recovery. The start copies memory to cache".
+-- What each call does where no cause stands: "Each of the two starts sets every field"; "Recovery. The start copies memory to cache"; 02: "A free worker may go away and come back free".
 unfoldable pub effect : Call → Board → Board
 effect (FormatStart l w) b = stated (started Formatting l w) b
 effect RecoveryStart b = cached (b .memory) (started Recovering (linesOf (b .memory)) (workersOf (b .memory))) b
@@ -167,3 +168,5 @@ effect (Advance w) b = advanceOf (conditionOf (b .state) w) w (b .state) b
 effect Request b = stated (requesting (b .state)) b
 effect (WriteBack l) b = backed l (b .state) b
 effect (Read c) b = b
+effect (GoAway w) b = stated (conditioned (b .state) w Away) b
+effect (ComeBack w) b = stated (conditioned (b .state) w Free) b

@@ -3,7 +3,7 @@ use Prim.Native.Nat.{ℕ, zero, suc, _+_, _-_}
 use mathlib.Core.Bool.{Bool, true, false, cond, not, _&&_, _||_}
 use lib.Dec.{leb, eqb}
 use Rattle.board.specs.declared.Call.{Call}
-use Rattle.board.specs.declared.Call.the-variants.{FormatStart, RecoveryStart, Step, Update, RestartPoint, Advance, Request, WriteBack, Read}
+use Rattle.board.specs.declared.Call.the-variants.{FormatStart, RecoveryStart, Step, Update, RestartPoint, Advance, Request, WriteBack, Read, GoAway, ComeBack}
 use Rattle.board.specs.Board.{cells}
 
 -- "for each worker an unfinished update (cell, value, stores left)".
@@ -122,7 +122,7 @@ stepped m = cond (m .requested) (checkpointStep m) (cond (finishesFormat m) (beg
 unfoldable pub writeBackSeen : ℕ → Machine → Machine
 writeBackSeen l m = cond (eqb l 0 && m .requested && leb (markedCount m + 1) (m .steps)) (completed m) m
 
--- What a taken call does to the machine.
+-- What a taken call does to the machine; going away and coming back it does not see, since it holds no conditions.
 unfoldable pub feed : Call → Machine → Machine
 feed (FormatStart l w) m = startedFormat l m
 feed RecoveryStart m = startedRecovery m
@@ -133,3 +133,5 @@ feed (Advance w) m = advanced (m .unfinished w) w m
 feed Request m = startedRequest m
 feed (WriteBack l) m = writeBackSeen l m
 feed (Read c) m = m
+feed (GoAway w) m = m
+feed (ComeBack w) m = m

@@ -6,7 +6,7 @@ use lib.Dec.{eqb}
 use mathlib.Core.List.{List}
 use Rattle.board.specs.declared.State.{State}
 use Rattle.board.specs.declared.Call.{Call}
-use Rattle.board.specs.declared.Call.the-variants.{FormatStart, RecoveryStart, Step, Update, RestartPoint, Advance, Request, WriteBack, Read}
+use Rattle.board.specs.declared.Call.the-variants.{FormatStart, RecoveryStart, Step, Update, RestartPoint, Advance, Request, WriteBack, Read, GoAway, ComeBack}
 use Rattle.line.specs.declared.Field.{Field}
 use Rattle.line.specs.Cell.{fieldOf}
 use Rattle.board.specs.Board.{Board}
@@ -45,6 +45,8 @@ kind (Advance w) = other
 kind Request = other
 kind (WriteBack l) = writing
 kind (Read c) = reading c
+kind (GoAway w) = other
+kind (ComeBack w) = other
 
 -- A start of format or recovery.
 abbrev pub isStart : Kind → Bool

@@ -1,4 +1,4 @@
--- Document 01, "Lines and cells" and "Steps": the state record, its workers, and every way in which a step makes a new one.
+-- Document 01, "Lines and cells" and "Steps", and document 02, ticket 2: the state record, its workers, and every way in which a call makes a new one.
 use Prim.Native.Nat.{ℕ, zero, suc, _+_}
 use mathlib.Core.List.{List, [], _∷_}
 use mathlib.Core.Bool.{Bool, true, false, not, _&&_, _||_}
@@ -7,7 +7,7 @@ use lib.ListN.{getD, set, replicate}
 use Rattle.board.specs.declared.State.{State}
 use Rattle.board.specs.declared.Worker.{Worker}
 use Rattle.board.specs.declared.Condition.{Condition}
-use Rattle.board.specs.declared.Condition.the-variants.{Free, Waiting, Updating}
+use Rattle.board.specs.declared.Condition.the-variants.{Free, Waiting, Updating, Away}
 use Rattle.board.specs.declared.Store.{Store}
 use Rattle.board.specs.declared.Store.the-variants.{Backup, Mark, Record}
 use Rattle.board.specs.declared.UndoStep.{UndoStep}
@@ -34,24 +34,42 @@ abbrev pub isFree : Condition → Bool
 isFree Free = true
 isFree Waiting = false
 isFree (Updating next c v) = false
+isFree Away = false
 
 -- "waiting".
 abbrev pub isWaiting : Condition → Bool
 isWaiting Free = false
 isWaiting Waiting = true
 isWaiting (Updating next c v) = false
+isWaiting Away = false
 
 -- "or in the middle of an update".
 abbrev pub isUpdating : Condition → Bool
 isUpdating Free = false
 isUpdating Waiting = false
 isUpdating (Updating next c v) = true
+isUpdating Away = false
+
+-- 02: "A free worker may go away".
+abbrev pub isAway : Condition → Bool
+isAway Free = false
+isAway Waiting = false
+isAway (Updating next c v) = false
+isAway Away = true
+
+-- 02: "away counts as waiting": the worker holds no checkpoint up.
+abbrev pub quiescent : Condition → Bool
+quiescent Free = false
+quiescent Waiting = true
+quiescent (Updating next c v) = false
+quiescent Away = true
 
 -- The worker has an unfinished update whose cell passes the test.
 abbrev pub updates : (ℕ → Bool) → Condition → Bool
 updates test Free = false
 updates test Waiting = false
 updates test (Updating next c v) = test c
+updates test Away = false
 
 -- The next store of an update is the mark's.
 abbrev pub isMarkStore : Store → Bool
@@ -64,6 +82,7 @@ abbrev pub mustList : Condition → Bool
 mustList Free = false
 mustList Waiting = false
 mustList (Updating next c v) = isMarkStore next
+mustList Away = false
 
 -- Some number below `n` passes the test.
 unfoldable pub anyUnder : ℕ → (ℕ → Bool) → Bool
@@ -130,9 +149,12 @@ abbrev pub requesting : State → State
 requesting s =
     record { phase = s .phase; lines = s .lines; workers = s .workers; listed = s .listed; place = 0; undo = Restore; requested = true; worker = s .worker }
 
--- "release, with all eight workers free": the condition that it leaves a worker in.
+-- "release, with all eight workers free"; 02: "Release leaves it away": the condition that it leaves a worker in.
 abbrev pub afterRelease : Condition → Condition
-afterRelease condition = Free
+afterRelease Free = Free
+afterRelease Waiting = Free
+afterRelease (Updating next c v) = Free
+afterRelease Away = Away
 
 -- Worker `w` after the release.
 abbrev pub releasedWorker : State → ℕ → Worker
@@ -144,7 +166,7 @@ releasedWorkers s =
     releasedWorker s 0 ∷ releasedWorker s 1 ∷ releasedWorker s 2 ∷ releasedWorker s 3
     ∷ releasedWorker s 4 ∷ releasedWorker s 5 ∷ releasedWorker s 6 ∷ releasedWorker s 7 ∷ []
 
--- "release, with all eight workers free, list empty, request gone", the place 0.
+-- "release, with all eight workers free" but those that are away, "list empty, request gone", the place 0.
 abbrev pub released : State → State
 released s =
     record { phase = s .phase; lines = s .lines; workers = s .workers; listed = 0; place = 0; undo = Restore; requested = false; worker = releasedWorkers s }

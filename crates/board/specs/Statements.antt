@@ -9,10 +9,11 @@ use lib.ListN.{getD, set}
 use Rattle.line.specs.Line.{lineStart}
 use Rattle.board.specs.declared.State.{State}
 use Rattle.board.specs.declared.Call.{Call}
-use Rattle.board.specs.declared.Call.the-variants.{FormatStart, RecoveryStart, Step, Update, RestartPoint, Advance, Read}
+use Rattle.board.specs.declared.Condition.the-variants.{Away, Free}
+use Rattle.board.specs.declared.Call.the-variants.{FormatStart, RecoveryStart, Step, Update, RestartPoint, Advance, Read, GoAway, ComeBack}
 use Rattle.board.specs.declared.Phase.{Phase}
 use Rattle.board.specs.Board.{Board, cells, epochOf, linesOf, workersOf}
-use Rattle.board.specs.State.{conditionOf, isFree, isWaiting, isFormatting, isRunning}
+use Rattle.board.specs.State.{conditionOf, isFree, isWaiting, quiescent, isFormatting, isRunning}
 use Rattle.board.specs.Effects.{writtenBack}
 use Rattle.board.specs.Next.{Taken, next, Kind, startsFormat, startsRecovery, stepping, writing, other, reading, kind, isStep, Performed}
 use Rattle.board.specs.Machine.{Machine, formatSteps}
@@ -158,11 +159,34 @@ FormatEnds = (l w : ℕ) (b : Board) → Taken (FormatStart l w) b → EndsIn (f
 abbrev pub RecoveryEnds : Type 0
 RecoveryEnds = (b : Board) → Taken RecoveryStart b → EndsIn (recoverySteps (b .memory)) (next RecoveryStart b)
 
--- "With n entries that is n+3 steps": a requested checkpoint ends once all workers under W wait.
+-- Every worker under W waits or is away.
+abbrev pub AllQuiescent : State → Type 0
+AllQuiescent s = (w : ℕ) → w < s .workers → quiescent (conditionOf s w) ≡ true
+
+-- "With n entries that is n+3 steps": a requested checkpoint ends once all workers under W wait or are away.
 abbrev pub CheckpointEnds : Type 0
 CheckpointEnds =
     (r : Run) → History r → r .crashed ≡ false → isRunning (r .board .state .phase) ≡ true → r .board .state .requested ≡ true → r .board .state .place ≡ 0 →
-    ((w : ℕ) → w < r .board .state .workers → isWaiting (conditionOf (r .board .state) w) ≡ true) → EndsIn (r .board .state .listed + 3) (r .board)
+    AllQuiescent (r .board .state) → EndsIn (r .board .state .listed + 3) (r .board)
+
+-- Of the eight workers those that were away are away, and the others are free.
+abbrev pub KeepsAway : State → State → Type 0
+KeepsAway s s′ = (w : ℕ) → w < 8 → (conditionOf s w ≡ Away → conditionOf s′ w ≡ Away) × ((conditionOf s w ≡ Away → ⊥) → conditionOf s′ w ≡ Free)
+
+-- 02, ticket 2: a worker that is away holds up no checkpoint. With a request standing and every worker under W waiting or away the checkpoint ends in n+3 steps, those taken already
+-- among them; those that were away are away after it.
+abbrev pub AwayHoldsUpNone : Type 0
+AwayHoldsUpNone =
+    (r : Run) → History r → r .crashed ≡ false → isRunning (r .board .state .phase) ≡ true → r .board .state .requested ≡ true →
+    AllQuiescent (r .board .state) →
+    (left : ℕ) → r .board .state .place + left ≡ r .board .state .listed + 3 → EndsIn left (r .board) × KeepsAway (r .board .state) (stepsFrom left (r .board) .state)
+
+-- 02, ticket 2: a running board lets worker `w` go away exactly where it is free, and come back exactly where it is away and no step of a requested checkpoint was taken; nothing else turns them down.
+abbrev pub GoesAndComes : Type 0
+GoesAndComes =
+    (r : Run) → History r → r .crashed ≡ false → isRunning (r .board .state .phase) ≡ true → (w : ℕ) →
+    (Taken (GoAway w) (r .board) ↔ ((w < r .board .state .workers) × (conditionOf (r .board .state) w ≡ Free)))
+    × (Taken (ComeBack w) (r .board) ↔ ((w < r .board .state .workers) × (conditionOf (r .board .state) w ≡ Away) × (r .board .state .requested ≡ true → r .board .state .place ≡ 0)))
 
 -- After any history a recovery can be started, unless a format took its first step and none has finished since.
 abbrev pub RecoveryStarts : Type 0

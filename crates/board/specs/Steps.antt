@@ -8,18 +8,19 @@ use lib.ListN.{length, getD, replicate}
 use Rattle.line.specs.declared.Field.{Field}
 use Rattle.line.specs.Line.{lineStart}
 use Rattle.line.specs.Cell.{cellLine, fieldIndex}
-use Rattle.board.specs.declared.Condition.the-variants.{Free, Waiting, Updating}
+use Rattle.board.specs.declared.Condition.{Condition}
+use Rattle.board.specs.declared.Condition.the-variants.{Free, Waiting, Updating, Away}
 use Rattle.board.specs.declared.Store.{Store}
 use Rattle.board.specs.declared.Phase.{Phase}
 use Rattle.board.specs.declared.Phase.the-variants.{Formatting, Recovering, Running}
 use Rattle.board.specs.declared.UndoStep.the-variants.{Restore}
 use Rattle.board.specs.declared.Call.{Call}
-use Rattle.board.specs.declared.Call.the-variants.{FormatStart, RecoveryStart, Step, Advance, Request}
+use Rattle.board.specs.declared.Call.the-variants.{FormatStart, RecoveryStart, Step, Advance, Request, GoAway, ComeBack}
 use Rattle.board.specs.Board.{Board}
 use Rattle.board.specs.State.{conditionOf}
 use Rattle.board.specs.Causes.{Cause, causes, cause}
 use Rattle.board.specs.Next.{next, Taken}
-use Rattle.board.specs.Statements.{stepsFrom}
+use Rattle.board.specs.Statements.{stepsFrom, KeepsAway}
 
 -- ---- 1. format
 
@@ -63,10 +64,10 @@ RecoveryWrites = (b : Board) → b .state .phase ≡ Recovering → Taken Step b
 
 -- ---- 3. release
 
--- All eight workers are free, the list is empty, no request stands, the place is 0 with a recovery's first step; phase, L, W and the rows are as they were.
+-- Of the eight workers those that were away are away and the others free, the list is empty, no request stands, the place is 0 with a recovery's first step; phase, L, W and the rows are as they were.
 pub record Released (b b′ : Board) : Type 0 where
   pub eight : length (b′ .state .worker) ≡ 8
-  pub free : (w : ℕ) → conditionOf (b′ .state) w ≡ Free
+  pub workersAfter : KeepsAway (b .state) (b′ .state)
   pub empty : b′ .state .listed ≡ 0
   pub request : b′ .state .requested ≡ false
   pub place : b′ .state .place ≡ 0
@@ -78,7 +79,7 @@ pub record Released (b b′ : Board) : Type 0 where
   pub cache : b′ .cache ≡ b .cache
   pub entries : b′ .entries ≡ b .entries
 
--- "release, with all eight workers free, list empty, request gone": the last of a checkpoint's n+3 steps.
+-- "release, with all eight workers free, list empty, request gone"; 02: "Release leaves it away": the last of a checkpoint's n+3 steps, whatever the record.
 abbrev pub Releases : Type 0
 Releases = (b : Board) → b .state .phase ≡ Running → Taken Step b → b .state .place ≡ b .state .listed + 2 → Released b (next Step b)
 
@@ -195,3 +196,29 @@ FormatOpens = (b : Board) → b .state .phase ≡ Formatting → Taken Step b �
 abbrev pub RecoveryOpens : Type 0
 RecoveryOpens =
     (b : Board) → b .state .phase ≡ Recovering → Taken Step b → (next Step b .state .phase ≡ Recovering → ⊥) → Opened (b .state .listed) b (next Step b)
+
+-- ---- 8. going away and coming back
+
+-- Worker `w` is in the given condition; every other worker, every other field and the rows are as they were.
+pub record OnlyWorker (w : ℕ) (condition : Condition) (b b′ : Board) : Type 0 where
+  pub worker : conditionOf (b′ .state) w ≡ condition
+  pub others : (i : ℕ) → (i ≡ w → ⊥) → conditionOf (b′ .state) i ≡ conditionOf (b .state) i
+  pub eight : length (b′ .state .worker) ≡ length (b .state .worker)
+  pub phase : b′ .state .phase ≡ b .state .phase
+  pub lines : b′ .state .lines ≡ b .state .lines
+  pub workers : b′ .state .workers ≡ b .state .workers
+  pub listed : b′ .state .listed ≡ b .state .listed
+  pub place : b′ .state .place ≡ b .state .place
+  pub undo : b′ .state .undo ≡ b .state .undo
+  pub request : b′ .state .requested ≡ b .state .requested
+  pub memory : b′ .memory ≡ b .memory
+  pub cache : b′ .cache ≡ b .cache
+  pub entries : b′ .entries ≡ b .entries
+
+-- 02: "A free worker may go away": on a record of eight workers.
+abbrev pub GoesAway : Type 0
+GoesAway = (w : ℕ) (b : Board) → length (b .state .worker) ≡ 8 → Taken (GoAway w) b → OnlyWorker w Away b (next (GoAway w) b)
+
+-- 02: "and come back free".
+abbrev pub ComesBack : Type 0
+ComesBack = (w : ℕ) (b : Board) → Taken (ComeBack w) b → OnlyWorker w Free b (next (ComeBack w) b)

@@ -25,12 +25,14 @@ pub enum UndoStep {
     WriteLine,
 }
 
-// What a worker is doing; an update of a cell under W is a restart point. The order of an update's fields, with
-// the small ones first, leaves no gap that the compiler could only keep in memory (docs/BENCH.md).
+// What a worker is doing; an update of a cell under W is a restart point. A worker that is away (document 02's word)
+// waits for something outside, a coin say, and lets checkpoints go on without it. The order of an update's fields,
+// with the small ones first, leaves no gap that the compiler could only keep in memory (docs/BENCH.md).
 pub enum Condition {
     Free,
     Waiting,
     Updating { next: Store, cell: u16, value: u64 },
+    Away,
 }
 
 // A worker, with the data of its update inside.
@@ -51,7 +53,7 @@ pub struct State {
     pub worker: [Worker; 8],
 }
 
-// The nine calls with their arguments, any numbers a host may pass.
+// The eleven calls with their arguments, any numbers a host may pass: nine of document 01, two of document 02.
 pub enum Call {
     FormatStart { lines: u64, workers: u64 },
     RecoveryStart,
@@ -62,6 +64,8 @@ pub enum Call {
     Request,
     WriteBack { line: u64 },
     Read { cell: u64 },
+    GoAway { worker: u64 },
+    ComeBack { worker: u64 },
 }
 
 // "Lines 1 to L hold two cells each": the number of cells.
@@ -101,5 +105,6 @@ pub fn rebuilt(condition: Condition) -> Condition
         Condition::Free => Condition::Free,
         Condition::Waiting => Condition::Waiting,
         Condition::Updating { next, cell, value } => Condition::Updating { next, cell, value },
+        Condition::Away => Condition::Away,
     }
 }

@@ -9,13 +9,13 @@ use Rattle.board.specs.declared.Phase.{Phase}
 use Rattle.board.specs.declared.Phase.the-variants.{Running}
 use Rattle.board.specs.declared.Call.the-variants.{Step}
 use Rattle.board.specs.Board.{Board}
-use Rattle.board.specs.State.{conditionOf, isWaiting, anyWorker, isRunning}
+use Rattle.board.specs.State.{conditionOf, quiescent, anyWorker, isRunning}
 use Rattle.board.specs.Causes.{causes}
 use Rattle.board.specs.Effects.{Act, writeLine, storeEpoch, writeHeader, release, actAt, performAct, step, effect}
 use Rattle.board.specs.Machine.{Machine, markedCount, counted, completed, dropped, checkpointStep, stepped, beginning, finishesFormat, feed}
 use Rattle.board.specs.Sequence.{Run}
+use Rattle.board.specs.Statements.{AllQuiescent}
 use Rattle.board.proofs.Laws.Bools.{chosen, passedOver, or-left, or-right, and-not, and-off-right, not-off, not-on, none-under}
-use Rattle.board.proofs.Invariant.{AllWait}
 use Rattle.board.proofs.Laws.Taken.{standsAt, passed, afterTaken}
 use Rattle.board.specs.Next.{Taken}
 
@@ -93,14 +93,14 @@ step-acts r e on =
     λ i. record { board = p i; machine = q i; crashed = r .crashed && true; erased = u i }
 
 -- A taken step of a running board finds a request and all workers waiting.
-pub step-ready : (b : Board) → b .state .phase ≡ Running → b .state .workers ≤ 8 → Taken Step b → (b .state .requested ≡ true) × AllWait (b .state)
+pub step-ready : (b : Board) → b .state .phase ≡ Running → b .state .workers ≤ 8 → Taken Step b → (b .state .requested ≡ true) × AllQuiescent (b .state)
 unfolding standsAt causes
 step-ready b e eight t =
-    let ready : isRunning (b .state .phase) && (not (b .state .requested) || anyWorker (b .state) (λ d. not (isWaiting d))) ≡ false = passed Step b t 10 in
-    let idle = and-not (isRunning (b .state .phase)) (not (b .state .requested) || anyWorker (b .state) (λ d. not (isWaiting d))) ready (ap isRunning e) in (
-      not-off (b .state .requested) (or-left (not (b .state .requested)) (anyWorker (b .state) (λ d. not (isWaiting d))) idle),
-      λ w h. not-off (isWaiting (conditionOf (b .state) w))
-          (and-not (ltb w (b .state .workers)) (not (isWaiting (conditionOf (b .state) w)))
-          (none-under 8 (λ i. ltb i (b .state .workers) && not (isWaiting (conditionOf (b .state) i))) (or-right (not (b .state .requested)) (anyWorker (b .state) (λ d. not (isWaiting d))) idle) w (omega arith))
+    let ready : isRunning (b .state .phase) && (not (b .state .requested) || anyWorker (b .state) (λ d. not (quiescent d))) ≡ false = passed Step b t 10 in
+    let idle = and-not (isRunning (b .state .phase)) (not (b .state .requested) || anyWorker (b .state) (λ d. not (quiescent d))) ready (ap isRunning e) in (
+      not-off (b .state .requested) (or-left (not (b .state .requested)) (anyWorker (b .state) (λ d. not (quiescent d))) idle),
+      λ w h. not-off (quiescent (conditionOf (b .state) w))
+          (and-not (ltb w (b .state .workers)) (not (quiescent (conditionOf (b .state) w)))
+          (none-under 8 (λ i. ltb i (b .state .workers) && not (quiescent (conditionOf (b .state) i))) (or-right (not (b .state .requested)) (anyWorker (b .state) (λ d. not (quiescent d))) idle) w (omega arith))
           (lt-ltb w (b .state .workers) h)),
     )

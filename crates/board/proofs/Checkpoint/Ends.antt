@@ -1,4 +1,4 @@
--- A requested checkpoint with all workers waiting and n entries ends in n+3 steps, each of them taken.
+-- A requested checkpoint with all workers waiting or away and n entries ends in n+3 steps, each of them taken; those that were away stay away.
 use Prim.Native.Nat.{ℕ, zero, suc, _+_, _≤_, _<_}
 use mathlib.Core.Path.{_≡_, refl, sym, ap, subst, _∙_}
 use mathlib.Core.List.{List}
@@ -10,25 +10,29 @@ use lib.ListN.{getD, set}
 use borrow.Author.Tests.{ltb-true, eqb-true, le-ltb, lt-leb, ne-eqb}
 use Rattle.line.specs.Cell.{cellLine}
 use Rattle.board.specs.declared.State.{State}
+use Rattle.board.specs.declared.Worker.{Worker}
 use Rattle.board.specs.declared.Condition.{Condition}
-use Rattle.board.specs.declared.Condition.the-variants.{Free, Waiting, Updating}
+use Rattle.board.specs.declared.Condition.the-variants.{Free, Waiting, Updating, Away}
 use Rattle.board.specs.declared.Phase.{Phase}
 use Rattle.board.specs.declared.Phase.the-variants.{Running}
 use Rattle.board.specs.declared.Call.the-variants.{Step}
 use Rattle.board.specs.Board.{Board, cells, workersOutside, epochOf, lastEpoch}
-use Rattle.board.specs.State.{conditionOf, isOff, isRunning, isWaiting, updates, anyWorker, placed, released}
+use Rattle.board.specs.State.{conditionOf, isOff, isRunning, quiescent, updates, anyWorker, placed, released}
 use Rattle.board.specs.Causes.{causes, placePast, badRows, checkpointing, badEntry, epochSpent}
 use Rattle.board.specs.Effects.{writtenBack, stated, Act, writeLine, storeEpoch, writeHeader, release, actAt, performAct}
 use Rattle.board.specs.Next.{next, Taken}
 use Rattle.board.specs.Machine.{Machine, countUnder}
 use Rattle.board.specs.Sequence.{Run}
-use Rattle.board.specs.Statements.{stepsFrom, AllTaken, EndsIn, CheckpointEnds}
+use Rattle.board.specs.Statements.{AllQuiescent, KeepsAway, stepsFrom, AllTaken, EndsIn}
 use Rattle.board.proofs.Laws.Bools.{or-none, and-right, and-off-right, and-if, not-on}
 use Rattle.board.proofs.Laws.View.{Sized, cell-line, sized-back}
-use Rattle.board.proofs.Invariant.{Sizes, AllWait, Stage, early, gap, late, Inv}
+use Rattle.board.proofs.Invariant.{Sizes, Stage, early, gap, late, Inv}
 use Rattle.board.proofs.Laws.Rows.{sized-set}
 use Rattle.board.proofs.Laws.Taken.{Clear, take, taken-next, rows-fine, record-fine, none-worker}
 use Rattle.board.proofs.Laws.Count.{count-most}
+use Rattle.board.proofs.Laws.Workers.{released-away}
+use Rattle.board.proofs.Laws.Idle.{ends-more}
+use Rattle.board.proofs.Laws.Reading.{place-in}
 use Rattle.board.proofs.Checkpoint.Run.{is-running, running-run}
 use Rattle.board.proofs.Checkpoint.Acts.{act-line, act-epoch, act-header, act-release, effect-acts}
 
@@ -43,15 +47,16 @@ record Ready (l : ℕ) (b : Board) : Type 0 where
   place : b .state .place ≤ b .state .listed + 2
   entries : (i : ℕ) → i < b .state .listed → getD (b .entries) i 0 < cells l
   epoch : b .state .place ≤ b .state .listed → epochOf (b .cache) ≡ lastEpoch → ⊥
-  waiting : AllWait (b .state)
+  waiting : AllQuiescent (b .state)
 
 -- ---- each step is taken
 
--- A waiting worker has no unfinished update.
-waiting-updates : (test : ℕ → Bool) (d : Condition) → isWaiting d ≡ true → updates test d ≡ false
-waiting-updates test Free w = refl
-waiting-updates test Waiting w = refl
-waiting-updates test (Updating next c v) w = absurd (false≢true w)
+-- A worker that waits or is away has no unfinished update.
+quiescent-updates : (test : ℕ → Bool) (d : Condition) → quiescent d ≡ true → updates test d ≡ false
+quiescent-updates test Free w = refl
+quiescent-updates test Waiting w = refl
+quiescent-updates test (Updating next c v) w = absurd (false≢true w)
+quiescent-updates test Away w = refl
 
 -- A board that is ready takes the step.
 ready-taken : {l : ℕ} (b : Board) → Ready l b → Taken Step b
@@ -65,16 +70,16 @@ ready-taken {l} b y =
       (
         record-fine l s (y .lines) (y .sizes .limits) (y .workers) (y .listed)
             (subst (λ (p : Phase). placePast p s ≡ false) (sym (y .phase)) (and-off-right (s .requested) (ltb (n + 2) (s .place)) (le-ltb (n + 2) (s .place) (y .place))))
-            (λ w h. waiting-updates (leb (cells l)) (conditionOf s w) (y .waiting w h)),
+            (λ w h. quiescent-updates (leb (cells l)) (conditionOf s w) (y .waiting w h)),
         (
           or-none (badRows (s .lines) b) (badEntry b)
               (subst (λ (k : ℕ). badRows k b ≡ false) (sym (y .lines)) (rows-fine l b (y .sizes)))
               (and-if (checkpointing s && ltb (s .place) n) (leb (cells (s .lines)) c)
               (λ t. lt-leb (cells (s .lines)) c (omega (arith, y .lines, y .entries (s .place) (ltb-true (s .place) n (and-right (checkpointing s) (ltb (s .place) n) t)))))),
           (
-            and-off-right (isRunning (s .phase)) (not (s .requested) || anyWorker s (λ d. not (isWaiting d)))
-                (or-none (not (s .requested)) (anyWorker s (λ d. not (isWaiting d))) (not-on (s .requested) (y .request))
-                (none-worker s (λ d. not (isWaiting d)) (λ w h. not-on (isWaiting (conditionOf s w)) (y .waiting w h)))),
+            and-off-right (isRunning (s .phase)) (not (s .requested) || anyWorker s (λ d. not (quiescent d)))
+                (or-none (not (s .requested)) (anyWorker s (λ d. not (quiescent d))) (not-on (s .requested) (y .request))
+                (none-worker s (λ d. not (quiescent d)) (λ w h. not-on (quiescent (conditionOf s w)) (y .waiting w h)))),
             (
               and-if (checkpointing s && eqb (s .place) n) (epochSpent b)
                   (λ t. ne-eqb (epochOf (b .cache)) lastEpoch (y .epoch (omega (arith, eqb-true (s .place) n (and-right (checkpointing s) (eqb (s .place) n) t))))),
@@ -92,6 +97,7 @@ record Follows (l : ℕ) (b b′ : Board) : Type 0 where
   ready : Ready l b′
   place : b′ .state .place ≡ b .state .place + 1
   listed : b′ .state .listed ≡ b .state .listed
+  worker : b′ .state .worker ≡ b .state .worker
 
 -- A step that stores in one of the rows and goes on.
 goes-on : {l : ℕ} (b : Board) → Ready l b → b .state .place < b .state .listed + 2 → (memory cache : List ℕ) → Sized l memory → Sized l cache → (b .state .place + 1 ≤ b .state .listed → epochOf cache ≡ lastEpoch → ⊥) → Follows l b (record { state = placed (b .state) (b .state .place + 1) (b .state .undo); memory = memory; cache = cache; entries = b .entries })
@@ -112,6 +118,7 @@ goes-on b y h memory cache zm zc room =
           };
       place = refl;
       listed = refl;
+      worker = refl;
     }
 
 -- Every step before the release goes on.
@@ -141,38 +148,61 @@ ready-acts {l} b y h =
     does : (act : Act) → actAt n place ≡ act → Follows l b (performAct act (b .state) b) → Follows l b (performAct (actAt n place) (b .state) b)
     does act e f = subst (λ (a : Act). Follows l b (performAct a (b .state) b)) (sym e) f
 
+-- The steps from board `b` end, and leave those away that were.
+abbrev Ends : ℕ → Board → Type 0
+Ends n b = EndsIn n b × KeepsAway (b .state) (stepsFrom n b .state)
+
+-- The steps after one that keeps the workers.
+ends-after : (n : ℕ) (b d : Board) → Taken Step b → next Step b ≡ d → d .state .worker ≡ b .state .worker → Ends n d → Ends (suc n) b
+unfolding stepsFrom
+ends-after n b d t e same rest =
+    (ends-more n b d t e (rest .0),
+    subst (λ (x : Board). KeepsAway (b .state) (stepsFrom n x .state)) (sym e)
+    (subst (λ (ws : List Worker). KeepsAway (record { phase = b .state .phase; lines = b .state .lines; workers = b .state .workers; listed = b .state .listed; place = b .state .place; undo = b .state .undo; requested = b .state .requested; worker = ws }) (stepsFrom n d .state)) same (rest .1)))
+
 -- The steps from a ready board to the release.
-ends : {l : ℕ} (n : ℕ) (b : Board) → Ready l b → n + b .state .place ≡ b .state .listed + 3 → EndsIn n b
+ends : {l : ℕ} (n : ℕ) (b : Board) → Ready l b → n + b .state .place ≡ b .state .listed + 3 → Ends n b
 unfolding stepsFrom AllTaken performAct
 ends zero b y e = absurd (omega (arith, y .place))
-ends (suc n) b y e =
-    let t = ready-taken b y in
-    let s = b .state in
-    let acts : next Step b ≡ performAct (actAt (s .listed) (s .place)) s b = taken-next Step b t ∙ effect-acts b (y .phase) in
-    let rest : EndsIn n (next Step b) =
+ends {l} (suc n) b y e =
     elim (decLt (s .place) (s .listed + 2)) [
       | yes h ↦
           let f = ready-acts b y h in
-          subst (EndsIn n) (sym acts) (ends n (performAct (actAt (s .listed) (s .place)) s b) (f .ready) (omega (arith, f .place, f .listed)))
+          ends-after n b acted t acts (f .worker) (ends n acted (f .ready) (omega (arith, f .place, f .listed)))
       | no o ↦
           let end : s .place ≡ s .listed + 2 = omega (arith, y .place) in
-          let last : n ≡ 0 = omega arith in
-          subst (EndsIn n) (sym (acts ∙ ap (λ (a : Act). performAct a s b) (act-release (s .listed) (s .place) end)))
-          (subst (λ (k : ℕ). EndsIn k (stated (released s) b)) (sym last) (tt, ap isRunning (y .phase), refl))
-    ] in
-    ((t, rest .0), rest .1, rest .2)
+          last n (omega arith) (acts ∙ ap (λ (a : Act). performAct a s b) (act-release (s .listed) (s .place) end))
+    ]
+  where
+    s : State
+    s = b .state
+
+    acted : Board
+    acted = performAct (actAt (s .listed) (s .place)) s b
+
+    t : Taken Step b
+    t = ready-taken b y
+
+    acts : next Step b ≡ acted
+    acts = taken-next Step b t ∙ effect-acts b (y .phase)
+
+    last : (k : ℕ) → k ≡ 0 → next Step b ≡ performAct release s b → Ends (suc k) b
+    last k z q =
+        subst (λ (j : ℕ). Ends (suc j) b) (sym z)
+        (ends-more zero b (stated (released s) b) t q (tt, ap isRunning (y .phase), refl),
+        subst (λ (x : Board). KeepsAway s (x .state)) (sym q) (released-away s))
 
 -- ---- from the invariant
 
--- Before a requested checkpoint's first step there is an epoch to go to.
-first-room : {l : ℕ} (b : Board) (m : Machine) → b .state .requested ≡ true → b .state .place ≡ 0 → Stage l b m → epochOf (b .cache) ≡ lastEpoch → ⊥
-first-room b m on e (early a) = a .room on
-first-room b m on e (gap g) = absurd (omega (arith, g .place))
-first-room b m on e (late a) = absurd (omega (arith, a .low))
+-- Up to the epoch's store a requested checkpoint has an epoch to go to.
+room : {l : ℕ} (b : Board) (m : Machine) → b .state .requested ≡ true → Stage l b m → b .state .place ≤ b .state .listed → epochOf (b .cache) ≡ lastEpoch → ⊥
+room b m on (early a) h = a .room on
+room b m on (gap g) h = absurd (omega (arith, g .place))
+room b m on (late a) h = absurd (omega (arith, a .low))
 
--- A requested checkpoint ends, where the invariant holds.
-pub checkpoint-ends : (r : Run) → Inv r → r .crashed ≡ false → isRunning (r .board .state .phase) ≡ true → r .board .state .requested ≡ true → r .board .state .place ≡ 0 → ((w : ℕ) → w < r .board .state .workers → isWaiting (conditionOf (r .board .state) w) ≡ true) → EndsIn (r .board .state .listed + 3) (r .board)
-checkpoint-ends r inv d e on first wait =
+-- A requested checkpoint ends from whatever place it has reached, where the invariant holds.
+pub checkpoint-ends : (r : Run) → Inv r → r .crashed ≡ false → isRunning (r .board .state .phase) ≡ true → r .board .state .requested ≡ true → AllQuiescent (r .board .state) → (left : ℕ) → r .board .state .place + left ≡ r .board .state .listed + 3 → EndsIn left (r .board) × KeepsAway (r .board .state) (stepsFrom left (r .board) .state)
+checkpoint-ends r inv d e on wait left h =
     let b = r .board in
     let m = r .machine in
     let s = running-run r inv d (is-running (b .state .phase) e) in
@@ -185,9 +215,9 @@ checkpoint-ends r inv d e on first wait =
       lines = v .lines;
       workers = v .workers;
       listed = omega (arith, v .count, count-most (cells (m .lines)) (m .marked));
-      place = omega arith;
+      place = place-in (m .lines) b m (v .stage) on;
       entries = v .listed;
-      epoch = λ h. first-room b m on first (v .stage);
+      epoch = room b m on (v .stage);
       waiting = wait;
     } in
-    ends (b .state .listed + 3) b y (omega arith)
+    ends left b y (omega arith)

@@ -11,9 +11,10 @@ use Rattle.board.specs.Board.{Board, cells, epochOf}
 use Rattle.board.specs.State.{placed}
 use Rattle.board.specs.Effects.{writtenBack}
 use Rattle.board.specs.Machine.{Machine}
+use Rattle.board.specs.Statements.{AllQuiescent}
 use Rattle.board.proofs.Laws.Bools.{chosen}
 use Rattle.board.proofs.Laws.View.{view}
-use Rattle.board.proofs.Invariant.{Sizes, SameSizes, Undoes, progress, AllWait, SameRecords, Early, Gap, Late, Stage, early, gap, late, RunningInv}
+use Rattle.board.proofs.Invariant.{Sizes, SameSizes, Undoes, progress, SameRecords, Early, Gap, Late, Stage, early, gap, late, RunningInv}
 use Rattle.board.proofs.Laws.Rows.{own-same, sizes-same}
 use Rattle.board.proofs.Checkpoint.Memory.{value-back, epoch-back}
 
@@ -55,7 +56,7 @@ running-moved {b = b} v memory place xs steps sizes agree undoes stage =
     }
 
 -- The early stage, the entry at the checkpoint's place having its record in memory.
-pub early-placed : {l : ℕ} (b : Board) {m : Machine} (steps : ℕ) → Early l b m → b .state .requested ≡ true → b .state .place < b .state .listed → AllWait (b .state) → view (b .memory) (getD (b .entries) (b .state .place) 0) .value ≡ view (b .cache) (getD (b .entries) (b .state .place) 0) .value → Early l (moved b (b .memory) (b .state .place + 1)) (remade m (m .checkpointed) steps)
+pub early-placed : {l : ℕ} (b : Board) {m : Machine} (steps : ℕ) → Early l b m → b .state .requested ≡ true → b .state .place < b .state .listed → AllQuiescent (b .state) → view (b .memory) (getD (b .entries) (b .state .place) 0) .value ≡ view (b .cache) (getD (b .entries) (b .state .place) 0) .value → Early l (moved b (b .memory) (b .state .place + 1)) (remade m (m .checkpointed) steps)
 early-placed b steps e on h w same =
     let was : progress (b .state) ≡ b .state .place = chosen (b .state .requested) (b .state .place) 0 on in
     let now : progress (placed (b .state) (b .state .place + 1) (b .state .undo)) ≡ b .state .place + 1 = chosen (b .state .requested) (b .state .place + 1) 0 on in
@@ -106,7 +107,7 @@ module _ {l : ℕ} (b : Board) (z : Sizes l b) (i : ℕ) (h : i ≤ l) where
       }
 
   -- After a write-back that leaves the cache's epoch in memory the board is in the late stage.
-  pub late-back : (m : Machine) (place : ℕ) (xs : ℕ → ℕ) (steps : ℕ) → b .state .requested ≡ true → b .state .listed + 1 ≤ place → place ≤ b .state .listed + 2 → epochOf (writtenBack i b) ≡ epochOf (b .cache) → SameRecords l b → AllWait (b .state) → ((c : ℕ) → c < cells l → xs c ≡ m .current c) → ((c : ℕ) → c < cells l → view (b .cache) c .mark ≡ epochOf (b .cache) → ⊥) → Late l (moved b (writtenBack i b) place) (remade m xs steps)
+  pub late-back : (m : Machine) (place : ℕ) (xs : ℕ → ℕ) (steps : ℕ) → b .state .requested ≡ true → b .state .listed + 1 ≤ place → place ≤ b .state .listed + 2 → epochOf (writtenBack i b) ≡ epochOf (b .cache) → SameRecords l b → AllQuiescent (b .state) → ((c : ℕ) → c < cells l → xs c ≡ m .current c) → ((c : ℕ) → c < cells l → view (b .cache) c .mark ≡ epochOf (b .cache) → ⊥) → Late l (moved b (writtenBack i b) place) (remade m xs steps)
   late-back m place xs steps on low high epoch same waiting complete unlogged =
       record {
         request = on;

@@ -11,7 +11,7 @@ use Rattle.line.specs.declared.Field.{Field}
 use Rattle.line.specs.Cell.{fieldOf, withField}
 use Rattle.board.specs.declared.State.{State}
 use Rattle.board.specs.declared.Condition.{Condition}
-use Rattle.board.specs.declared.Condition.the-variants.{Free, Waiting, Updating}
+use Rattle.board.specs.declared.Condition.the-variants.{Free, Waiting, Updating, Away}
 use Rattle.board.specs.declared.Store.{Store}
 use Rattle.board.specs.declared.Store.the-variants.{Backup, Mark, Record}
 use Rattle.board.specs.declared.Call.the-variants.{Advance}
@@ -155,11 +155,12 @@ keeps-advance r w inv crashed t = go (conditionOf s w) refl (pass 8) (now .run .
     pass = passed (Advance w) (r .board) t
 
     now : Ready r w
-    now = ready r w isUpdating refl inv crashed (pass 2) (pass 6) (pass 8)
+    now = ready r w isUpdating refl refl inv crashed (pass 2) (pass 6) (pass 8)
 
     go : (k : Condition) → conditionOf s w ≡ k → not (isUpdating k) ≡ false → WorkerInv (r .machine .lines) (r .board .cache) k (r .machine .unfinished w) → Inv (afterTaken (Advance w) r)
     go Free e busy worker = absurd (true≢false busy)
     go Waiting e busy worker = absurd (true≢false busy)
+    go Away e busy worker = absurd (true≢false busy)
     go (Updating next c v) e busy worker =
         subst₂ (λ (k : Condition) (u : Unfinished). Inv (record { board = advanceOf k w s (r .board); machine = advanced u w (r .machine); crashed = r .crashed && true; erased = r .erased }))
         (sym e) (sym (worker .0))
@@ -173,6 +174,7 @@ advance-memory : (k : Condition) (w : ℕ) (s : State) (b : Board) → advanceOf
 unfolding advanceOf advance
 advance-memory Free w s b = refl
 advance-memory Waiting w s b = refl
+advance-memory Away w s b = refl
 advance-memory (Updating Backup c v) w s b = refl
 advance-memory (Updating Mark c v) w s b = refl
 advance-memory (Updating Record c v) w s b = refl

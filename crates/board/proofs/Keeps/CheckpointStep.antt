@@ -6,25 +6,25 @@ use mathlib.Core.List.{List}
 use mathlib.Core.Bool.{Bool, true, false, _&&_, false≢true}
 use native.Mathlib.Omega.{arith}
 use native.Mathlib.Decide.{ℕ-discrete, decLt}
-use lib.ListN.{getD, set, length-replicate, getD-replicate}
+use lib.ListN.{getD, set}
 use borrow.Author.Tests.{ne-eqb}
 use Rattle.line.specs.Cell.{cellLine}
-use Rattle.board.specs.declared.Worker.{Worker}
 use Rattle.board.specs.declared.Condition.{Condition}
-use Rattle.board.specs.declared.Condition.the-variants.{Free, Waiting, Updating}
+use Rattle.board.specs.declared.Condition.the-variants.{Free, Waiting, Updating, Away}
 use Rattle.board.specs.declared.Phase.the-variants.{Running}
 use Rattle.board.specs.declared.Call.the-variants.{Step}
 use Rattle.board.specs.Board.{Board, cells, epochOf}
-use Rattle.board.specs.State.{freeWorker, allFree, conditionOf, isWaiting, placed, released}
+use Rattle.board.specs.State.{conditionOf, quiescent, afterRelease, placed, released}
 use Rattle.board.specs.Effects.{writtenBack, cached, stated, Act, writeLine, storeEpoch, writeHeader, release, actAt, performAct}
 use Rattle.board.specs.Machine.{Unfinished, none, update, Machine, countUnder, counted, completed, dropped, checkpointStep}
 use Rattle.board.specs.Sequence.{Run}
+use Rattle.board.specs.Statements.{AllQuiescent}
 use Rattle.board.proofs.Laws.Bools.{chosen, passedOver}
 use Rattle.board.proofs.Laws.View.{View, view, Sized, cell-line, view-backed, view-header}
-use Rattle.board.proofs.Invariant.{Undo, WorkerInv, Touches, AllWait, SameRecords, Early, Late, Stage, early, gap, late, RunningInv, Inv}
+use Rattle.board.proofs.Invariant.{Undo, WorkerInv, Touches, SameRecords, Early, Late, Stage, early, gap, late, RunningInv, Inv}
 use Rattle.board.proofs.Laws.Rows.{epoch-set, sized-set, header-set, spare-set, own-same, sizes-same, sizes-set}
 use Rattle.board.proofs.Laws.Taken.{workers-in, afterTaken}
-use Rattle.board.proofs.Laws.Idle.{free-condition}
+use Rattle.board.proofs.Laws.Workers.{released-condition}
 use Rattle.board.proofs.Laws.Count.{count-none}
 use Rattle.board.proofs.Checkpoint.Run.{Carried, quietly, RunningRun, running-run, inv-running}
 use Rattle.board.proofs.Checkpoint.Stages.{moved, early-placed, early-back}
@@ -32,13 +32,21 @@ use Rattle.board.proofs.Checkpoint.Back.{quiet-back, header-back}
 use Rattle.board.proofs.Checkpoint.Acts.{act-line, act-epoch, act-header, act-release, machine-counts, machine-completes, machine-drops, acted, step-acts, step-ready}
 use Rattle.board.specs.Next.{Taken}
 
--- ---- workers that wait
+-- ---- workers that wait or are away
 
--- A waiting worker has no unfinished update, whatever the cache.
-waiting-worker : (l : ℕ) (cache cache′ : List ℕ) (d : Condition) (u : Unfinished) → isWaiting d ≡ true → WorkerInv l cache d u → (u ≡ none) × WorkerInv l cache′ d u
-waiting-worker l cache cache′ Free u w p = absurd (false≢true w)
-waiting-worker l cache cache′ Waiting u w p = (p, p)
-waiting-worker l cache cache′ (Updating next c v) u w p = absurd (false≢true w)
+-- Such a worker has no unfinished update, whatever the cache, and has none after the release.
+quiescent-worker : (l : ℕ) (cache cache′ : List ℕ) (d : Condition) (u : Unfinished) → quiescent d ≡ true → WorkerInv l cache d u → WorkerInv l cache′ d u × WorkerInv l cache′ (afterRelease d) u
+quiescent-worker l cache cache′ Free u w p = absurd (false≢true w)
+quiescent-worker l cache cache′ Waiting u w p = (p, p)
+quiescent-worker l cache cache′ (Updating next c v) u w p = absurd (false≢true w)
+quiescent-worker l cache cache′ Away u w p = (p, p)
+
+-- No worker has an unfinished update after the release.
+released-touches : (k : Condition) (d : ℕ) → Touches (afterRelease k) d → ⊥
+released-touches Free d t = t
+released-touches Waiting d t = t
+released-touches (Updating next c v) d t = t
+released-touches Away d t = t
 
 -- ---- the epoch's store
 
@@ -54,7 +62,7 @@ early-same b on end e c h =
     ]
 
 -- The epoch's store leads into the gap.
-running-epoch : {l : ℕ} (b : Board) (m : Machine) → Sized l (b .cache) → b .state .requested ≡ true → b .state .place ≡ b .state .listed → AllWait (b .state) → Early l b m → RunningInv l b m → RunningInv l (cached (set (b .cache) 0 (epochOf (b .cache) + 1)) (placed (b .state) (b .state .place + 1) (b .state .undo)) b) (counted m)
+running-epoch : {l : ℕ} (b : Board) (m : Machine) → Sized l (b .cache) → b .state .requested ≡ true → b .state .place ≡ b .state .listed → AllQuiescent (b .state) → Early l b m → RunningInv l b m → RunningInv l (cached (set (b .cache) 0 (epochOf (b .cache) + 1)) (placed (b .state) (b .state .place + 1) (b .state .undo)) b) (counted m)
 running-epoch {l} b m z on end wait e v =
     record {
       lines = v .lines;
@@ -77,7 +85,7 @@ running-epoch {l} b m z on end wait e v =
             same = λ c h. early-same b on end e c h ∙ sym (ap (λ (k : View). k .value) (same c));
             waiting = wait;
           });
-      worker = λ w h. waiting-worker l (b .cache) (set (b .cache) 0 (epochOf (b .cache) + 1)) (conditionOf (b .state) w) (m .unfinished w) (wait w h) (v .worker w h) .1;
+      worker = λ w h. quiescent-worker l (b .cache) (set (b .cache) 0 (epochOf (b .cache) + 1)) (conditionOf (b .state) w) (m .unfinished w) (wait w h) (v .worker w h) .0;
       apart = v .apart;
     }
   where
@@ -93,7 +101,7 @@ running-release {l} b m e v =
       lines = v .lines;
       workers = v .workers;
       request = refl;
-      eight = length-replicate 8 freeWorker;
+      eight = refl;
       own = own-same b (stated (released (b .state)) b) refl (sizes-same (b .memory)) (sizes-same (b .cache)) (v .own);
       header = v .header;
       undoes = v .undoes;
@@ -113,16 +121,16 @@ running-release {l} b m e v =
             waiting = λ h. absurd (omega arith);
             room = λ q. absurd (false≢true q);
           });
-      worker = λ w h. subst (λ (d : Condition). WorkerInv l (b .cache) d (m .unfinished w)) (sym (free w h)) (waiting-worker l (b .cache) (b .cache) (conditionOf (b .state) w) (m .unfinished w) (e .waiting w h) (v .worker w h) .0);
-      apart = λ w w′ d h h′ t t′. absurd (subst (λ (k : Condition). Touches k d) (free w h) t);
+      worker = λ w h. subst (λ (d : Condition). WorkerInv l (b .cache) d (m .unfinished w)) (sym (after w h)) (quiescent-worker l (b .cache) (b .cache) (conditionOf (b .state) w) (m .unfinished w) (e .waiting w h) (v .worker w h) .1);
+      apart = λ w w′ d h h′ t t′. absurd (released-touches (conditionOf (b .state) w) d (subst (λ (k : Condition). Touches k d) (after w h) t));
     }
   where
-    free : (w : ℕ) → w < b .state .workers → getD allFree w freeWorker .condition ≡ Free
-    free w h = free-condition (released (b .state)) w refl
+    after : (w : ℕ) → w < b .state .workers → conditionOf (released (b .state)) w ≡ afterRelease (conditionOf (b .state) w)
+    after w h = released-condition (b .state) w (omega (arith, workers-in l (b .state .workers) (v .workers) .1))
 
 -- ---- the acts, by stage
 
-module _ (r : Run) (s : RunningRun r) (on : r .board .state .requested ≡ true) (wait : AllWait (r .board .state)) where
+module _ (r : Run) (s : RunningRun r) (on : r .board .state .requested ≡ true) (wait : AllQuiescent (r .board .state)) where
   -- The steps taken are the checkpoint's place.
   placed-steps : r .board .state .requested ≡ true → r .machine .steps + 1 ≡ r .board .state .place + 1
   placed-steps q = ap (λ (n : ℕ). n + 1) (s .running .steps q)

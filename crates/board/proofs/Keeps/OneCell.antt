@@ -17,11 +17,11 @@ use Rattle.line.proofs.Laws.{length-withField, header-withField, spare-withFiel
 use Rattle.board.specs.declared.State.{State}
 use Rattle.board.specs.declared.Worker.{Worker}
 use Rattle.board.specs.declared.Condition.{Condition}
-use Rattle.board.specs.declared.Condition.the-variants.{Free, Waiting, Updating}
+use Rattle.board.specs.declared.Condition.the-variants.{Free, Waiting, Updating, Away}
 use Rattle.board.specs.declared.Phase.{Phase}
 use Rattle.board.specs.declared.Phase.the-variants.{Off, Formatting, Recovering, Running}
 use Rattle.board.specs.Board.{Board, cells, listWords, epochOf}
-use Rattle.board.specs.State.{freeWorker, conditionOf, conditioned, relisted, isWaiting, isRunning}
+use Rattle.board.specs.State.{freeWorker, conditionOf, conditioned, relisted, quiescent, isRunning}
 use Rattle.board.specs.Causes.{noWorker, notRunning}
 use Rattle.board.specs.Machine.{Unfinished, Machine, changed, countUnder}
 use Rattle.board.specs.Sequence.{Run}
@@ -29,6 +29,7 @@ use Rattle.board.proofs.Laws.Bools.{clash, not-off}
 use Rattle.board.proofs.Laws.View.{View, view, view-other}
 use Rattle.board.proofs.Invariant.{Undo, WorkerInv, BeforeStore, Touches, progress, Early, Stage, early, gap, late, RunningInv, InPhase, Inv}
 use Rattle.board.proofs.Laws.Taken.{workers-in}
+use Rattle.board.proofs.Laws.Workers.{condition-at, condition-other}
 use Rattle.board.proofs.Laws.Rows.{header-same, own-same, sizes-same}
 use Rattle.board.proofs.Laws.Count.{changed-at, changed-other, at-each, count-most, count-more}
 
@@ -152,7 +153,7 @@ pub record Fits (b : Board) (m : Machine) (ch : Change) : Type 0 where
   pub own : (d : ℕ) → Touches (ch .condition) d → ch .cell ≡ d
   pub alone : (u : ℕ) → u < b .state .workers → (ch .worker ≡ u → ⊥) → Touches (conditionOf (b .state) u) (ch .cell) → ⊥
 
--- A running board before the epoch's store, worker `w` being one of its workers that does not wait.
+-- A running board before the epoch's store, worker `w` being one of its workers that neither waits nor is away.
 pub record Ready (r : Run) (w : ℕ) : Type 0 where
   pub phase : r .board .state .phase ≡ Running
   pub run : RunningInv (r .machine .lines) (r .board) (r .machine)
@@ -161,21 +162,22 @@ pub record Ready (r : Run) (w : ℕ) : Type 0 where
   pub erased : r .erased ≡ false
   pub under : w < r .board .state .workers
 
--- A worker of which a test holds that fails of a waiting one does not wait.
-not-waiting : (test : Condition → Bool) → test Waiting ≡ false → (k : Condition) → not (test k) ≡ false → isWaiting k ≡ false
-not-waiting test off Free e = refl
-not-waiting test off Waiting e = absurd (clash (not-off (test Waiting) e) off)
-not-waiting test off (Updating next c v) e = refl
+-- A worker of which a test holds that fails of one waiting or away is neither.
+not-quiescent : (test : Condition → Bool) → test Waiting ≡ false → test Away ≡ false → (k : Condition) → not (test k) ≡ false → quiescent k ≡ false
+not-quiescent test waits leaves Free e = refl
+not-quiescent test waits leaves Waiting e = absurd (clash (not-off (test Waiting) e) waits)
+not-quiescent test waits leaves (Updating next c v) e = refl
+not-quiescent test waits leaves Away e = absurd (clash (not-off (test Away) e) leaves)
 
--- A taken call that asks for a running board and for a worker in a condition other than waiting: no step of a checkpoint was taken.
-pub ready : (r : Run) (w : ℕ) (test : Condition → Bool) → test Waiting ≡ false → Inv r → r .crashed ≡ false → notRunning (r .board) ≡ false → noWorker (r .board .state) w ≡ false → not (test (conditionOf (r .board .state) w)) ≡ false → Ready r w
-ready r w test unlike inv crashed on worker holds = go (r .board .state .phase) refl (not-off (isRunning (r .board .state .phase)) on) (inv .phase crashed)
+-- A taken call that asks for a running board and for a worker in a condition other than waiting or away: no step of a checkpoint was taken.
+pub ready : (r : Run) (w : ℕ) (test : Condition → Bool) → test Waiting ≡ false → test Away ≡ false → Inv r → r .crashed ≡ false → notRunning (r .board) ≡ false → noWorker (r .board .state) w ≡ false → not (test (conditionOf (r .board .state) w)) ≡ false → Ready r w
+ready r w test waits leaves inv crashed on worker holds = go (r .board .state .phase) refl (not-off (isRunning (r .board .state .phase)) on) (inv .phase crashed)
   where
     under : w < r .board .state .workers
     under = leb-false (r .board .state .workers) w worker
 
-    off : isWaiting (conditionOf (r .board .state) w) ≡ false
-    off = not-waiting test unlike (conditionOf (r .board .state) w) holds
+    off : quiescent (conditionOf (r .board .state) w) ≡ false
+    off = not-quiescent test waits leaves (conditionOf (r .board .state) w) holds
 
     staged : Stage (r .machine .lines) (r .board) (r .machine) → Early (r .machine .lines) (r .board) (r .machine)
     staged (early e) = e
@@ -199,19 +201,11 @@ ready r w test unlike inv crashed on worker holds = go (r .board .state .phase) 
 
 -- ---- the workers after a change
 
--- The worker has its new condition.
-pub condition-at : (s : State) (w : ℕ) (condition : Condition) → w < length (s .worker) → conditionOf (conditioned s w condition) w ≡ condition
-condition-at s w condition h = ap (λ (x : Worker). x .condition) (getD-set-same (s .worker) w (record { condition = condition }) freeWorker h)
-
--- Every other worker has its old one.
-condition-other : (s : State) (w : ℕ) (condition : Condition) (u : ℕ) → (w ≡ u → ⊥) → conditionOf (conditioned s w condition) u ≡ conditionOf s u
-condition-other s w condition u o =
-    ap (λ (x : Worker). x .condition) (getD-set-other (s .worker) w u (record { condition = condition }) freeWorker (λ e. o (sym e)))
-
 -- A worker's update of another cell is as it was.
 worker-other : (l : ℕ) {c : ℕ} {cache cache′ : List ℕ} → OnlyCell c cache cache′ → (k : Condition) (u : Unfinished) → (Touches k c → ⊥) → WorkerInv l cache k u → WorkerInv l cache′ k u
 worker-other l only Free u o inv = inv
 worker-other l only Waiting u o inv = inv
+worker-other l only Away u o inv = inv
 worker-other l only (Updating next d v) u o inv =
     (inv .0, inv .1, subst₂ (λ (e : ℕ) (x : View). BeforeStore next e x) (sym (only .header 0 (omega arith))) (sym (only .others d (λ e. o (sym e)))) (inv .2))
 

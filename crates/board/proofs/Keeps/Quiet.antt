@@ -17,9 +17,10 @@ use Rattle.board.specs.Effects.{stated, effect}
 use Rattle.board.specs.Next.{Taken}
 use Rattle.board.specs.Machine.{Machine, Unfinished, feed}
 use Rattle.board.specs.Sequence.{Run}
+use Rattle.board.specs.Statements.{AllQuiescent}
 use Rattle.board.proofs.Laws.Bools.{chosen, not-off}
 use Rattle.board.proofs.Laws.Taken.{standsAt, passed, afterTaken}
-use Rattle.board.proofs.Invariant.{WorkerInv, Touches, progress, AllWait, Early, Stage, early, gap, late, RunningInv, Inv}
+use Rattle.board.proofs.Invariant.{WorkerInv, Touches, progress, Early, Stage, early, gap, late, RunningInv, Inv}
 use Rattle.board.proofs.Checkpoint.Run.{Carried, quietly, is-running, running-run, inv-running}
 
 -- The record with other workers.
@@ -32,7 +33,7 @@ pub record Alike (s : State) (ws : List Worker) : Type 0 where
   pub eight : length ws ≡ length (s .worker)
   pub work : (w : ℕ) → w < s .workers → (l : ℕ) (cache : List ℕ) (u : Unfinished) → WorkerInv l cache (conditionOf s w) u → WorkerInv l cache (getD ws w freeWorker .condition) u
   pub touches : (w d : ℕ) → w < s .workers → Touches (getD ws w freeWorker .condition) d → Touches (conditionOf s w) d
-  pub waits : 0 < progress s → AllWait s → AllWait (manned s ws)
+  pub waits : 0 < progress s → AllQuiescent s → AllQuiescent (manned s ws)
 
 module _ {l : ℕ} (b : Board) (m : Machine) (ws : List Worker) (alike : Alike (b .state) ws) where
   -- The stage of a checkpoint stays.

@@ -8,7 +8,7 @@ use lib.Dec.{leb, ltb, eqb}
 use borrow.Author.Tests.{leb-false, eqb-true, eqb-false, eq-eqb, ne-eqb, lt-ltb}
 use Rattle.board.specs.declared.State.{State}
 use Rattle.board.specs.declared.Condition.{Condition}
-use Rattle.board.specs.declared.Condition.the-variants.{Free, Waiting, Updating}
+use Rattle.board.specs.declared.Condition.the-variants.{Free, Waiting, Updating, Away}
 use Rattle.board.specs.declared.Store.the-variants.{Backup, Record}
 use Rattle.board.specs.declared.Call.the-variants.{Update, RestartPoint}
 use Rattle.board.specs.Board.{Board, cells, epochOf}
@@ -30,6 +30,7 @@ use Rattle.board.specs.Next.{Taken}
 touch-seen : (k : Condition) (c : ℕ) → Touches k c → updates (eqb c) k ≡ true
 touch-seen Free c t = absurd t
 touch-seen Waiting c t = absurd t
+touch-seen Away c t = absurd t
 touch-seen (Updating next d v) c t = eq-eqb c d (sym t)
 
 -- No other worker has an unfinished update of the cell.
@@ -97,7 +98,7 @@ pub keeps-update : (r : Run) (w c v : ℕ) → Inv r → r .crashed ≡ false �
 unfolding standsAt causes effect feed
 keeps-update r w c v inv crashed t =
     let pass = passed (Update w c v) (r .board) t in
-    let now = ready r w isFree refl inv crashed (pass 2) (pass 6) (pass 8) in
+    let now = ready r w isFree refl refl inv crashed (pass 2) (pass 6) (pass 8) in
     start r w c v _ inv now (update-cell r w c v now t) (pass 9)
 
 -- A taken start of a restart point.
@@ -105,5 +106,5 @@ pub keeps-restart : (r : Run) (w v : ℕ) → Inv r → r .crashed ≡ false →
 unfolding standsAt causes effect feed
 keeps-restart r w v inv crashed t =
     let pass = passed (RestartPoint w v) (r .board) t in
-    let now = ready r w isFree refl inv crashed (pass 2) (pass 6) (pass 8) in
+    let now = ready r w isFree refl refl inv crashed (pass 2) (pass 6) (pass 8) in
     start r w w v _ inv now (restart-cell r w now) (pass 9)

@@ -1,34 +1,20 @@
--- Workers all free; and that a step of a format or recovery is then taken.
-use Prim.Native.Nat.{ℕ, zero, suc, _<_}
-use mathlib.Core.Path.{_≡_, refl, sym, ap, subst, _∙_}
-use mathlib.Core.List.{List}
+-- Where all workers are free, a step of a format or recovery is taken.
+use Prim.Native.Nat.{ℕ, suc}
+use mathlib.Core.Path.{_≡_, sym, ap, subst}
 use mathlib.Core.Bool.{Bool, false, not, _&&_, _||_}
 use native.Mathlib.Omega.{arith}
 use lib.Dec.{leb, ltb, eqb}
-use lib.ListN.{getD, replicate}
-use Rattle.board.specs.declared.State.{State}
-use Rattle.board.specs.declared.Worker.{Worker}
-use Rattle.board.specs.declared.Condition.the-variants.{Free}
+use lib.ListN.{getD}
 use Rattle.board.specs.declared.Call.the-variants.{Step}
 use Rattle.board.specs.Board.{Board, cells, workersOutside}
-use Rattle.board.specs.State.{freeWorker, allFree, conditionOf, isOff, isRunning, isWaiting, updates, anyWorker}
+use Rattle.board.specs.State.{allFree, isOff, isRunning, quiescent, updates, anyWorker}
 use Rattle.board.specs.Causes.{causes, placePast, badRows, badEntry, checkpointing, epochSpent}
 use Rattle.board.specs.Next.{next, Taken}
 use Rattle.board.specs.Statements.{stepsFrom, AllTaken, EndsIn}
 use Rattle.board.proofs.Laws.Bools.{or-none, and-off}
 use Rattle.board.proofs.Invariant.{Sizes}
 use Rattle.board.proofs.Laws.Taken.{Clear, take, rows-fine, record-fine}
-
--- A row of one thing has it at every place.
-all-alike : (n i : ℕ) (a : Worker) → getD (replicate n a) i a ≡ a
-all-alike zero i a = refl
-all-alike (suc n) zero a = refl
-all-alike (suc n) (suc i) a = all-alike n i a
-
--- Where all eight workers are free, each is.
-pub free-condition : (s : State) (w : ℕ) → s .worker ≡ allFree → conditionOf s w ≡ Free
-free-condition s w e =
-    ap (λ (ws : List Worker). getD ws w freeWorker .condition) e ∙ ap (λ (k : Worker). k .condition) (all-alike 8 w freeWorker)
+use Rattle.board.proofs.Laws.Workers.{free-condition}
 
 -- Of three tests the first fails, so not all hold.
 three-off : (a b c : Bool) → a ≡ false → a && b && c ≡ false
@@ -50,7 +36,7 @@ idle-step-taken l b z lines workers empty free on idle place =
               (rows-fine (s .lines) b (subst (λ (k : ℕ). Sizes k b) (sym lines) z))
               (three-off (checkpointing s) (ltb (s .place) (s .listed)) (leb (cells (s .lines)) (getD (b .entries) (s .place) 0)) none),
           (
-            and-off (isRunning (s .phase)) (not (s .requested) || anyWorker s (λ condition. not (isWaiting condition))) idle,
+            and-off (isRunning (s .phase)) (not (s .requested) || anyWorker s (λ condition. not (quiescent condition))) idle,
             (
               three-off (checkpointing s) (eqb (s .place) (s .listed)) (epochSpent b) none,
               tt,

@@ -10,14 +10,14 @@ use Rattle.line.specs.Cell.{fieldOf}
 use Rattle.line.specs.declared.Field.{Field}
 use Rattle.board.specs.declared.State.{State}
 use Rattle.board.specs.declared.Condition.{Condition}
-use Rattle.board.specs.declared.Condition.the-variants.{Free, Waiting, Updating}
+use Rattle.board.specs.declared.Condition.the-variants.{Free, Waiting, Updating, Away}
 use Rattle.board.specs.declared.Phase.{Phase}
 use Rattle.board.specs.declared.Phase.the-variants.{Running}
 use Rattle.board.specs.declared.Call.{Call}
 use Rattle.board.specs.declared.Call.the-variants.{Read}
 use Rattle.board.specs.Board.{Board, cells, linesOutside}
 use Rattle.board.specs.State.{conditionOf, updates, isRunning}
-use Rattle.board.specs.Causes.{causes, cause, badRecord, badRows, placePast}
+use Rattle.board.specs.Causes.{causes, cause, notRunning, badRecord, badRows, placePast}
 use Rattle.board.specs.Next.{taken, valueRead, Taken}
 use Rattle.board.specs.Machine.{Machine, Unfinished}
 use Rattle.board.specs.Sequence.{Run}
@@ -28,7 +28,7 @@ use Rattle.board.proofs.Laws.Count.{count-most}
 use Rattle.board.proofs.Laws.Taken.{Clear, take, rows-fine, record-fine}
 
 -- A checkpoint's place is at most two past the list.
-place-in : (l : ℕ) (b : Board) (m : Machine) → Stage l b m → b .state .requested ≡ true → b .state .place ≤ b .state .listed + 2
+pub place-in : (l : ℕ) (b : Board) (m : Machine) → Stage l b m → b .state .requested ≡ true → b .state .place ≤ b .state .listed + 2
 place-in l b m (early e) q =
     let p : progress (b .state) ≡ b .state .place = chosen (b .state .requested) (b .state .place) 0 q in
     omega (arith, e .within, p)
@@ -39,6 +39,7 @@ place-in l b m (late k) q = k .high
 cell-fine : (l : ℕ) (b : Board) (k : Condition) (u : Unfinished) → WorkerInv l (b .cache) k u → updates (leb (cells l)) k ≡ false
 cell-fine l b Free u i = refl
 cell-fine l b Waiting u i = refl
+cell-fine l b Away u i = refl
 cell-fine l b (Updating next c v) u i = lt-leb (cells l) c (i .1)
 
 -- The state record of a running board passes its test.
@@ -62,22 +63,28 @@ unfolding valueRead
 value-taken c b t =
     chosen (taken (Read c) b) (fieldOf (b .cache) c Field.Record) 0 (eq-eqb (cause (Read c) b) 0 t) ∙ view-value (b .cache) c
 
+-- A running board passes the tests of phase, record and rows.
+pub record Passes (b : Board) : Type 0 where
+  pub phase : notRunning b ≡ false
+  pub state : badRecord (b .state) ≡ false
+  pub rows : badRows (b .state .lines) b ≡ false
+
+pub running-passes : (r : Run) → Inv r → r .crashed ≡ false → r .board .state .phase ≡ Running → Passes (r .board)
+running-passes r i d p =
+    let v : RunningInv (r .machine .lines) (r .board) (r .machine) = in-phase r i d Running p .0 in
+    record {
+      phase = not-on (isRunning (r .board .state .phase)) (ap isRunning p);
+      state = running-record (r .machine .lines) (r .board) (r .machine) (i .sizes .limits) p v refl;
+      rows = subst (λ (l : ℕ). badRows l (r .board) ≡ false) (sym (v .lines)) (rows-fine (r .machine .lines) (r .board) (i .sizes));
+    }
+
 -- A running board takes the read of every cell.
 pub read-taken : (r : Run) → Inv r → r .crashed ≡ false → r .board .state .phase ≡ Running → (c : ℕ) → c < cells (r .machine .lines) → Taken (Read c) (r .board)
 unfolding Clear causes
 read-taken r i d p c h =
-    let v : RunningInv (r .machine .lines) (r .board) (r .machine) = in-phase r i d Running p .0 in
-    let lines : r .board .state .lines ≡ r .machine .lines = v .lines in
-    take (Read c) (r .board) (
-      not-on (isRunning (r .board .state .phase)) (ap isRunning p),
-      (
-        running-record (r .machine .lines) (r .board) (r .machine) (i .sizes .limits) p v refl,
-        (
-          subst (λ (l : ℕ). badRows l (r .board) ≡ false) (sym lines) (rows-fine (r .machine .lines) (r .board) (i .sizes)),
-          (lt-leb (cells (r .board .state .lines)) c (omega (arith, lines)), tt),
-        ),
-      ),
-    )
+    let y = running-passes r i d p in
+    let lines : r .board .state .lines ≡ r .machine .lines = in-phase r i d Running p .0 .lines in
+    take (Read c) (r .board) (y .phase, (y .state, (y .rows, (lt-leb (cells (r .board .state .lines)) c (omega (arith, lines)), tt))))
 
 -- A running board reads the machine's current values.
 pub read-current : (r : Run) → Inv r → r .crashed ≡ false → r .board .state .phase ≡ Running → (c : ℕ) → c < cells (r .machine .lines) → valueRead c (r .board) ≡ r .machine .current c

@@ -10,7 +10,7 @@ use borrow.Author.Tests.{ltb-true, leb-true, leb-false, eqb-true, eq-eqb, ne-eqb
 use Rattle.board.specs.declared.State.{State}
 use Rattle.board.specs.declared.Condition.{Condition}
 use Rattle.board.specs.declared.Call.{Call}
-use Rattle.board.specs.declared.Call.the-variants.{FormatStart, RecoveryStart, Step, Update, RestartPoint, Advance, Request, WriteBack, Read}
+use Rattle.board.specs.declared.Call.the-variants.{FormatStart, RecoveryStart, Step, Update, RestartPoint, Advance, Request, WriteBack, Read, GoAway, ComeBack}
 use Rattle.board.specs.Board.{Board, cells, rowWords, listWords, linesOutside, workersOutside, outside}
 use Rattle.board.specs.State.{conditionOf, updates, anyUnder, anyWorker}
 use Rattle.board.specs.Causes.{Cause, causes, firstStanding, cause, badRecord, badRows, placePast, notOn, notRecoveringOrRunning, notRunning}
@@ -104,6 +104,8 @@ entered (Advance w) = record { numbers = λ b. refl; phase = λ b. refl; named =
 entered Request = record { numbers = λ b. refl; phase = λ b. refl; named = tt }
 entered (WriteBack l) = record { numbers = λ b. refl; phase = λ b. refl; named = (l, refl) }
 entered (Read c) = record { numbers = λ b. refl; phase = λ b. refl; named = refl }
+entered (GoAway w) = record { numbers = λ b. refl; phase = λ b. refl; named = tt }
+entered (ComeBack w) = record { numbers = λ b. refl; phase = λ b. refl; named = tt }
 
 -- Every row of every call has a number other than 0.
 pub table-numbered : (k : Call) (b : Board) → numbered (causes k b) ≡ true
@@ -212,3 +214,14 @@ record-fine l s e lo wo n p u =
     (le-ltb (cells (s .lines)) (s .listed) (omega arith)))
     p)
     (subst (λ (k : ℕ). anyWorker s (updates (leb (cells k))) ≡ false) (sym e) (none-worker s (updates (leb (cells l))) u))
+
+-- A state record that passes its test has L and W within the limits and its place within bounds.
+pub record-within : (s : State) → badRecord s ≡ false → (linesOutside (s .lines) ≡ false) × (workersOutside (s .lines) (s .workers) ≡ false) × (placePast (s .phase) s ≡ false)
+unfolding badRecord
+record-within s e =
+    let limits = outside (s .lines) (s .workers) in
+    let long = ltb (cells (s .lines)) (s .listed) in
+    let past = placePast (s .phase) s in
+    let three : limits || long || past ≡ false = or-left (limits || long || past) (anyWorker s (updates (leb (cells (s .lines))))) e in
+    let sizes : limits ≡ false = or-left limits long (or-left (limits || long) past three) in
+    (or-left (linesOutside (s .lines)) (workersOutside (s .lines) (s .workers)) sizes, or-right (linesOutside (s .lines)) (workersOutside (s .lines) (s .workers)) sizes, or-right (limits || long) past three)

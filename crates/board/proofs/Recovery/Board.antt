@@ -22,7 +22,7 @@ use Rattle.board.specs.Effects.{cached, stated, backed, logged, restored
 use Rattle.board.specs.Causes.{causes}
 use Rattle.board.proofs.Laws.Bools.{on, or-left, or-right, and-left, and-right, and-both, not-off, not-on}
 use Rattle.board.proofs.Invariant.{Sizes}
-use Rattle.board.proofs.Laws.Idle.{free-condition}
+use Rattle.board.proofs.Laws.Workers.{free-condition}
 use Rattle.board.proofs.Laws.Taken.{standsAt, passed, lines-in}
 use Rattle.board.specs.Next.{Taken}
 

@@ -15,7 +15,7 @@ use Rattle.board.specs.Effects.{pastCell, formatStep, step, effect}
 use Rattle.board.specs.Steps.{Asked, Requests, Opened, FormatOpens, RecoveryOpens}
 use Rattle.board.proofs.Laws.Bools.{passedOver}
 use Rattle.board.proofs.Laws.Taken.{taken-next}
-use Rattle.board.proofs.Laws.Idle.{free-condition}
+use Rattle.board.proofs.Laws.Workers.{free-condition}
 use Rattle.board.proofs.Format.Board.{erasing, finishing}
 use Rattle.board.proofs.Recovery.Board.{recovery-cases, past-cases}
 

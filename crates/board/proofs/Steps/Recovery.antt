@@ -22,22 +22,12 @@ use Rattle.board.specs.Steps.{OnlyCell, RecoveryWrites}
 use Rattle.board.proofs.Laws.Bools.{or-left, or-right}
 use Rattle.board.proofs.Laws.View.{cell-in}
 use Rattle.board.proofs.Invariant.{Sizes}
-use Rattle.board.proofs.Laws.Taken.{standsAt, passed, taken-next}
+use Rattle.board.proofs.Laws.Taken.{standsAt, passed, taken-next, record-within}
 use Rattle.board.proofs.Format.Board.{rows-sized}
 use Rattle.board.proofs.Recovery.Board.{recovery-cases, past-cases}
 use Rattle.board.specs.Next.{Taken}
 
 -- ---- what a taken step finds
-
--- A state record that passes its test has L within the limits and its place within bounds.
-record-within : (s : State) → badRecord s ≡ false → (linesOutside (s .lines) ≡ false) × (placePast (s .phase) s ≡ false)
-unfolding badRecord
-record-within s e =
-    let limits = outside (s .lines) (s .workers) in
-    let long = ltb (cells (s .lines)) (s .listed) in
-    let past = placePast (s .phase) s in
-    let three : limits || long || past ≡ false = or-left (limits || long || past) (anyWorker s (updates (leb (cells (s .lines))))) e in
-    (or-left (linesOutside (s .lines)) (workersOutside (s .lines) (s .workers)) (or-left limits long (or-left (limits || long) past three)), or-right (limits || long) past three)
 
 -- A taken step finds rows of the lengths that the record's L asks.
 step-sizes : (b : Board) → Taken Step b → Sizes (b .state .lines) b
@@ -50,7 +40,7 @@ step-cell : (b : Board) → b .state .phase ≡ Recovering → Taken Step b → 
 unfolding standsAt causes
 step-cell b e t =
     leb-false (cells (b .state .lines)) (b .state .place)
-    (subst (λ (p : Phase). placePast p (b .state) ≡ false) e (record-within (b .state) (passed Step b t 3) .1))
+    (subst (λ (p : Phase). placePast p (b .state) ≡ false) e (record-within (b .state) (passed Step b t 3) .2))
 
 -- ---- what it writes
 

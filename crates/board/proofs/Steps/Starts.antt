@@ -10,7 +10,7 @@ use Rattle.board.specs.State.{started}
 use Rattle.board.specs.Effects.{cached, effect}
 use Rattle.board.specs.Steps.{Begun, FormatBegins, RecoveryBegins}
 use Rattle.board.proofs.Laws.Taken.{taken-next}
-use Rattle.board.proofs.Laws.Idle.{free-condition}
+use Rattle.board.proofs.Laws.Workers.{free-condition}
 
 -- A board with a record as the starts set it.
 begun : (phase : Phase) (l w : ℕ) (cache : List ℕ) (b : Board) → Begun phase l w cache b (cached cache (started phase l w) b)

@@ -1,5 +1,5 @@
 -- THE THEOREMS about single calls: every statement of `specs/Steps.antt`, proved.
-use Rattle.board.specs.Steps.{FormatWrites, RecoveryWrites, Releases, LastStore, TableBothWays, FormatStarts, FormatBegins, RecoveryBegins, Requests, FormatOpens, RecoveryOpens}
+use Rattle.board.specs.Steps.{FormatWrites, RecoveryWrites, Releases, LastStore, TableBothWays, FormatStarts, FormatBegins, RecoveryBegins, Requests, FormatOpens, RecoveryOpens, GoesAway, ComesBack}
 use Rattle.board.proofs.Steps.Format
 use Rattle.board.proofs.Steps.Recovery
 use Rattle.board.proofs.Steps.Workers
@@ -15,7 +15,7 @@ format-writes = Format.format-writes
 pub recovery-writes : RecoveryWrites
 recovery-writes = Recovery.recovery-writes
 
--- 3. A release frees all eight workers and stores nothing.
+-- 3. A release frees the eight workers but those that are away, and stores nothing.
 pub releases : Releases
 releases = Workers.releases
 
@@ -46,3 +46,10 @@ format-opens = Opens.format-opens
 
 pub recovery-opens : RecoveryOpens
 recovery-opens = Opens.recovery-opens
+
+-- 8. Going away and coming back change that worker's condition and nothing else.
+pub goes-away : GoesAway
+goes-away = Workers.goes-away
+
+pub comes-back : ComesBack
+comes-back = Workers.comes-back

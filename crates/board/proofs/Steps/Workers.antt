@@ -1,29 +1,26 @@
--- What becomes of the workers at a checkpoint's release and at the last store of an update.
+-- What becomes of the workers at a checkpoint's release, at the last store of an update, and where one goes away or comes back.
 use Prim.Native.Nat.{ℕ, _+_, _<_}
 use mathlib.Core.Path.{_≡_, refl, sym, ap, subst, _∙_}
 use mathlib.Core.Logic.{_↔_}
 use mathlib.Core.Bool.{true, false, _&&_, false≢true}
 use native.Mathlib.Omega.{arith}
-use native.Mathlib.Decide.{decLt}
 use lib.Dec.{ltb}
-use lib.ListN.{length, List·getD-eq-default}
-use lib.Seq.{getD-set-same}
-use borrow.Author.Tests.{ltb-true, lt-ltb}
-use Rattle.board.specs.declared.State.{State}
-use Rattle.board.specs.declared.Worker.{Worker}
+use lib.ListN.{length, length-set}
+use borrow.Author.Tests.{ltb-true, leb-false, lt-ltb}
 use Rattle.board.specs.declared.Condition.{Condition}
-use Rattle.board.specs.declared.Condition.the-variants.{Free, Waiting, Updating}
+use Rattle.board.specs.declared.Condition.the-variants.{Free, Waiting, Updating, Away}
 use Rattle.board.specs.declared.Store.{Store}
 use Rattle.board.specs.declared.Phase.the-variants.{Running}
-use Rattle.board.specs.declared.Call.the-variants.{Step, Advance}
+use Rattle.board.specs.declared.Call.the-variants.{Step, Advance, GoAway, ComeBack}
 use Rattle.board.specs.Board.{Board}
-use Rattle.board.specs.State.{freeWorker, released, conditionOf, isUpdating, isWaiting}
+use Rattle.board.specs.State.{released, conditioned, conditionOf, isFree, isAway, isWaiting}
+use Rattle.board.specs.Causes.{causes}
 use Rattle.board.specs.Effects.{Act, performAct, stated, afterLast, advance, advanceOf, effect}
 use Rattle.board.specs.Next.{next, Taken}
-use Rattle.board.specs.Steps.{Released, Releases, MustWait, LastStore}
-use Rattle.board.proofs.Laws.Bools.{split, chosen, passedOver, and-left, and-right, and-both, clash}
-use Rattle.board.proofs.Laws.Taken.{taken-next}
-use Rattle.board.proofs.Laws.Idle.{free-condition}
+use Rattle.board.specs.Steps.{Released, Releases, MustWait, LastStore, OnlyWorker, GoesAway, ComesBack}
+use Rattle.board.proofs.Laws.Bools.{split, chosen, passedOver, and-left, and-right, and-both, not-off, clash}
+use Rattle.board.proofs.Laws.Taken.{standsAt, passed, taken-next, workers-in, record-within}
+use Rattle.board.proofs.Laws.Workers.{condition-at, condition-other, is-away, busy-within, released-away}
 use Rattle.board.proofs.Checkpoint.Acts.{act-release, effect-acts}
 
 -- ---- release
@@ -34,13 +31,13 @@ unfolding performAct
 step-releases b e t p =
     taken-next Step b t ∙ effect-acts b e ∙ ap (λ (a : Act). performAct a (b .state) b) (act-release (b .state .listed) (b .state .place) p)
 
--- A release frees all eight workers.
+-- A release frees the eight workers but those that are away.
 pub releases : Releases
 releases b e t p =
     subst (Released b) (sym (step-releases b e t p))
     (record {
       eight = refl;
-      free = λ w. free-condition (released (b .state)) w refl;
+      workersAfter = released-away (b .state);
       empty = refl;
       request = refl;
       place = refl;
@@ -55,20 +52,12 @@ releases b e t p =
 
 -- ---- the last store
 
--- A worker in an update is one of the record's.
-updating-within : (s : State) (w c v : ℕ) (next : Store) → conditionOf s w ≡ Updating next c v → w < length (s .worker)
-updating-within s w c v next e =
-    elim (decLt w (length (s .worker))) [
-      | yes h ↦ h
-      | no h ↦ absurd (false≢true (ap isUpdating (sym (ap (λ (k : Worker). k .condition) (List·getD-eq-default (s .worker) freeWorker (omega arith))) ∙ e)))
-    ]
-
 -- After the last store the worker's condition is as 01 says.
 last-condition : (w c v : ℕ) (b : Board) → conditionOf (b .state) w ≡ Updating Store.Record c v → Taken (Advance w) b → conditionOf (next (Advance w) b .state) w ≡ afterLast (b .state) c
 unfolding effect advanceOf advance
 last-condition w c v b e t =
     ap (λ (x : Board). conditionOf (x .state) w) (taken-next (Advance w) b t ∙ ap (λ (k : Condition). advanceOf k w (b .state) b) e)
-    ∙ ap (λ (k : Worker). k .condition) (getD-set-same (b .state .worker) w (record { condition = afterLast (b .state) c }) freeWorker (updating-within (b .state) w c v Store.Record e))
+    ∙ condition-at (b .state) w (afterLast (b .state) c) (busy-within (b .state) w refl e)
 
 module _ (b : Board) (c : ℕ) where
   -- Where the test of the last store holds, the worker must wait.
@@ -92,3 +81,40 @@ pub last-store : LastStore
 last-store w c v b e t =
     let k = ended b c (conditionOf (next (Advance w) b .state) w) (last-condition w c v b e t) in
     record { waits = k .0; free = k .1 }
+
+-- ---- going away and coming back
+
+-- A worker put in another condition, and nothing else.
+only-worker : (w : ℕ) (condition : Condition) (b : Board) → w < length (b .state .worker) → OnlyWorker w condition b (stated (conditioned (b .state) w condition) b)
+only-worker w condition b h =
+    record {
+      worker = condition-at (b .state) w condition h;
+      others = λ i o. condition-other (b .state) w condition i (λ e. o (sym e));
+      eight = length-set (b .state .worker) w (record { condition = condition });
+      phase = refl;
+      lines = refl;
+      workers = refl;
+      listed = refl;
+      place = refl;
+      undo = refl;
+      request = refl;
+      memory = refl;
+      cache = refl;
+      entries = refl;
+    }
+
+-- A worker that goes away is away, and nothing else has changed.
+pub goes-away : GoesAway
+unfolding effect standsAt causes
+goes-away w b eight t =
+    let pass = passed (GoAway w) b t in
+    let under : w < b .state .workers = leb-false (b .state .workers) w (pass 6) in
+    let most = workers-in (b .state .lines) (b .state .workers) (record-within (b .state) (pass 3) .1) .1 in
+    subst (OnlyWorker w Away b) (sym (taken-next (GoAway w) b t)) (only-worker w Away b (omega arith))
+
+-- A worker that comes back is free, and nothing else has changed.
+pub comes-back : ComesBack
+unfolding effect standsAt causes
+comes-back w b t =
+    let away : isAway (conditionOf (b .state) w) ≡ true = not-off (isAway (conditionOf (b .state) w)) (passed (ComeBack w) b t 8) in
+    subst (OnlyWorker w Free b) (sym (taken-next (ComeBack w) b t)) (only-worker w Free b (busy-within (b .state) w refl (is-away (conditionOf (b .state) w) away)))
