@@ -1,5 +1,5 @@
-// Why a call is turned down: for each call the number of its first cause, 0 where it is taken. Document 01's table, with a
-// field for each row that the call is tested by.
+// Why a call is turned down: for each call the number of its first cause, 0 where it is taken. Document 01's table and
+// what document 02 adds, with a field for each row that the call is tested by.
 pub mod order;
 
 use board::State;
@@ -165,6 +165,37 @@ pub fn of_read(state: State, memory: &[u64], cache: &[u64], entries: &[u16], cel
         state: record::bad_record(state),
         rows: rows::bad_rows(state.lines, memory, cache, entries),
         address: record::no_cell(state, cell),
+        ..NONE
+    })
+}
+
+// Going away looks at the worker, which must be free.
+pub fn of_go_away(state: State, memory: &[u64], cache: &[u64], entries: &[u16], worker: u64) -> u8
+    ensures { λ r. ⌜ r ≡ cause (Call.GoAway worker)
+        (lent state (now (memory .entry)) (now (cache .entry)) (now (entries .entry))) ⌝ }
+{
+    first(Causes {
+        phase: phases::not_running(state),
+        state: record::bad_record(state),
+        rows: rows::bad_rows(state.lines, memory, cache, entries),
+        worker: record::no_worker(state, worker),
+        condition: record::busy(state, worker),
+        ..NONE
+    })
+}
+
+// Coming back looks at the worker, which must be away, and at whether a checkpoint has begun.
+pub fn of_come_back(state: State, memory: &[u64], cache: &[u64], entries: &[u16], worker: u64) -> u8
+    ensures { λ r. ⌜ r ≡ cause (Call.ComeBack worker)
+        (lent state (now (memory .entry)) (now (cache .entry)) (now (entries .entry))) ⌝ }
+{
+    first(Causes {
+        phase: phases::not_running(state),
+        state: record::bad_record(state),
+        rows: rows::bad_rows(state.lines, memory, cache, entries),
+        worker: record::no_worker(state, worker),
+        condition: record::not_away(state, worker),
+        begun: record::checkpoint_begun(state),
         ..NONE
     })
 }

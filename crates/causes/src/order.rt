@@ -1,4 +1,4 @@
-// The causes' numbers, and the one place where causes are put in order.
+// The causes' numbers in the order tested, and the one place where causes are put in order.
 ghost use mathlib.Core.Path.{_≡_};
 ghost use mathlib.Core.Bool.{cond};
 ghost use Rattle.causes.specs.First.{firstOf};
@@ -19,8 +19,11 @@ pub const HEADER: u8 = 5;
 pub const WORKER: u8 = 6;
 // "update of a cell under W or 2L or more; read of 2L or more; line over L"
 pub const ADDRESS: u8 = 7;
-// "update or restart point by a worker not free; advance of one free or waiting"
+// "update or restart point by a worker not free; advance of one free or waiting"; "going away when not free or coming
+// back when not away"
 pub const CONDITION: u8 = 8;
+// "coming back after a checkpoint's first step and before its release, after 8"
+pub const BEGUN: u8 = 13;
 // "start of an update or restart point: another worker under W has an unfinished update of the same cell"
 pub const CONFLICT: u8 = 9;
 // "request while one stands; running step with none requested, or with a worker under W not waiting"
@@ -40,6 +43,7 @@ pub struct Causes {
     pub worker: bool,
     pub address: bool,
     pub condition: bool,
+    pub begun: bool,
     pub conflict: bool,
     pub checkpoint: bool,
     pub epoch: bool,
@@ -56,6 +60,7 @@ pub const NONE: Causes = Causes {
     worker: false,
     address: false,
     condition: false,
+    begun: false,
     conflict: false,
     checkpoint: false,
     epoch: false,
@@ -69,7 +74,7 @@ fn earlier(stands: bool, number: u8, later: u8) -> u8
     if stands { number } else { later }
 }
 
-// "Checked in rising order of number": from the last row of the table up, each goes before those after it.
+// "Checked in rising order of number", 13 "after 8": from the last row of the table up, each goes before those after it.
 pub fn first(c: Causes) -> u8
     ensures { λ r. ⌜ r ≡ firstOf c ⌝ }
 {
@@ -77,6 +82,7 @@ pub fn first(c: Causes) -> u8
     let n = earlier(c.epoch, EPOCH, n);
     let n = earlier(c.checkpoint, CHECKPOINT, n);
     let n = earlier(c.conflict, CONFLICT, n);
+    let n = earlier(c.begun, BEGUN, n);
     let n = earlier(c.condition, CONDITION, n);
     let n = earlier(c.address, ADDRESS, n);
     let n = earlier(c.worker, WORKER, n);

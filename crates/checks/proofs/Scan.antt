@@ -10,9 +10,9 @@ use lib.ListN.{length, length-map}
 use borrow.Author.Tests.{le-ltb, lt-ltb}
 use Rattle.board.specs.declared.State.{State}
 use Rattle.board.specs.declared.Condition.{Condition}
-use Rattle.board.specs.declared.Condition.the-variants.{Free, Waiting, Updating}
+use Rattle.board.specs.declared.Condition.the-variants.{Free, Waiting, Updating, Away}
 use Rattle.board.specs.Board.{cells}
-use Rattle.board.specs.State.{anyUnder, anyWorker, conditionOf, isWaiting, isRunning, updates, othersUpdate}
+use Rattle.board.specs.State.{anyUnder, anyWorker, conditionOf, quiescent, isRunning, updates, othersUpdate}
 use Rattle.board.specs.Causes.{badRecord, notReady}
 use Rattle.board.proofs.Laws.Bools.{and-off, and-left, and-right, and-not, or-right, not-of, none-under, under-none}
 use Rattle.checks.specs.declared.workers.Sought.{Sought}
@@ -64,18 +64,19 @@ others-sought s w c =
 
 -- ---- a step that is ready
 
--- A worker that is not there, or waits, has no update.
-waits-idle : (under : Bool) (condition : Condition) (test : ℕ → Bool) → under && not (isWaiting condition) ≡ false → under && updates test condition ≡ false
+-- A worker that is not there, waits or is away has no update.
+waits-idle : (under : Bool) (condition : Condition) (test : ℕ → Bool) → under && not (quiescent condition) ≡ false → under && updates test condition ≡ false
 waits-idle Bool.false condition test e = refl
 waits-idle Bool.true Free test e = refl
 waits-idle Bool.true Waiting test e = refl
 waits-idle Bool.true (Updating next c v) test e = absurd (true≢false e)
+waits-idle Bool.true Away test e = refl
 
--- The record of a running step that is ready is told by its sizes: all workers under W wait, so that none has an update.
+-- The record of a running step that is ready is told by its sizes: all workers under W wait or are away, so that none has an update.
 pub ready-record : {running unready : Bool} (s : State) → running ≡ isRunning (s .phase) → unready ≡ notReady s → running && not unready ≡ true → badSizes s ≡ badRecord s
 unfolding badRecord
 ready-record {running} {unready} s p q t =
-    let waits = anyWorker s (λ condition. not (isWaiting condition)) in
+    let waits = anyWorker s (λ condition. not (quiescent condition)) in
     let on : isRunning (s .phase) ≡ true = sym p ∙ and-left running (not unready) t in
     let ready : notReady s ≡ false = sym q ∙ not-of unready (and-right running (not unready) t) in
     let all : waits ≡ false = or-right (not (s .requested)) waits (and-not (isRunning (s .phase)) (not (s .requested) || waits) ready on) in

@@ -4,14 +4,14 @@ use mathlib.Core.Bool.{Bool, not, _&&_}
 use lib.Dec.{leb, ltb, eqb}
 use Rattle.board.specs.declared.State.{State}
 use Rattle.board.specs.declared.Condition.{Condition}
-use Rattle.board.specs.State.{conditionOf, isWaiting, updates}
+use Rattle.board.specs.State.{conditionOf, quiescent, updates}
 use Rattle.checks.specs.declared.workers.Sought.{Sought}
-use Rattle.checks.specs.declared.workers.Sought.the-variants.{CellFrom, NotWaiting, UpdateOf}
+use Rattle.checks.specs.declared.workers.Sought.the-variants.{CellFrom, NotQuiescent, UpdateOf}
 
 -- Worker `i`, in this condition, is what is sought.
 abbrev pub soughtIn : Sought → ℕ → Condition → Bool
 soughtIn (CellFrom cells) i condition = updates (leb cells) condition
-soughtIn NotWaiting i condition = not (isWaiting condition)
+soughtIn NotQuiescent i condition = not (quiescent condition)
 soughtIn (UpdateOf cell except) i condition = not (eqb i except) && updates (eqb cell) condition
 
 -- Worker `i` is under W and is what is sought.

@@ -8,7 +8,7 @@ use board::State;
 ghost use mathlib.Core.Path.{_≡_};
 ghost use Rattle.board.specs.State.{othersUpdate};
 ghost use Rattle.checks.specs.Sizes.{badSizes};
-ghost use Rattle.board.specs.Causes.{placePast, badRecord, listFull, noWorker, noDataCell, noCell, noLine, busy, idle, notReady, checkpointing};
+ghost use Rattle.board.specs.Causes.{placePast, badRecord, listFull, noWorker, noDataCell, noCell, noLine, busy, idle, notAway, checkpointBegun, notReady, checkpointing};
 
 // "place over L+1 in a format, a cell over 2L−1 in a recovery, over n+2 when running with a checkpoint requested"
 pub fn place_past(state: State) -> bool
@@ -40,8 +40,8 @@ pub fn bad_record(state: State) -> bool
     bad_sizes(state) | workers::any_worker(state, Sought::CellFrom(cells))
 }
 
-// The same of a step, once it is known whether it is ready: all workers of a running step that is ready wait, so that
-// there is no update to look for.
+// The same of a step, once it is known whether it is ready: all workers of a running step that is ready wait or are
+// away, so that there is no update to look for.
 pub fn bad_step_record(state: State, unready: bool) -> bool
     requires { ⌜ unready ≡ notReady state ⌝ }
     ensures { λ r. ⌜ r ≡ badRecord state ⌝ }
@@ -91,7 +91,7 @@ pub fn no_line(state: State, line: u64) -> bool
     (state.lines as u64) < line
 }
 
-// "update or restart point by a worker not free"
+// "update or restart point by a worker not free"; "going away when not free"
 pub fn busy(state: State, worker: u64) -> bool
     ensures { λ r. ⌜ r ≡ busy state worker ⌝ }
 {
@@ -103,6 +103,20 @@ pub fn idle(state: State, worker: u64) -> bool
     ensures { λ r. ⌜ r ≡ idle state worker ⌝ }
 {
     !workers::is_updating(workers::condition_of(state, worker))
+}
+
+// "coming back when not away"
+pub fn not_away(state: State, worker: u64) -> bool
+    ensures { λ r. ⌜ r ≡ notAway state worker ⌝ }
+{
+    !workers::is_away(workers::condition_of(state, worker))
+}
+
+// "coming back after a checkpoint's first step and before its release"
+pub fn checkpoint_begun(state: State) -> bool
+    ensures { λ r. ⌜ r ≡ checkpointBegun state ⌝ }
+{
+    state.requested & (0 < state.place)
 }
 
 // "another worker under W has an unfinished update of the same cell"
@@ -126,13 +140,13 @@ pub fn checkpointing(state: State) -> bool
     phases::is_running(phase) & state.requested
 }
 
-// "running step with none requested, or with a worker under W not waiting"
+// "running step with none requested, or with a worker under W not waiting"; "away counts as waiting"
 pub fn not_ready(state: State) -> bool
     ensures { λ r. ⌜ r ≡ notReady state ⌝ }
 {
     let phase = state.phase;
     if phases::is_running(phase) {
-        !state.requested | workers::any_worker(state, Sought::NotWaiting)
+        !state.requested | workers::any_worker(state, Sought::NotQuiescent)
     } else {
         false
     }

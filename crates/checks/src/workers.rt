@@ -6,14 +6,15 @@ use board::Worker;
 ghost use Prim.Native.Nat.{min};
 ghost use mathlib.Core.Path.{_≡_};
 ghost use lib.Dec.{leb, eqb};
-ghost use Rattle.board.specs.State.{conditionOf, isFree, isWaiting, isUpdating, isMarkStore, mustList, updates, anyUnder};
+ghost use Rattle.board.specs.State.{conditionOf, isFree, isUpdating, isAway, quiescent, isMarkStore, mustList, updates, anyUnder};
 ghost use Rattle.checks.specs.Sought.{soughtIn, soughtAt};
 
 // What a scan looks for in a worker under W.
 pub enum Sought {
     // an unfinished update of this cell or a later one
     CellFrom(u64),
-    NotWaiting,
+    // a worker that neither waits nor is away
+    NotQuiescent,
     // an unfinished update of this cell, by another worker than the one excepted
     UpdateOf { cell: u64, except: u64 },
 }
@@ -52,17 +53,31 @@ pub fn is_free(condition: Condition) -> bool
         Condition::Free => true,
         Condition::Waiting => false,
         Condition::Updating { .. } => false,
+        Condition::Away => false,
     }
 }
 
-// "waiting".
-pub fn is_waiting(condition: Condition) -> bool
-    ensures { λ r. ⌜ r ≡ isWaiting condition ⌝ }
+// "away counts as waiting": the worker holds no checkpoint up.
+pub fn is_quiescent(condition: Condition) -> bool
+    ensures { λ r. ⌜ r ≡ quiescent condition ⌝ }
 {
     match condition {
         Condition::Free => false,
         Condition::Waiting => true,
         Condition::Updating { .. } => false,
+        Condition::Away => true,
+    }
+}
+
+// The worker is away.
+pub fn is_away(condition: Condition) -> bool
+    ensures { λ r. ⌜ r ≡ isAway condition ⌝ }
+{
+    match condition {
+        Condition::Free => false,
+        Condition::Waiting => false,
+        Condition::Updating { .. } => false,
+        Condition::Away => true,
     }
 }
 
@@ -74,6 +89,7 @@ pub fn is_updating(condition: Condition) -> bool
         Condition::Free => false,
         Condition::Waiting => false,
         Condition::Updating { .. } => true,
+        Condition::Away => false,
     }
 }
 
@@ -96,6 +112,7 @@ pub fn must_list(condition: Condition) -> bool
         Condition::Free => false,
         Condition::Waiting => false,
         Condition::Updating { next, .. } => is_mark_store(next),
+        Condition::Away => false,
     }
 }
 
@@ -107,6 +124,7 @@ fn updates_from(condition: Condition, cells: u64) -> bool
         Condition::Free => false,
         Condition::Waiting => false,
         Condition::Updating { cell, .. } => cells <= cell as u64,
+        Condition::Away => false,
     }
 }
 
@@ -118,6 +136,7 @@ fn updates_cell(condition: Condition, sought: u64) -> bool
         Condition::Free => false,
         Condition::Waiting => false,
         Condition::Updating { cell, .. } => sought == cell as u64,
+        Condition::Away => false,
     }
 }
 
@@ -127,7 +146,7 @@ fn is_sought(condition: Condition, sought: Sought, i: u64) -> bool
 {
     match sought {
         Sought::CellFrom(cells) => updates_from(condition, cells),
-        Sought::NotWaiting => !is_waiting(condition),
+        Sought::NotQuiescent => !is_quiescent(condition),
         Sought::UpdateOf { cell, except } => !(i == except) & updates_cell(condition, cell),
     }
 }

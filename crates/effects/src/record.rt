@@ -46,7 +46,7 @@ pub struct Progress {
     pub workers: Workers,
 }
 
-// "release, with all eight workers free": the condition that it leaves a worker in.
+// "release, with all eight workers free"; "Release leaves it away": the condition that it leaves a worker in.
 fn after_release(condition: Condition) -> Condition
     ensures { λ r. ⌜ r ≡ afterRelease condition ⌝ }
 {
@@ -54,6 +54,7 @@ fn after_release(condition: Condition) -> Condition
         Condition::Free => Condition::Free,
         Condition::Waiting => Condition::Free,
         Condition::Updating { .. } => Condition::Free,
+        Condition::Away => Condition::Away,
     }
 }
 
@@ -149,7 +150,8 @@ pub fn opened(state: State, listed: u16) -> Progress
     }
 }
 
-// "release, with all eight workers free, list empty, request gone", in the phase that it is in.
+// "release, with all eight workers free" but those that are away, "list empty, request gone", in the phase that it is
+// in.
 pub fn released(state: State) -> Progress
     ensures { λ r. ⌜ progressed state r ≡ released state ⌝ }
 {

@@ -7,9 +7,10 @@ use Rattle.board.specs.declared.State.{State}
 use Rattle.board.specs.declared.Phase.{Phase}
 use Rattle.board.specs.declared.Phase.the-variants.{Formatting, Recovering}
 use Rattle.board.specs.declared.Condition.{Condition}
+use Rattle.board.specs.declared.Condition.the-variants.{Free, Away}
 use Rattle.board.specs.declared.Call.{Call}
 use Rattle.board.specs.Board.{Board, linesOf, workersOf}
-use Rattle.board.specs.State.{conditionOf, started, requesting}
+use Rattle.board.specs.State.{conditionOf, started, requesting, conditioned}
 use Rattle.board.specs.Effects.{noted, advanceOf, step, effect}
 use Rattle.board.specs.Next.{lent}
 use Rattle.effects.proofs.Effects.{same-board}
@@ -48,6 +49,14 @@ module _ (s : State) (m c es : List ℕ) where
   pub requests : {s′ : State} → s′ ≡ requesting s → lent s′ m c es ≡ effect Call.Request (lent s m c es)
   unfolding effect
   requests p = same-board p refl refl refl
+
+  pub goes-away : {s′ : State} (w : ℕ) → s′ ≡ conditioned s w Away → lent s′ m c es ≡ effect (Call.GoAway w) (lent s m c es)
+  unfolding effect
+  goes-away w p = same-board p refl refl refl
+
+  pub comes-back : {s′ : State} (w : ℕ) → s′ ≡ conditioned s w Free → lent s′ m c es ≡ effect (Call.ComeBack w) (lent s m c es)
+  unfolding effect
+  comes-back w p = same-board p refl refl refl
 
   pub writes-back : {m′ : List ℕ} (l : ℕ) → m′ ≡ withLine m l (lineOf c l) → lent s m′ c es ≡ effect (Call.WriteBack l) (lent s m c es)
   unfolding effect

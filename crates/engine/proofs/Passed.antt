@@ -17,8 +17,8 @@ use Rattle.board.specs.declared.Condition.{Condition}
 use Rattle.board.specs.declared.Condition.the-variants.{Updating}
 use Rattle.board.specs.declared.Call.{Call}
 use Rattle.board.specs.Board.{Board, cells, rowWords, listWords, linesOutside, workersOutside, outside, epochOf, linesOf, workersOf, restNotZero, lastEpoch}
-use Rattle.board.specs.State.{conditionOf, isRunning, isWaiting, updates, mustList, anyWorker}
-use Rattle.board.specs.Causes.{causes, badRecord, badRows, badEntry, placePast, listFull, checkpointing, epochSpent}
+use Rattle.board.specs.State.{conditionOf, isRunning, quiescent, updates, mustList, anyWorker}
+use Rattle.board.specs.Causes.{causes, badRecord, badRows, badEntry, placePast, listFull, noWorker, checkpointing, epochSpent}
 use Rattle.board.proofs.Laws.Bools.{or-left, or-right, and-both, and-left, and-right, and-not, not-off, none-under}
 use Rattle.board.proofs.Laws.Taken.{standsAt, passed, lines-in, workers-in}
 use Rattle.effects.specs.Ready.{Rows, Restarts, Formats, Recovers, Checkpoints, Stores, Advances}
@@ -138,7 +138,7 @@ module _ (b : Board) (t : Taken Call.Step b) where
   step-checkpoints e =
       let s = b .state in
       let running : isRunning (s .phase) ≡ true = ap isRunning e in
-      let waits = anyWorker s (λ condition. not (isWaiting condition)) in
+      let waits = anyWorker s (λ condition. not (quiescent condition)) in
       let asked = not-off (s .requested) (or-left (not (s .requested)) waits (and-not (isRunning (s .phase)) (not (s .requested) || waits) (passed Call.Step b t 10) running)) in
       let on = and-both (isRunning (s .phase)) (s .requested) running asked in
       let entry = getD (b .entries) (s .place) 0 in
@@ -203,6 +203,20 @@ module _ (w : ℕ) (b : Board) (t : Taken (Call.Advance w) b) where
         stores = stores-of b w c advance-sound l advance-under in-range .0;
         room = λ m. (omega (arith, advance-room e m, l .entries), omega (arith, advance-room e m, advance-sound .lines));
       }
+
+-- ---- going away and coming back
+
+-- A worker that is there is one of the eight.
+seated : (w : ℕ) (b : Board) → badRecord (b .state) ≡ false → noWorker (b .state) w ≡ false → w < 8
+seated w b r n = omega (arith, sound (b .state) r .workers, leb-false (b .state .workers) w n)
+
+pub go-away-seat : (w : ℕ) (b : Board) → Taken (Call.GoAway w) b → w < 8
+unfolding standsAt causes
+go-away-seat w b t = seated w b (passed (Call.GoAway w) b t 3) (passed (Call.GoAway w) b t 6)
+
+pub come-back-seat : (w : ℕ) (b : Board) → Taken (Call.ComeBack w) b → w < 8
+unfolding standsAt causes
+come-back-seat w b t = seated w b (passed (Call.ComeBack w) b t 3) (passed (Call.ComeBack w) b t 6)
 
 -- ---- write-back and read
 

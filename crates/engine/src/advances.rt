@@ -34,5 +34,6 @@ pub fn taken_advance(
             value,
             next,
         ),
+        Condition::Away => state,
     }
 }

@@ -1,5 +1,5 @@
-// The calls of document 01 that a host can make. Each is lent all three rows and says its complete outcome, taken or
-// refused, as one equation with a definition of crate `board`.
+// The calls of documents 01 and 02 that a host can make. Each is lent all three rows and says its complete outcome, taken
+// or refused, as one equation with a definition of crate `board`.
 mod advances;
 mod dispatch;
 mod steps;
@@ -10,10 +10,12 @@ ghost use Rattle.board.specs.declared.Phase.{Phase};
 ghost use Rattle.board.specs.State.{started};
 ghost use Rattle.board.specs.Next.{lent, Performed};
 use advances::taken_advance;
+use board::Condition;
 use board::Phase;
 use board::State;
 pub use causes::TAKEN;
 pub use causes::order::ADDRESS;
+pub use causes::order::BEGUN;
 pub use causes::order::CHECKPOINT;
 pub use causes::order::CONDITION;
 pub use causes::order::CONFLICT;
@@ -25,6 +27,7 @@ pub use causes::order::ROWS;
 pub use causes::order::STATE;
 pub use causes::order::WORKER;
 pub use dispatch::perform;
+use effects::conditioned;
 use effects::noted;
 use effects::progressed;
 use effects::requesting;
@@ -252,5 +255,53 @@ pub fn read(state: State, memory: &[u64], cache: &[u64], entries: &[u16], cell: 
         number: TAKEN,
         value,
         state,
+    }
+}
+
+// "A free worker may go away".
+pub fn go_away(
+    state: State,
+    memory: &[u64],
+    cache: &[u64],
+    entries: &[u16],
+    worker: u64,
+) -> Answer
+    ensures performed { λ r. ⌜ Performed (Call.GoAway worker)
+        (lent state (now (memory .entry)) (now (cache .entry)) (now (entries .entry)))
+        (r .number) 0
+        (lent (r .state) (now (memory .entry)) (now (cache .entry)) (now (entries .entry))) ⌝ }
+{
+    let number = causes::of_go_away(state, memory, cache, entries, worker);
+    if number != TAKEN {
+        return Answer { number, state };
+    }
+    let next = conditioned(state, worker as usize, Condition::Away);
+    Answer {
+        number: TAKEN,
+        state: next,
+    }
+}
+
+// "and come back free".
+pub fn come_back(
+    state: State,
+    memory: &[u64],
+    cache: &[u64],
+    entries: &[u16],
+    worker: u64,
+) -> Answer
+    ensures performed { λ r. ⌜ Performed (Call.ComeBack worker)
+        (lent state (now (memory .entry)) (now (cache .entry)) (now (entries .entry)))
+        (r .number) 0
+        (lent (r .state) (now (memory .entry)) (now (cache .entry)) (now (entries .entry))) ⌝ }
+{
+    let number = causes::of_come_back(state, memory, cache, entries, worker);
+    if number != TAKEN {
+        return Answer { number, state };
+    }
+    let next = conditioned(state, worker as usize, Condition::Free);
+    Answer {
+        number: TAKEN,
+        state: next,
     }
 }

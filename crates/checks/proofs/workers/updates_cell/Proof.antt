@@ -7,4 +7,4 @@ returns-3 : tie.Need-returns-3
 returns-3 c = rw (c .before .condition .given .1)
 
 pub updates-cell-spec : {M : Type 1} → statement M
-updates-cell-spec = tie.close (tie.spec (λ c. search needs) (λ c. search needs) (λ c. search needs) (λ c. search needs) (λ c. search needs) (λ c. search needs) returns-3)
+updates-cell-spec = tie.close (tie.spec (λ c. search needs) (λ c. search needs) (λ c. search needs) (λ c. search needs) (λ c. search needs) (λ c. search needs) (λ c. search needs) returns-3 (λ c. search needs))

@@ -1,0 +1,21 @@
+-- Each cause that is looked at is the table's, in the table's order.
+use mathlib.Core.List.{[]}
+use Rattle.board.specs.Causes.{cause, causes, firstStanding}
+use Rattle.causes.proofs.of_come_back.Statement.{statement}
+use Rattle.causes.proofs.of_come_back.Tie as tie
+
+returns : tie.Need-returns
+unfolding cause causes firstStanding
+returns c =
+    rw (
+      c .first .ensures,
+      c .before .checkpoint-begun .ensures,
+      c .before .before .not-away .ensures,
+      c .before .before .before .no-worker .ensures,
+      c .before .before .before .before .bad-rows .ensures (c .before .before .before .before .before .before .before .before .before .before .args .state),
+      c .before .before .before .before .before .bad-record .ensures,
+      c .before .before .before .before .before .before .not-running .ensures [] [] [],
+    )
+
+pub of-come-back-spec : {M : Type 1} → statement M
+of-come-back-spec = tie.close (tie.spec (λ _ _. tt) (λ _ _. tt) (λ _ _. tt) (λ _ _. tt) (λ _ _. tt) (λ _ _. tt) (λ _ _. tt) returns)

@@ -1,0 +1,20 @@
+-- Each cause that is looked at is the table's, in the table's order.
+use mathlib.Core.List.{[]}
+use Rattle.board.specs.Causes.{cause, causes, firstStanding}
+use Rattle.causes.proofs.of_go_away.Statement.{statement}
+use Rattle.causes.proofs.of_go_away.Tie as tie
+
+returns : tie.Need-returns
+unfolding cause causes firstStanding
+returns c =
+    rw (
+      c .first .ensures,
+      c .before .busy .ensures,
+      c .before .before .no-worker .ensures,
+      c .before .before .before .bad-rows .ensures (c .before .before .before .before .before .before .before .before .before .args .state),
+      c .before .before .before .before .bad-record .ensures,
+      c .before .before .before .before .before .not-running .ensures [] [] [],
+    )
+
+pub of-go-away-spec : {M : Type 1} → statement M
+of-go-away-spec = tie.close (tie.spec (λ _ _. tt) (λ _ _. tt) (λ _ _. tt) (λ _ _. tt) (λ _ _. tt) (λ _ _. tt) returns)
