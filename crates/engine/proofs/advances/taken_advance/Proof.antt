@@ -25,8 +25,12 @@ returns-3 c =
     let called = c .before .before .before .before in
     in-condition _ _ _ _ _ (sym (called .before .before .before .before .before .before .condition-of .ensures) ∙ called .before .before .before .before .condition .given .1) (called .store-next .ensures _)
 
+returns-4 : tie.Need-returns-4
+unfolding advanceOf
+returns-4 c = in-condition _ _ _ _ _ (sym (c .before .before .condition-of .ensures) ∙ c .enum-told3 .given .1) refl
+
 pub taken-advance-spec : {M : Type 1} → statement M
 taken-advance-spec =
     tie.close
-    (tie.spec (λ _ _. tt) (λ c. search needs) (λ c. search needs) (λ c. search needs) store-next-requires
-    returns returns-2 (λ c. search needs) (λ c. search needs) returns-3)
+    (tie.spec (λ _ _. tt) (λ c. search needs) (λ c. search needs) (λ c. search needs) store-next-requires (λ c. search needs)
+    returns returns-2 (λ c. search needs) (λ c. search needs) returns-3 returns-4)
