@@ -20,9 +20,8 @@ use Rattle.board.specs.Effects.{stated, effect}
 use Rattle.board.specs.Next.{Taken}
 use Rattle.board.specs.Machine.{Unfinished, none, feed}
 use Rattle.board.specs.Sequence.{Run}
-use Rattle.board.specs.Statements.{AllQuiescent}
 use Rattle.board.proofs.Laws.Bools.{split, chosen, passedOver, and-not, and-off, and-off-right, not-off, not-on}
-use Rattle.board.proofs.Invariant.{WorkerInv, Touches, progress, Inv}
+use Rattle.board.proofs.Invariant.{AllQuiescent, WorkerInv, Touches, progress, Inv}
 use Rattle.board.proofs.Laws.Taken.{Clear, take, standsAt, passed, afterTaken, workers-in}
 use Rattle.board.proofs.Laws.Workers.{is-free, is-away, condition-at, condition-other}
 use Rattle.board.proofs.Laws.Reading.{running-passes}
