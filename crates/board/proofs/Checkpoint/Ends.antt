@@ -156,10 +156,11 @@ Ends n b = EndsIn n b × KeepsAway (b .state) (stepsFrom n b .state)
 -- The steps after one that keeps the workers.
 ends-after : (n : ℕ) (b d : Board) → Taken Step b → next Step b ≡ d → d .state .worker ≡ b .state .worker → Ends n d → Ends (suc n) b
 unfolding stepsFrom
-ends-after n b d t e same rest =
-    (ends-more n b d t e (rest .0),
-    subst (λ (x : Board). KeepsAway (b .state) (stepsFrom n x .state)) (sym e)
-    (subst (λ (ws : List Worker). KeepsAway (record { phase = b .state .phase; lines = b .state .lines; workers = b .state .workers; listed = b .state .listed; place = b .state .place; undo = b .state .undo; requested = b .state .requested; worker = ws }) (stepsFrom n d .state)) same (rest .1)))
+ends-after n b d t e same rest = (
+  ends-more n b d t e (rest .0),
+  subst (λ (x : Board). KeepsAway (b .state) (stepsFrom n x .state)) (sym e)
+      (subst (λ (ws : List Worker). KeepsAway (record { phase = b .state .phase; lines = b .state .lines; workers = b .state .workers; listed = b .state .listed; place = b .state .place; undo = b .state .undo; requested = b .state .requested; worker = ws }) (stepsFrom n d .state)) same (rest .1)),
+)
 
 -- The steps from a ready board to the release.
 ends : {l : ℕ} (n : ℕ) (b : Board) → Ready l b → n + b .state .place ≡ b .state .listed + 3 → Ends n b
@@ -189,9 +190,10 @@ ends {l} (suc n) b y e =
 
     last : (k : ℕ) → k ≡ 0 → next Step b ≡ performAct release s b → Ends (suc k) b
     last k z q =
-        subst (λ (j : ℕ). Ends (suc j) b) (sym z)
-        (ends-more zero b (stated (released s) b) t q (tt, ap isRunning (y .phase), refl),
-        subst (λ (x : Board). KeepsAway s (x .state)) (sym q) (released-away s))
+        subst (λ (j : ℕ). Ends (suc j) b) (sym z) (
+          ends-more zero b (stated (released s) b) t q (tt, ap isRunning (y .phase), refl),
+          subst (λ (x : Board). KeepsAway s (x .state)) (sym q) (released-away s),
+        )
 
 -- ---- from the invariant
 

@@ -133,8 +133,7 @@ goes-and-comes r inv d e w =
     let b = r .board in
     let s = b .state in
     let k = conditionOf s w in
-    let y = running-passes r inv d (is-running (s .phase) e) in
-    (
+    let y = running-passes r inv d (is-running (s .phase) e) in (
       (
         λ t. (leb-false (s .workers) w (passed (GoAway w) b t 6), is-free k (not-off (isFree k) (passed (GoAway w) b t 8))),
         λ h. take (GoAway w) b (y .phase, (y .state, (y .rows, (lt-leb (s .workers) w (h .0), (not-on (isFree k) (ap isFree (h .1)), tt))))),
