@@ -28,12 +28,13 @@ pub struct Update {
     pub next: Store,
 }
 
-/// "A worker is free, waiting, or in the middle of an update"
+/// "A worker is free, waiting, or in the middle of an update"; by ticket 2 also away.
 #[derive(Clone, Copy, PartialEq, Eq, Debug)]
 pub enum Condition {
     Free,
     Waiting,
     Updating(Update),
+    Away,
 }
 
 /// "A recovery's place is a cell and which of its steps is next."

@@ -26,8 +26,8 @@ pub const CAUSES: [(u8, &[u8]); 11] = [
     (b'p', &[0, 2, 3, 4, 12]),
 ];
 
-/// How many answers there are: 0, and the causes 1 to 12.
-const ANSWERS: usize = 13;
+/// How many answers there are: 0, and the causes 1 to 13.
+const ANSWERS: usize = 14;
 
 /// The counts over some scripts.
 #[derive(Clone, PartialEq, Eq, Debug)]

@@ -121,6 +121,7 @@ fn each_field_is_summed_where_it_stands() {
         ("B 6 1", 6, 1),
         ("K 0 1 0 0 0", 7, 1),
         ("K 7 1 0 0 0", 35, 1),
+        ("K 7 3 0 0 0", 35, 3),
         ("M 15 18446744073709551615", 40 + 15, u64::MAX),
         ("N 15 18446744073709551615", 57 + 15, u64::MAX),
         ("Q 0 65535", 74, 65_535),
@@ -177,7 +178,7 @@ fn rows_keep_the_words_that_stay() {
 fn a_number_that_cannot_be_put_there_does_nothing() {
     let lines = "W 4105 0 0,W 0 4105 0,W 0 0 1101,W 18446744073709551615 0 0,M 16 1,N 16 1,Q 2 1,Q 0 65536,\
         M 18446744073709551615 1,N 4294967296 1,Q 65536 1,B 0 4,B 1 65536,B 2 256,B 3 65536,B 4 65536,B 5 3,B 6 2,\
-        B 7 0,B 18446744073709551615 0,K 8 0 0 0 0,K 256 0 0 0 0,K 0 3 0 0 0,K 0 2 3 0 0,K 0 2 0 65536 0,K 0 0 1 0 0,\
+        B 7 0,B 18446744073709551615 0,K 8 0 0 0 0,K 256 0 0 0 0,K 0 4 0 0 0,K 0 3 1 0 0,K 0 3 0 1 0,K 0 3 0 0 1,K 0 2 3 0 0,K 0 2 0 65536 0,K 0 0 1 0 0,\
         K 0 0 0 1 0,K 0 0 0 0 1,K 0 1 1 0 0,K 0 1 0 1 0,K 0 1 0 0 1,M 0 18446744073709551616,Q 2 65536,W 16 16 1101";
     for line in lines.split(',').map(str::trim) {
         let answers = fault(&format!("F 1 1\n{line}\nT"));
@@ -190,7 +191,7 @@ fn a_number_that_cannot_be_put_there_does_nothing() {
 fn lines_of_another_form_do_nothing() {
     let lines =
         "f 1,f 1 1 1,W 16 16,W 16 16 2 0,M 0,M 0 0 0,N 0,N 0 0 0,Q 0,Q 0 0 0,B 0,B 0 0 0,K 0 0 0 0,K 0 0 0 0 0 0,\
-        K 0 0,T 0,p,p 0 0,p 204 ,p +204,P,a 0,b 0,n,H 0 0,V 0 0,O 0 0,u 0 1 7,w 16 16 2,m 0 0,q 0 0,k 0 0 0 0 0,t,TT,M +1 0,M 0x1 0,\
+        K 0 0,T 0,p,p 0 0,p 204 ,p +204,P,a,b,a 0 0,b 0 0,n,H 0 0,V 0 0,O 0 0,u 0 1 7,w 16 16 2,m 0 0,q 0 0,k 0 0 0 0 0,t,TT,M +1 0,M 0x1 0,\
         B 0 3 ,K  0 0 0 0";
     for line in lines.split(',').map(|line| line.trim_start_matches("        ")) {
         let answers = fault(&format!("F 1 1\n{line}\nT"));
