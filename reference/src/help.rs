@@ -29,7 +29,8 @@ const COMMANDS: [(&str, &str); 10] = [
     ("explore --exhaustive", "every state of the smallest board"),
     (
         "bench",
-        "a workload's checksum: update, again, checkpoint, recovery, write-back, page-equal, page-rising or page-random",
+        "a workload's checksum: update, again, checkpoint, checkpoint-away, recovery, write-back, page-equal, page-rising \
+         or page-random",
     ),
 ];
 
