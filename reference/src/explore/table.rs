@@ -17,9 +17,9 @@ type Part = (u8, &'static str, fn(&Case) -> bool);
 /// The causes in the order in which they are tested: rising, and "after 8" for 13.
 pub const ORDER: [u8; 13] = [1, 2, 3, 4, 5, 6, 7, 8, 13, 9, 10, 11, 12];
 
-/// Where a cause stands in that order.
+/// Where a cause stands in that order, from 1; 0 for none.
 pub fn rank(cause: u8) -> usize {
-    ORDER.iter().position(|known| *known == cause).unwrap_or(ORDER.len())
+    ORDER.iter().position(|known| *known == cause).map_or(0, |at| at + 1)
 }
 
 /// Every part of every cause.

@@ -10,18 +10,18 @@ use crate::text::MOST_BYTES;
 impl Script {
     /// One line that prints `?`, or in a few cases one that just does not.
     pub(super) fn another_form(&mut self) {
-        let text = match self.random.below(15) {
+        let text = match self.random.below(17) {
             0 => Vec::new(),
             1 => self.long(),
             2 => self.unknown_letter(),
             3 | 4 => self.miscounted(),
             5 => self.past_word(),
-            6 => self.no_such_place(),
-            7 | 8 => self.too_large(),
-            9 | 10 => self.past_row(),
-            11 => self.no_room(),
-            12 => self.unused(),
-            13 => return self.page_of_another_form(),
+            6 | 7 => self.no_such_place(),
+            8 | 9 => self.too_large(),
+            10 | 11 => self.past_row(),
+            12 => self.no_room(),
+            13 | 14 => self.unused(),
+            15 => return self.page_of_another_form(),
             _ => {
                 let known = self.known();
                 spoil(&self.random, known)
