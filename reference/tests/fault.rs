@@ -136,6 +136,39 @@ fn each_field_is_summed_where_it_stands() {
 }
 
 #[test]
+fn going_away_and_coming_back() {
+    let script = "F 2 2\nb 0\na 0\na 0\nU 0 3 7\nP 0 7\nA 0\nS\na 1\nC\nS\nb 1\nS\nS\nb 1\nb 1\na 2\nb 2\nX\na 0\nb 0";
+    let expected = "F 0,b 8,a 0,a 8,U 8,P 8,A 8,S 10,a 0,C 0,S 0,b 13,S 0,S 0,b 0,b 8,a 6,b 6,X 0,a 2,b 2";
+    assert_eq!(fault(script).join(",").replace(" -", ""), expected);
+    assert_eq!(sum("F 1 1\na 0"), small_board_with(&[(7, 3)]));
+    assert_eq!(sum("F 1 1\na 0"), sum("F 1 1\nK 0 3 0 0 0"));
+    assert_eq!(sum("F 1 1\na 0\nb 0"), sum("F 1 1"));
+    for (line, number_of_cause) in [("B 0 2", "2"), ("B 1 0", "3"), ("W 16 16 1", "4"), ("B 2 0", "3")] {
+        assert_eq!(number(&format!("F 1 1\n{line}\na 0")), number_of_cause, "{line}");
+        assert_eq!(number(&format!("F 1 1\na 0\nB 6 1\nB 4 1\n{line}\nb 0")), number_of_cause, "{line}");
+    }
+    for worker in ["1", "8", "256", "65536", "18446744073709551615"] {
+        assert_eq!(number(&format!("F 1 1\na {worker}")), "6");
+        assert_eq!(number(&format!("F 1 1\nb {worker}")), "6");
+    }
+    assert_eq!([number("a 0"), number("b 0")], ["2", "2"]);
+}
+
+#[test]
+fn a_worker_put_away() {
+    assert_eq!(fault("F 1 1\nK 0 3 0 0 0\nb 0")[1..], ["K 0 -", "b 0 -"]);
+    assert_eq!(number("F 1 1\nK 0 3 0 0 0\nB 4 65535\nb 0"), "0");
+    assert_eq!(number("F 1 1\nK 0 3 0 0 0\nB 6 1\nb 0"), "0");
+    assert_eq!(number("F 1 1\nK 0 3 0 0 0\nB 6 1\nB 4 2\nb 0"), "13");
+    assert_eq!(number("F 1 1\nK 0 3 0 0 0\nB 6 1\nB 4 3\nb 0"), "3");
+    let released = "F 1 1\nK 0 3 0 0 0\nK 7 3 0 0 0\nK 6 1 0 0 0\nC\nS\nS\nS";
+    assert_eq!(sum(released), small_board_with(&[(0, 3), (7, 3), (35, 3), (40, 2), (57, 2)]));
+    let recovered = format!("{released}\nK 7 3 0 0 0\nX\nR\nS\nS");
+    assert_eq!(sum(&recovered), small_board_with(&[(40, 2), (57, 2)]));
+    assert_eq!(sum("F 1 1\nK 7 3 0 0 0\nB 0 2\nB 4 1\nS"), sum("F 1 1"));
+}
+
+#[test]
 fn a_formats_start_alone() {
     assert_eq!(number("f 1 1"), "4");
     assert_eq!(number("f 1 2"), "1");

@@ -87,8 +87,9 @@ fn the_smallest_board_shows_every_other_mistake() {
 }
 
 #[test]
-fn a_mistaken_page_breaks_no_other_statement() {
-    for (mistake, checks) in CATCHERS.iter().filter(|(_, checks)| checks.contains(&Page)) {
+fn a_mistake_with_a_ticket_breaks_no_other_statement() {
+    let tickets = CATCHERS.iter().skip_while(|(mistake, _)| *mistake != Mistake::PageFallingCells);
+    for (mistake, checks) in tickets {
         for (_, check, _) in CHECKS.iter().filter(|(_, check, _)| !checks.contains(check)) {
             assert_eq!(violated_within(20_000, *mistake, Some(*check)), None, "{mistake:?} {check:?}");
         }
