@@ -33,8 +33,8 @@ pub struct Update {
 pub enum Condition {
     Free,
     Waiting,
-    Updating(Update),
     Away,
+    Updating(Update),
 }
 
 /// "A recovery's place is a cell and which of its steps is next."

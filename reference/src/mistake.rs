@@ -1,6 +1,6 @@
 //! Boards that are wrong on purpose, so that `explore` can show that it catches them.
 
-/// A mistake or a useless board of 01, or a mistake with what a ticket of 02 adds, by the name it has on the command line.
+/// A mistake or a useless board of 01, or a mistake with a ticket of 02, by the name it has on the command line.
 #[derive(Clone, Copy, PartialEq, Eq, Debug)]
 pub enum Mistake {
     /// "Mark before backup"

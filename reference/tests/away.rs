@@ -185,8 +185,11 @@ fn the_causes_in_their_order() {
     }
 }
 
+/// A cause, and what brings it about.
+type Fault = (u8, fn(&mut Board));
+
 /// What turns every call of a worker down.
-const FAULTS: [(u8, fn(&mut Board)); 7] = [
+const FAULTS: [Fault; 7] = [
     (2, |board| board.state.phase = Phase::Off),
     (2, |board| board.state.phase = Phase::Recovering),
     (3, |board| board.state.lines = 0),

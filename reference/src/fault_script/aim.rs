@@ -173,7 +173,7 @@ impl Script {
         Call::Step
     }
 
-    /// A requested checkpoint at any place of it, all workers waiting or away, with entries and words that it is to write.
+    /// A requested checkpoint at any place of it, all workers waiting or away, with entries and words to write.
     fn prepare_checkpoint(&mut self) {
         let away = self.random.pick(&[0, 0, 1, 2]);
         for worker in 0..self.workers() {
