@@ -3,6 +3,17 @@ ghost use mathlib.Core.Path.{_≡_};
 ghost use Rattle.board.specs.Next.{lent, Performed};
 use crate::Answer;
 use crate::Reading;
+use crate::advance;
+use crate::come_back;
+use crate::format_start;
+use crate::go_away;
+use crate::read;
+use crate::recovery_start;
+use crate::request;
+use crate::restart_point;
+use crate::step;
+use crate::update;
+use crate::write_back;
 use board::Call;
 use board::State;
 
@@ -32,7 +43,7 @@ pub fn perform(
         (lent (r .state) (now (memory .exit)) (now (cache .exit)) (now (entries .exit))) ⌝ }
 {
     match call {
-        Call::FormatStart { lines, workers } => unread(crate::format_start(
+        Call::FormatStart { lines, workers } => unread(format_start(
             state,
             memory,
             cache,
@@ -40,14 +51,14 @@ pub fn perform(
             lines,
             workers,
         )),
-        Call::RecoveryStart => unread(crate::recovery_start(state, memory, cache, entries)),
-        Call::Step => unread(crate::step(state, memory, cache, entries)),
+        Call::RecoveryStart => unread(recovery_start(state, memory, cache, entries)),
+        Call::Step => unread(step(state, memory, cache, entries)),
         Call::Update {
             worker,
             cell,
             value,
-        } => unread(crate::update(state, memory, cache, entries, worker, cell, value)),
-        Call::RestartPoint { worker, value } => unread(crate::restart_point(
+        } => unread(update(state, memory, cache, entries, worker, cell, value)),
+        Call::RestartPoint { worker, value } => unread(restart_point(
             state,
             memory,
             cache,
@@ -55,17 +66,11 @@ pub fn perform(
             worker,
             value,
         )),
-        Call::Advance { worker } => unread(crate::advance(state, memory, cache, entries, worker)),
-        Call::Request => unread(crate::request(state, memory, cache, entries)),
-        Call::WriteBack { line } => unread(crate::write_back(state, memory, cache, entries, line)),
-        Call::Read { cell } => crate::read(state, memory, cache, entries, cell),
-        Call::GoAway { worker } => unread(crate::go_away(state, memory, cache, entries, worker)),
-        Call::ComeBack { worker } => unread(crate::come_back(
-            state,
-            memory,
-            cache,
-            entries,
-            worker,
-        )),
+        Call::Advance { worker } => unread(advance(state, memory, cache, entries, worker)),
+        Call::Request => unread(request(state, memory, cache, entries)),
+        Call::WriteBack { line } => unread(write_back(state, memory, cache, entries, line)),
+        Call::Read { cell } => read(state, memory, cache, entries, cell),
+        Call::GoAway { worker } => unread(go_away(state, memory, cache, entries, worker)),
+        Call::ComeBack { worker } => unread(come_back(state, memory, cache, entries, worker)),
     }
 }
