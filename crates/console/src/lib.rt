@@ -1,8 +1,4 @@
-// The shell of the programs: a script on standard input, its answers on standard output, or the page of the board that it
-// leaves.
-mod answers;
+// A script's lines answered, or the page of the board that it leaves; reading and writing are crate `shell`'s.
+pub mod answers;
 mod input;
-mod printing;
-mod shell;
-
-pub use shell::run;
+pub mod printing;

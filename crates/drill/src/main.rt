@@ -2,5 +2,5 @@
 use script::Program;
 
 fn main() {
-    console::run(Program::Drill);
+    shell::run(Program::Drill);
 }

@@ -2,5 +2,5 @@
 use script::Program;
 
 fn main() {
-    console::run(Program::Fault);
+    shell::run(Program::Fault);
 }

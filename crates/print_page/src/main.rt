@@ -2,5 +2,5 @@
 use script::Program;
 
 fn main() {
-    console::run(Program::Page);
+    shell::run(Program::Page);
 }

@@ -1,9 +1,9 @@
--- `console::shell::write` is safe: the part written is within the buffer.
+-- `shell::write` is safe: the part written is within the buffer.
 use native.Mathlib.Omega.{arith}
 use borrow.Author.Needs.{needs}
 use Rattle.session.proofs.Rows.{part-size}
-use Rattle.console.proofs.shell.write.Statement.{statement}
-use Rattle.console.proofs.shell.write.Tie as tie
+use Rattle.shell.proofs.write.Statement.{statement}
+use Rattle.shell.proofs.write.Tie as tie
 
 pub write-spec : {M : Type 1} → statement M
 write-spec =

@@ -1,4 +1,4 @@
--- `console::shell::converse` meets its contract. The invariant: what is reached is what the piece up to `used` leaves.
+-- `shell::converse` meets its contract. The invariant: what is reached is what the piece up to `used` leaves.
 use Prim.Native.Nat.{ℕ, _-_, _≤_, _<_}
 use mathlib.Core.Path.{_≡_, refl, ap, _∙_}
 use mathlib.Core.List.{List}
@@ -7,10 +7,10 @@ use lib.ListN.{length, take, drop, length-take, length-drop}
 use lib.Seq.{take-all}
 use borrow.Author.Needs.{needs}
 use Rattle.board.proofs.Laws.Bools.{clash}
 use Rattle.console.specs.Pieces.{Fed, fed, carriedBy, Ready}
 use Rattle.console.proofs.Pieces.{used-more}
-use Rattle.console.proofs.shell.converse.Statement.{statement}
-use Rattle.console.proofs.shell.converse.Tie as tie
+use Rattle.shell.proofs.converse.Statement.{statement}
+use Rattle.shell.proofs.converse.Tie as tie
 
 abbrev Inv-loop : tie.InvT-loop
 Inv-loop program memory₀ cache₀ entries₀ line₀ piece out₀ reached₀ used₀ more₀ memory cache entries line out reached used more =

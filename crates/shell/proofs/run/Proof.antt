@@ -1,10 +1,10 @@
--- `console::shell::run` is safe and ends. The measure is the number of turns that are left.
+-- `shell::run` is safe and ends. The measure is the number of turns that are left.
 use mathlib.Core.Path.{_≡_}
 use lib.ListN.{length}
 use borrow.Author.Needs.{needs}
 use Rattle.console.specs.Pieces.{Ready}
-use Rattle.console.proofs.shell.run.Statement.{statement}
-use Rattle.console.proofs.shell.run.Tie as tie
+use Rattle.shell.proofs.run.Statement.{statement}
+use Rattle.shell.proofs.run.Tie as tie
 
 abbrev Inv-loop : tie.InvT-loop
 Inv-loop program memory₀ cache₀ entries₀ line₀ text₀ out₀ reached₀ turns₀ memory cache entries line text out reached turns =
