@@ -28,11 +28,12 @@ pub struct Update {
     pub next: Store,
 }
 
-/// "A worker is free, waiting, or in the middle of an update"
+/// "A worker is free, waiting, or in the middle of an update"; by ticket 2 also away.
 #[derive(Clone, Copy, PartialEq, Eq, Debug)]
 pub enum Condition {
     Free,
     Waiting,
+    Away,
     Updating(Update),
 }
 

@@ -37,6 +37,14 @@ pub enum Call {
     Page {
         room: u64,
     },
+    /// "A free worker may go away"
+    GoAway {
+        worker: u64,
+    },
+    /// "and come back free"
+    ComeBack {
+        worker: u64,
+    },
 }
 
 impl Call {

@@ -1,4 +1,5 @@
-//! Why a call is turned down: the table of 01 and what 02 adds to it, tested in rising order of number.
+//! Why a call is turned down: the table of 01, tested in rising order of number, and what 02 adds to it, 13 directly
+//! after 8.
 
 use crate::board::{Condition, Lent, Phase, State, Store};
 use crate::call::Call;
@@ -23,6 +24,8 @@ pub fn cause(call: &Call, state: &State, rows: &Lent, mistake: Option<Mistake>) 
         Call::WriteBack { line } => write_back_cause(line, state, rows),
         Call::Read { cell } => read_cause(cell, state, rows),
         Call::Page { room } => page_cause(room, state, rows, mistake),
+        Call::GoAway { worker } => go_away_cause(worker, state, rows, mistake),
+        Call::ComeBack { worker } => come_back_cause(worker, state, rows, mistake),
     }
 }
 
@@ -70,7 +73,7 @@ fn step_cause(state: &State, rows: &Lent, mistake: Option<Mistake>) -> u8 {
         return 4;
     }
     let released = mistake == Some(Mistake::EarlyRelease) && state.place == state.list_length + 2;
-    let waiting = state.active_workers().iter().all(|w| *w == Condition::Waiting);
+    let waiting = state.active_workers().iter().all(|condition| waits(condition, mistake));
     if !state.requested || !(waiting || released) {
         return 10;
     }
@@ -78,6 +81,15 @@ fn step_cause(state: &State, rows: &Lent, mistake: Option<Mistake>) -> u8 {
         return 11;
     }
     0
+}
+
+/// "away counts as waiting"
+fn waits(condition: &Condition, mistake: Option<Mistake>) -> bool {
+    match condition {
+        Condition::Waiting => true,
+        Condition::Away => mistake != Some(Mistake::AwayNotWaiting),
+        Condition::Free | Condition::Updating(_) => false,
+    }
 }
 
 /// "a list entry that this step uses is 2L or more", turned round
@@ -90,12 +102,9 @@ fn entry_used_fits(state: &State, rows: &Lent, mistake: Option<Mistake>) -> bool
 
 /// The start of an update.
 fn update_cause(worker: u64, cell: u64, state: &State, rows: &Lent, mistake: Option<Mistake>) -> u8 {
-    let common = running_cause(state, rows);
+    let common = worker_cause(worker, state, rows);
     if common != 0 {
         return common;
-    }
-    if worker >= state.workers as u64 {
-        return 6;
     }
     if cell < state.workers as u64 || cell >= cells(state.lines as u64) {
         return 7;
@@ -105,19 +114,16 @@ fn update_cause(worker: u64, cell: u64, state: &State, rows: &Lent, mistake: Opt
 
 /// The start of a restart point, on the worker's own restart cell.
 fn restart_point_cause(worker: u64, state: &State, rows: &Lent, mistake: Option<Mistake>) -> u8 {
-    let common = running_cause(state, rows);
-    if common != 0 {
-        return common;
+    match worker_cause(worker, state, rows) {
+        0 => begin_cause(worker as usize, worker, state, mistake),
+        common => common,
     }
-    if worker >= state.workers as u64 {
-        return 6;
-    }
-    begin_cause(worker as usize, worker, state, mistake)
 }
 
 /// "a worker not free" is 8; "another worker under W has an unfinished update of the same cell" is 9.
 fn begin_cause(worker: usize, cell: u64, state: &State, mistake: Option<Mistake>) -> u8 {
-    if state.worker[worker] != Condition::Free {
+    let away_begins = state.worker[worker] == Condition::Away && mistake == Some(Mistake::AwayUpdates);
+    if state.worker[worker] != Condition::Free && !away_begins {
         return 8;
     }
     for (other, condition) in state.active_workers().iter().enumerate() {
@@ -204,6 +210,56 @@ fn page_cause(room: u64, state: &State, rows: &Lent, mistake: Option<Mistake>) -
     match running_cause(state, rows) {
         0 if short => 12,
         4 if short && mistake == Some(Mistake::PageTextFirst) => 12,
+        common => common,
+    }
+}
+
+/// "8 for going away when not free"
+fn go_away_cause(worker: u64, state: &State, rows: &Lent, mistake: Option<Mistake>) -> u8 {
+    let common = worker_cause(worker, state, rows);
+    if common != 0 {
+        return common;
+    }
+    match state.worker[worker as usize] {
+        Condition::Free => 0,
+        Condition::Waiting if mistake == Some(Mistake::WaitingGoesAway) => 0,
+        _ => 8,
+    }
+}
+
+/// "8 for ... coming back when not away; 13 for coming back after a checkpoint's first step ..., after 8"
+fn come_back_cause(worker: u64, state: &State, rows: &Lent, mistake: Option<Mistake>) -> u8 {
+    let common = worker_cause(worker, state, rows);
+    if common != 0 {
+        return common;
+    }
+    let away = match state.worker[worker as usize] {
+        Condition::Away => true,
+        Condition::Waiting => mistake == Some(Mistake::WaitingComesBack),
+        Condition::Free | Condition::Updating(_) => false,
+    };
+    match (away, checkpoint_under_way(state, mistake)) {
+        (_, true) if mistake == Some(Mistake::Cause13First) => 13,
+        (false, _) => 8,
+        (true, true) => 13,
+        (true, false) => 0,
+    }
+}
+
+/// "after a checkpoint's first step and before its release"
+fn checkpoint_under_way(state: &State, mistake: Option<Mistake>) -> bool {
+    match mistake {
+        Some(Mistake::NoCause13) => false,
+        Some(Mistake::Cause13Unrequested) => state.place > 0,
+        Some(Mistake::Cause13AtRequest) => state.requested,
+        _ => state.requested && state.place > 0,
+    }
+}
+
+/// Causes 2, 3, 4 and 6 of a call that names a worker.
+fn worker_cause(worker: u64, state: &State, rows: &Lent) -> u8 {
+    match running_cause(state, rows) {
+        0 if worker >= state.workers as u64 => 6,
         common => common,
     }
 }

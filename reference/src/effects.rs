@@ -1,8 +1,8 @@
-//! What a taken call does, sentence by sentence of 01's "Steps".
+//! What a taken call does, sentence by sentence of 01's "Steps" and of what 02 adds to them.
 
 use crate::board::{Condition, Phase, Rows, State, Store, UndoStep, Update};
 use crate::call::Call;
-use crate::line::{backup_at, cells, header, line_of, line_words, mark_at, record_at, LINE_WORDS, MOST_WORKERS};
+use crate::line::{backup_at, cells, header, line_of, line_words, mark_at, record_at, LINE_WORDS};
 use crate::mistake::Mistake;
 
 /// Take a call that no cause turns down; gives the value read, 0 for all but a read.
@@ -28,8 +28,19 @@ pub fn take(call: &Call, state: &mut State, rows: &mut Rows, mistake: Option<Mis
         Call::WriteBack { line } => write_back(line as usize, rows, mistake),
         Call::Read { cell } => return rows.cache[record_at(cell as usize)],
         Call::Page { .. } => {}
+        Call::GoAway { worker } => state.worker[worker as usize] = Condition::Away,
+        Call::ComeBack { worker } => state.worker[worker as usize] = back(mistake),
     }
     0
+}
+
+/// "come back free"
+fn back(mistake: Option<Mistake>) -> Condition {
+    if mistake == Some(Mistake::BackWaits) {
+        Condition::Waiting
+    } else {
+        Condition::Free
+    }
 }
 
 /// "A write-back copies a whole line from cache to memory."
@@ -53,7 +64,7 @@ fn format_step(state: &mut State, rows: &mut Rows, mistake: Option<Mistake>) {
         state.place += 1;
     } else {
         state.list_length = 0;
-        run(state);
+        run(state, true);
     }
 }
 
@@ -69,10 +80,19 @@ fn format_line(place: u16, state: &State, rows: &mut Rows) {
 }
 
 /// The end of a format or a recovery: running, all free, the place 0.
-fn run(state: &mut State) {
+fn run(state: &mut State, away_too: bool) {
     state.phase = Phase::Running;
-    state.worker = [Condition::Free; MOST_WORKERS];
+    free_workers(state, away_too);
     state.reset_place();
+}
+
+/// Workers free: all eight, or those of them that are not away.
+fn free_workers(state: &mut State, away_too: bool) {
+    for condition in &mut state.worker {
+        if away_too || *condition != Condition::Away {
+            *condition = Condition::Free;
+        }
+    }
 }
 
 /// "The start copies memory to cache, list empty."
@@ -91,7 +111,7 @@ fn recovery_step(state: &mut State, rows: &mut Rows, mistake: Option<Mistake>) {
     }
     let cell = state.place as usize;
     match state.undo {
-        UndoStep::Record if rows.cache[mark_at(cell)] != rows.cache[0] => pass_cell(state),
+        UndoStep::Record if rows.cache[mark_at(cell)] != rows.cache[0] => pass_cell(state, mistake),
         UndoStep::Record => {
             undo_store(cell, mistake == Some(Mistake::RecoveryMarkFirst), rows, mistake);
             state.undo = UndoStep::Mark;
@@ -104,7 +124,7 @@ fn recovery_step(state: &mut State, rows: &mut Rows, mistake: Option<Mistake>) {
             if mistake != Some(Mistake::RecoveryCacheOnly) {
                 write_back(line_of(cell), rows, mistake);
             }
-            pass_cell(state);
+            pass_cell(state, mistake);
         }
     }
 }
@@ -128,11 +148,11 @@ fn undo_at_once(cell: usize, rows: &mut Rows) {
 }
 
 /// "cells from 0 up ... After the last cell: running in the same epoch, all free."
-fn pass_cell(state: &mut State) {
+fn pass_cell(state: &mut State, mistake: Option<Mistake>) {
     state.undo = UndoStep::Record;
     state.place += 1;
     if state.place as u64 == cells(state.lines as u64) {
-        run(state);
+        run(state, mistake != Some(Mistake::RecoveryLeavesAway));
     }
 }
 
@@ -206,7 +226,7 @@ pub fn act_at(place: u16, length: u16, mistake: Option<Mistake>) -> Act {
     }
 }
 
-/// One step of a requested checkpoint, all workers waiting.
+/// One step of a requested checkpoint, all workers waiting or away; "Release leaves it away".
 fn checkpoint_step(state: &mut State, rows: &mut Rows, mistake: Option<Mistake>) {
     let act = act_at(state.place, state.list_length, mistake);
     state.place += 1;
@@ -214,13 +234,13 @@ fn checkpoint_step(state: &mut State, rows: &mut Rows, mistake: Option<Mistake>)
         Act::WriteListed(entry) => write_back(line_of(rows.list[entry as usize] as usize), rows, mistake),
         Act::StoreEpoch => rows.cache[0] = rows.cache[0].wrapping_add(1),
         Act::WriteHeader => write_back(0, rows, mistake),
-        Act::FreeWorkers => state.worker = [Condition::Free; MOST_WORKERS],
+        Act::FreeWorkers => free_workers(state, false),
         Act::WriteHeaderAndEnd => {
             write_back(0, rows, mistake);
             end_checkpoint(state);
         }
         Act::Release => {
-            state.worker = [Condition::Free; MOST_WORKERS];
+            free_workers(state, mistake == Some(Mistake::ReleaseFreesAway));
             end_checkpoint(state);
         }
     }

@@ -13,7 +13,7 @@ use crate::text::{Fields, Unread};
 /// One line of a script.
 #[derive(Clone, Copy, PartialEq, Eq, Debug)]
 pub enum Command {
-    /// A letter of the drill, or `f`, a format's start alone.
+    /// A letter of the drill, or a call that the drill has no letter for: `f`, a format's start alone, `a` and `b`.
     Drill(drill::Command),
     /// `W M N Q B K`
     Damage(Damage),
@@ -41,8 +41,19 @@ pub const MOST_ROOM: u64 = 70_000;
 pub const BYTE_BEFORE: u8 = 0xAA;
 
 /// The letters that the drill has not, and how many numbers each has.
-pub const FORMS: [(u8, usize); 9] =
-    [(b'f', 2), (b'W', 3), (b'M', 2), (b'N', 2), (b'Q', 2), (b'B', 2), (b'K', 5), (b'T', 0), (b'p', 1)];
+pub const FORMS: [(u8, usize); 11] = [
+    (b'f', 2),
+    (b'W', 3),
+    (b'M', 2),
+    (b'N', 2),
+    (b'Q', 2),
+    (b'B', 2),
+    (b'K', 5),
+    (b'T', 0),
+    (b'p', 1),
+    (b'a', 1),
+    (b'b', 1),
+];
 
 /// The fault program as a program.
 pub struct Fault;
@@ -53,7 +64,9 @@ impl Program for Fault {
     fn command(fields: &Fields) -> Result<Command, Unread> {
         let [a, b, c, d, e] = fields.numbers;
         let damage = match (fields.letter, fields.count) {
-            (b'f', 2) => return Ok(Command::Drill(drill::Command::Call(Call::Format { lines: a, workers: b }))),
+            (b'f', 2) => return alone(Call::Format { lines: a, workers: b }),
+            (b'a', 1) => return alone(Call::GoAway { worker: a }),
+            (b'b', 1) => return alone(Call::ComeBack { worker: a }),
             (b'T', 0) => return Ok(Command::Checksum),
             (b'p', 1) if a > MOST_ROOM => return Err(Unread::NoRoom),
             (b'p', 1) => return Ok(Command::Page { room: a }),
@@ -81,6 +94,11 @@ impl Program for Fault {
             }
         }
     }
+}
+
+/// A line that is one call.
+fn alone(call: Call) -> Result<Command, Unread> {
+    Ok(Command::Drill(drill::Command::Call(call)))
 }
 
 /// Run a whole script.

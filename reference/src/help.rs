@@ -20,7 +20,10 @@ pub const USAGE: &str = "usage: reference drill
 const COMMANDS: [(&str, &str); 10] = [
     ("drill", "01's drill: a script on standard input, its answers on standard output"),
     ("fault", "the same with damage, as fault.md says"),
-    ("fault --reached", "how often the scripts of seeds 1 to SEEDS met each answer and each kind of ?"),
+    (
+        "fault --reached",
+        "how often the scripts of seeds 1 to SEEDS met each answer, each case of a worker away and each ?",
+    ),
     ("page", "the page of the board that a drill script on standard input leads to"),
     ("script", "a random script for the drill, on boards of any size or of L and W"),
     ("script --fault", "a random script for the fault program"),
@@ -29,7 +32,8 @@ const COMMANDS: [(&str, &str); 10] = [
     ("explore --exhaustive", "every state of the smallest board"),
     (
         "bench",
-        "a workload's checksum: update, again, checkpoint, recovery, write-back, page-equal, page-rising or page-random",
+        "a workload's checksum: update, again, checkpoint, checkpoint-away, recovery, write-back, page-equal, \
+         page-rising or page-random",
     ),
 ];
 

@@ -64,7 +64,7 @@ impl Machine {
                 self.steps = 0;
             }
             Call::WriteBack { line } => self.write_back(line),
-            Call::Read { .. } | Call::Page { .. } => {}
+            Call::Read { .. } | Call::Page { .. } | Call::GoAway { .. } | Call::ComeBack { .. } => {}
         }
     }
 

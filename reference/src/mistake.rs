@@ -1,6 +1,6 @@
 //! Boards that are wrong on purpose, so that `explore` can show that it catches them.
 
-/// A mistake or a useless board of 01, or a mistaken page, by the name it has on the command line.
+/// A mistake or a useless board of 01, or a mistake with a ticket of 02, by the name it has on the command line.
 #[derive(Clone, Copy, PartialEq, Eq, Debug)]
 pub enum Mistake {
     /// "Mark before backup"
@@ -45,10 +45,32 @@ pub enum Mistake {
     PageRefusedWrites,
     /// No line for the last cell.
     PageLastCellMissing,
+    /// Cause 13 dropped.
+    NoCause13,
+    /// 13 tested by the place alone.
+    Cause13Unrequested,
+    /// 13 tested by the request alone.
+    Cause13AtRequest,
+    /// 13 tested before 8.
+    Cause13First,
+    /// Release frees a worker that is away.
+    ReleaseFreesAway,
+    /// Away not counted as waiting.
+    AwayNotWaiting,
+    /// Away counted as free by an update and a restart point.
+    AwayUpdates,
+    /// A worker that comes back waits.
+    BackWaits,
+    /// Recovery's end leaves a worker away.
+    RecoveryLeavesAway,
+    /// A waiting worker may come back.
+    WaitingComesBack,
+    /// A waiting worker may go away.
+    WaitingGoesAway,
 }
 
 /// Every mistake with its name and a few words.
-pub const MISTAKES: [(&str, Mistake, &str); 21] = [
+pub const MISTAKES: [(&str, Mistake, &str); 32] = [
     ("mark-first", Mistake::MarkFirst, "an update stores the mark before the backup"),
     ("recovery-mark-first", Mistake::RecoveryMarkFirst, "recovery clears a mark before it restores the record"),
     ("recovery-cache-only", Mistake::RecoveryCacheOnly, "recovered lines are not written back"),
@@ -70,6 +92,17 @@ pub const MISTAKES: [(&str, Mistake, &str); 21] = [
     ("page-past-end", Mistake::PagePastEnd, "a page changes the byte after it"),
     ("page-refused-writes", Mistake::PageRefusedWrites, "a refused page changes its text row"),
     ("page-last-cell-missing", Mistake::PageLastCellMissing, "a page has no line for the last cell"),
+    ("no-cause-13", Mistake::NoCause13, "a worker comes back in the middle of a checkpoint"),
+    ("cause-13-unrequested", Mistake::Cause13Unrequested, "13 is tested by the place alone, with no request too"),
+    ("cause-13-at-request", Mistake::Cause13AtRequest, "13 is tested by the request alone, before the first step too"),
+    ("cause-13-first", Mistake::Cause13First, "13 is tested before 8"),
+    ("release-frees-away", Mistake::ReleaseFreesAway, "a release frees a worker that is away"),
+    ("away-not-waiting", Mistake::AwayNotWaiting, "a worker that is away holds a checkpoint up"),
+    ("away-updates", Mistake::AwayUpdates, "a worker that is away may begin an update"),
+    ("back-waits", Mistake::BackWaits, "a worker that comes back waits"),
+    ("recovery-leaves-away", Mistake::RecoveryLeavesAway, "recovery's end leaves a worker away"),
+    ("waiting-comes-back", Mistake::WaitingComesBack, "a waiting worker may come back"),
+    ("waiting-goes-away", Mistake::WaitingGoesAway, "a waiting worker may go away"),
 ];
 
 impl Mistake {

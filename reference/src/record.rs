@@ -65,6 +65,7 @@ pub fn condition_numbers(condition: &Condition) -> [u64; 4] {
         Condition::Free => [0; 4],
         Condition::Waiting => [1, 0, 0, 0],
         Condition::Updating(update) => [2, number_of(&STORES, update.next), update.cell.into(), update.value],
+        Condition::Away => [3, 0, 0, 0],
     }
 }
 
@@ -78,6 +79,7 @@ pub fn condition(numbers: [u64; 4]) -> Result<Condition, Unread> {
             let (next, cell) = (numbered(&STORES, next)?, narrow(cell)?);
             return Ok(Condition::Updating(Update { cell, value, next }));
         }
+        3 => Condition::Away,
         _ => return Err(Unread::NoSuchPlace),
     };
     if [next, cell, value] == [0; 3] {

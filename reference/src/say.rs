@@ -28,6 +28,8 @@ pub fn call_line(call: &Call) -> Vec<u8> {
         Call::WriteBack { line: at } => line('E', &[at]),
         Call::Read { cell } => line('G', &[cell]),
         Call::Page { room } => line('p', &[room]),
+        Call::GoAway { worker } => line('a', &[worker]),
+        Call::ComeBack { worker } => line('b', &[worker]),
     }
 }
 

@@ -53,10 +53,12 @@ fn before_a_format_rows_are_empty_and_the_phase_is_off() {
 
 #[test]
 fn lines_of_another_form() {
-    let bad: [&[u8]; 24] = [
+    let bad: [&[u8]; 26] = [
         b"f\t1\t1",
         b"p",
         b"p\t204",
+        b"a\t0",
+        b"b\t0",
         b"F\t1",
         b"F\t1\t1\t1",
         b"F 1 1",

@@ -16,13 +16,17 @@ fn random_sequences_hold() {
             "{tally}"
         );
         assert!(tally.pages > 2000, "{tally}");
+        let present = tally.checkpoints - tally.some_away - tally.all_away;
+        assert!(present > 1000 && tally.some_away > 300 && tally.all_away > 300, "{tally}");
+        assert!([0, 2, 3, 4, 6, 8].iter().all(|number| tally.going_away[*number] > 20), "{tally}");
+        assert!([0, 2, 3, 4, 6, 8, 13].iter().all(|number| tally.coming_back[*number] > 20), "{tally}");
     }
 }
 
 #[test]
 fn every_state_of_the_smallest_board_holds() {
     let reached = exhaustive::exhaust(None, None).expect("nothing is violated");
-    assert_eq!((reached.states, reached.transitions), (73_881, 431_073));
+    assert_eq!((reached.states, reached.transitions), (130_577, 791_604));
 }
 
 /// Calls and answers that the drill gives to a script.

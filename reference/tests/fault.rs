@@ -121,6 +121,7 @@ fn each_field_is_summed_where_it_stands() {
         ("B 6 1", 6, 1),
         ("K 0 1 0 0 0", 7, 1),
         ("K 7 1 0 0 0", 35, 1),
+        ("K 7 3 0 0 0", 35, 3),
         ("M 15 18446744073709551615", 40 + 15, u64::MAX),
         ("N 15 18446744073709551615", 57 + 15, u64::MAX),
         ("Q 0 65535", 74, 65_535),
@@ -132,6 +133,39 @@ fn each_field_is_summed_where_it_stands() {
     let update = [(7 + 12, 2), (8 + 12, 1), (9 + 12, 65_535), (10 + 12, u64::MAX)];
     assert_eq!(sum("F 1 1\nK 3 2 1 65535 18446744073709551615"), small_board_with(&update));
     assert_eq!(sum("F 1 1\nK 3 2 1 65535 9\nK 3 0 0 0 0"), sum("F 1 1"));
+}
+
+#[test]
+fn going_away_and_coming_back() {
+    let script = "F 2 2\nb 0\na 0\na 0\nU 0 3 7\nP 0 7\nA 0\nS\na 1\nC\nS\nb 1\nS\nS\nb 1\nb 1\na 2\nb 2\nX\na 0\nb 0";
+    let expected = "F 0,b 8,a 0,a 8,U 8,P 8,A 8,S 10,a 0,C 0,S 0,b 13,S 0,S 0,b 0,b 8,a 6,b 6,X 0,a 2,b 2";
+    assert_eq!(fault(script).join(",").replace(" -", ""), expected);
+    assert_eq!(sum("F 1 1\na 0"), small_board_with(&[(7, 3)]));
+    assert_eq!(sum("F 1 1\na 0"), sum("F 1 1\nK 0 3 0 0 0"));
+    assert_eq!(sum("F 1 1\na 0\nb 0"), sum("F 1 1"));
+    for (line, number_of_cause) in [("B 0 2", "2"), ("B 1 0", "3"), ("W 16 16 1", "4"), ("B 2 0", "3")] {
+        assert_eq!(number(&format!("F 1 1\n{line}\na 0")), number_of_cause, "{line}");
+        assert_eq!(number(&format!("F 1 1\na 0\nB 6 1\nB 4 1\n{line}\nb 0")), number_of_cause, "{line}");
+    }
+    for worker in ["1", "8", "256", "65536", "18446744073709551615"] {
+        assert_eq!(number(&format!("F 1 1\na {worker}")), "6");
+        assert_eq!(number(&format!("F 1 1\nb {worker}")), "6");
+    }
+    assert_eq!([number("a 0"), number("b 0")], ["2", "2"]);
+}
+
+#[test]
+fn a_worker_put_away() {
+    assert_eq!(fault("F 1 1\nK 0 3 0 0 0\nb 0")[1..], ["K 0 -", "b 0 -"]);
+    assert_eq!(number("F 1 1\nK 0 3 0 0 0\nB 4 65535\nb 0"), "0");
+    assert_eq!(number("F 1 1\nK 0 3 0 0 0\nB 6 1\nb 0"), "0");
+    assert_eq!(number("F 1 1\nK 0 3 0 0 0\nB 6 1\nB 4 2\nb 0"), "13");
+    assert_eq!(number("F 1 1\nK 0 3 0 0 0\nB 6 1\nB 4 3\nb 0"), "3");
+    let released = "F 1 1\nK 0 3 0 0 0\nK 7 3 0 0 0\nK 6 1 0 0 0\nC\nS\nS\nS";
+    assert_eq!(sum(released), small_board_with(&[(0, 3), (7, 3), (35, 3), (40, 2), (57, 2)]));
+    let recovered = format!("{released}\nK 7 3 0 0 0\nX\nR\nS\nS");
+    assert_eq!(sum(&recovered), small_board_with(&[(40, 2), (57, 2)]));
+    assert_eq!(sum("F 1 1\nK 7 3 0 0 0\nB 0 2\nB 4 1\nS"), sum("F 1 1"));
 }
 
 #[test]
@@ -177,7 +211,7 @@ fn rows_keep_the_words_that_stay() {
 fn a_number_that_cannot_be_put_there_does_nothing() {
     let lines = "W 4105 0 0,W 0 4105 0,W 0 0 1101,W 18446744073709551615 0 0,M 16 1,N 16 1,Q 2 1,Q 0 65536,\
         M 18446744073709551615 1,N 4294967296 1,Q 65536 1,B 0 4,B 1 65536,B 2 256,B 3 65536,B 4 65536,B 5 3,B 6 2,\
-        B 7 0,B 18446744073709551615 0,K 8 0 0 0 0,K 256 0 0 0 0,K 0 3 0 0 0,K 0 2 3 0 0,K 0 2 0 65536 0,K 0 0 1 0 0,\
+        B 7 0,B 18446744073709551615 0,K 8 0 0 0 0,K 256 0 0 0 0,K 0 4 0 0 0,K 0 3 1 0 0,K 0 3 0 1 0,K 0 3 0 0 1,K 0 2 3 0 0,K 0 2 0 65536 0,K 0 0 1 0 0,\
         K 0 0 0 1 0,K 0 0 0 0 1,K 0 1 1 0 0,K 0 1 0 1 0,K 0 1 0 0 1,M 0 18446744073709551616,Q 2 65536,W 16 16 1101";
     for line in lines.split(',').map(str::trim) {
         let answers = fault(&format!("F 1 1\n{line}\nT"));
@@ -190,7 +224,7 @@ fn a_number_that_cannot_be_put_there_does_nothing() {
 fn lines_of_another_form_do_nothing() {
     let lines =
         "f 1,f 1 1 1,W 16 16,W 16 16 2 0,M 0,M 0 0 0,N 0,N 0 0 0,Q 0,Q 0 0 0,B 0,B 0 0 0,K 0 0 0 0,K 0 0 0 0 0 0,\
-        K 0 0,T 0,p,p 0 0,p 204 ,p +204,P,a 0,b 0,n,H 0 0,V 0 0,O 0 0,u 0 1 7,w 16 16 2,m 0 0,q 0 0,k 0 0 0 0 0,t,TT,M +1 0,M 0x1 0,\
+        K 0 0,T 0,p,p 0 0,p 204 ,p +204,P,a,b,a 0 0,b 0 0,n,H 0 0,V 0 0,O 0 0,u 0 1 7,w 16 16 2,m 0 0,q 0 0,k 0 0 0 0 0,t,TT,M +1 0,M 0x1 0,\
         B 0 3 ,K  0 0 0 0";
     for line in lines.split(',').map(|line| line.trim_start_matches("        ")) {
         let answers = fault(&format!("F 1 1\n{line}\nT"));

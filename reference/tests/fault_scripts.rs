@@ -12,7 +12,7 @@ use reference::fault::{Command, Fault};
 use reference::fault_script::script;
 use reference::mistake::{Mistake, MISTAKES};
 use reference::program::{answer, Program};
-use reference::reached::{orders, reached, CAUSES};
+use reference::reached::{orders, reached, CASES, CAUSES};
 use reference::say::{call_line, damage_line, drill_line};
 use reference::text::{fields, UNREAD};
 
@@ -45,20 +45,20 @@ fn two_hundred_scripts_reach_every_cause_of_every_call_and_every_kind_of_questio
 }
 
 /// Each part of a cause, and the calls whose answer can hang on it alone.
-const PARTS: [(&str, &[u8]); 32] = [
+const PARTS: [(&str, &[u8]); 34] = [
     ("a format's L or W", b"f"),
-    ("phase", b"SUPACEGp"),
+    ("phase", b"SUPACEGpab"),
     ("a full list", b"A"),
-    ("a worker's cell", b"SUPACEGp"),
-    ("place in a checkpoint", b"SUPACEGp"),
+    ("a worker's cell", b"SUPACEGpab"),
+    ("place in a checkpoint", b"SUPACEGpab"),
     ("place in a recovery", b"SE"),
     ("place in a format", b"S"),
-    ("record's list length", b"SUPACEGp"),
-    ("record's L or W", b"SUPACEGp"),
+    ("record's list length", b"SUPACEGpab"),
+    ("record's L or W", b"SUPACEGpab"),
     ("list entry used", b"S"),
-    ("list's length", b"fSUPACEGp"),
-    ("cache's length", b"fSUPACEGp"),
-    ("memory's length", b"fSUPACEGp"),
+    ("list's length", b"fSUPACEGpab"),
+    ("cache's length", b"fSUPACEGpab"),
+    ("memory's length", b"fSUPACEGpab"),
     ("list's length at recovery", b"R"),
     ("cache's length at recovery", b"R"),
     ("memory's length at recovery", b"R"),
@@ -66,12 +66,14 @@ const PARTS: [(&str, &[u8]); 32] = [
     ("header's W", b"R"),
     ("header's L", b"R"),
     ("header's epoch", b"R"),
-    ("worker W or more", b"UPA"),
+    ("worker W or more", b"UPAab"),
     ("line over L", b"E"),
     ("cell 2L or more", b"UG"),
     ("cell under W", b"U"),
     ("worker without update", b"A"),
-    ("worker not free", b"UP"),
+    ("worker not free", b"UPa"),
+    ("worker not away", b"b"),
+    ("a checkpoint under way", b"b"),
     ("another's update of the cell", b"UP"),
     ("a worker not waiting", b"S"),
     ("no request", b"S"),
@@ -85,7 +87,7 @@ fn two_hundred_scripts_reach_every_part_of_every_cause_by_itself() {
     let reached = reached(200, 400);
     assert!(parts().all(|(_, part)| PARTS.iter().any(|(known, _)| *known == part)));
     for (part, letters) in PARTS {
-        for letter in *b"fRSUPACEGp" {
+        for letter in *b"fRSUPACEGpab" {
             let count = reached.part(part, letter);
             assert_eq!(count > 0, letters.contains(&letter), "{part}, {}: {count}", letter as char);
         }
@@ -99,6 +101,16 @@ fn two_hundred_scripts_show_the_order_of_every_two_causes() {
         let count = reached.order(letter, first, other);
         assert!(count > 0, "{}: {first} over {other}", letter as char);
     }
+}
+
+#[test]
+fn two_hundred_scripts_have_every_case_of_a_worker_that_is_away() {
+    let reached = reached(200, 400);
+    for ((words, _), count) in CASES.iter().zip(reached.cases) {
+        assert!(count >= 20, "{words}: {count}");
+    }
+    let [put, unused] = reached.put_away;
+    assert!(put >= 500 && unused >= 20, "K makes {put} workers away, and would {unused} more but for a number");
 }
 
 #[test]

@@ -25,6 +25,7 @@ fn calls() -> Vec<Call> {
     for a in numbers {
         calls.extend([Call::Advance { worker: a }, Call::WriteBack { line: a }, Call::Read { cell: a }]);
         calls.push(Call::RestartPoint { worker: a, value: 5 });
+        calls.extend([Call::GoAway { worker: a }, Call::ComeBack { worker: a }]);
         for b in [0, 1, 3, 255, 65_535, u64::MAX] {
             calls.push(Call::Format { lines: a, workers: b });
             calls.push(Call::Update { worker: b, cell: a, value: 5 });
@@ -54,6 +55,7 @@ fn sound_boards() -> Vec<Board> {
         "F 4 8\nf 4 8\nS\nS",
         "F 2 2\nM 10 1\nM 13 1\nR\nS",
         "F 511 8",
+        "F 2 3\nU 0 3 7\nA 0\nA 0\nA 0\na 0\na 2\nC\nP 1 4\nA 1\nA 1\nA 1\nS",
     ];
     scripts.map(board).into()
 }
@@ -66,7 +68,7 @@ fn damages() -> Vec<Damage> {
         damages.extend(numbers.map(|number| Damage::Field { k, number }));
     }
     for worker in [0, 1, 7] {
-        damages.push(Damage::Worker { worker, numbers: [1, 0, 0, 0] });
+        damages.extend([1, 3].map(|condition| Damage::Worker { worker, numbers: [condition, 0, 0, 0] }));
         for (next, cell) in [(0, 0), (1, 1), (2, 3), (0, 1022), (1, 65_535), (2, 65_535), (1, 2)] {
             damages.push(Damage::Worker { worker, numbers: [2, next, cell, u64::MAX] });
         }
@@ -112,11 +114,15 @@ fn two_places_damaged() {
         Call::WriteBack { line: 2 },
         Call::Read { cell: 3 },
         Call::Page { room: 340 },
+        Call::GoAway { worker: 0 },
+        Call::ComeBack { worker: 0 },
+        Call::ComeBack { worker: 7 },
         Call::Recovery,
         Call::Format { lines: 2, workers: 3 },
     ];
     let damages = damages();
-    for sound in &sound_boards()[1..4] {
+    let boards = sound_boards();
+    for sound in boards[1..4].iter().chain(&boards[7..]) {
         for first in &damages {
             let mut once = sound.clone();
             let _ = first.apply(&mut once);

@@ -1,4 +1,5 @@
-//! Every mistake, every useless board of 01 and every mistaken page is caught, and by the statement that names it alone.
+//! Every mistake, every useless board of 01 and every mistake with a ticket is caught, and by the statement that names it
+//! alone.
 #![deny(warnings)]
 
 use std::process::Command;
@@ -9,7 +10,7 @@ use reference::explore::{exhaustive, explore, Options};
 use reference::mistake::{Mistake, MISTAKES};
 
 /// Each mistake with the checks that must each catch it when made alone.
-const CATCHERS: [(Mistake, &[Check]); 21] = [
+const CATCHERS: [(Mistake, &[Check]); 32] = [
     (Mistake::MarkFirst, &[Outcome, Recovery, TwoBoards, Invariant]),
     (Mistake::RecoveryMarkFirst, &[Outcome, Recovery, TwoBoards, Invariant]),
     (Mistake::RecoveryCacheOnly, &[Outcome, Recovery, TwoBoards, Invariant]),
@@ -31,6 +32,17 @@ const CATCHERS: [(Mistake, &[Check]); 21] = [
     (Mistake::PagePastEnd, &[Page]),
     (Mistake::PageRefusedWrites, &[Page]),
     (Mistake::PageLastCellMissing, &[Page]),
+    (Mistake::NoCause13, &[Causes, Reads, Recovery, Completion, TwoBoards, Progress, Invariant, Away]),
+    (Mistake::Cause13Unrequested, &[Causes]),
+    (Mistake::Cause13AtRequest, &[Causes]),
+    (Mistake::Cause13First, &[Causes]),
+    (Mistake::ReleaseFreesAway, &[Outcome, Away]),
+    (Mistake::AwayNotWaiting, &[Causes, Progress]),
+    (Mistake::AwayUpdates, &[Causes, Reads, Recovery, Completion, TwoBoards, Progress, Invariant, Away]),
+    (Mistake::BackWaits, &[Outcome, Invariant, Away]),
+    (Mistake::RecoveryLeavesAway, &[Outcome, Away]),
+    (Mistake::WaitingComesBack, &[Causes, Away]),
+    (Mistake::WaitingGoesAway, &[Causes, Away]),
 ];
 
 /// The check that so many calls on a mistaken board violate.
@@ -61,8 +73,10 @@ fn every_mistake_is_caught() {
     }
 }
 
-/// Mistakes that the smallest board cannot show: cause 9 needs two workers, and 12 before 4 rows that do not fit.
-const HIDDEN: [Mistake; 2] = [Mistake::NoCause9, Mistake::PageTextFirst];
+/// Mistakes that the smallest board cannot show: cause 9 needs two workers, 12 before 4 rows that do not fit, a place
+/// past 0 without a request and a worker away in a recovery a record that no call makes.
+const HIDDEN: [Mistake; 4] =
+    [Mistake::NoCause9, Mistake::PageTextFirst, Mistake::Cause13Unrequested, Mistake::RecoveryLeavesAway];
 
 #[test]
 fn the_smallest_board_shows_every_other_mistake() {
@@ -73,11 +87,21 @@ fn the_smallest_board_shows_every_other_mistake() {
 }
 
 #[test]
-fn a_mistaken_page_breaks_no_other_statement() {
-    for (mistake, checks) in CATCHERS.iter().filter(|(_, checks)| checks.contains(&Page)) {
+fn a_mistake_with_a_ticket_breaks_no_other_statement() {
+    let tickets = CATCHERS.iter().skip_while(|(mistake, _)| *mistake != Mistake::PageFallingCells);
+    for (mistake, checks) in tickets {
         for (_, check, _) in CHECKS.iter().filter(|(_, check, _)| !checks.contains(check)) {
             assert_eq!(violated_within(20_000, *mistake, Some(*check)), None, "{mistake:?} {check:?}");
         }
+    }
+}
+
+#[test]
+fn without_cause_13_the_smallest_board_reads_a_wrong_value() {
+    for check in [Reads, Recovery] {
+        let caught = exhaustive::exhaust(Some(Mistake::NoCause13), Some(check)).expect_err("a wrong value is read");
+        assert_eq!(caught.violation.check, check);
+        assert!(caught.trace.iter().any(|event| event == "ComeBack { worker: 0 }"), "{:?}", caught.trace);
     }
 }
 

@@ -17,10 +17,10 @@ use Rattle.board.specs.declared.UndoStep.the-variants.{Restore, Unmark, 
 use Rattle.board.specs.declared.Phase.{Phase}
 use Rattle.board.specs.declared.Phase.the-variants.{Off, Formatting, Recovering, Running}
 use Rattle.board.specs.Board.{Board, cells, listWords, linesOutside, workersOutside, epochOf, linesOf, workersOf, restNotZero, lastEpoch}
-use Rattle.board.specs.State.{allFree, conditionOf}
+use Rattle.board.specs.State.{allFree, conditionOf, quiescent}
 use Rattle.board.specs.Machine.{Unfinished, none, update, Machine, markedCount}
 use Rattle.board.specs.Sequence.{Run}
-use Rattle.board.specs.Statements.{AllQuiescent, Spare}
+use Rattle.board.specs.Statements.{Spare}
 use Rattle.board.proofs.Laws.View.{View, view, Sized}
 
 -- ---- rows
@@ -200,6 +200,10 @@ Touches (Updating next c v) d = c ≡ d
 -- The steps that a requested checkpoint has taken.
 abbrev pub progress : State → ℕ
 progress s = cond (s .requested) (s .place) 0
+
+-- Every worker under W waits or is away.
+abbrev pub AllQuiescent : State → Type 0
+AllQuiescent s = (w : ℕ) → w < s .workers → quiescent (conditionOf s w) ≡ true
 
 -- Memory and cache have the same record of every cell.
 abbrev pub SameRecords : ℕ → Board → Type 0

@@ -8,3 +8,4 @@ pub mod Workers
 pub mod Idle
 pub mod Takes
 pub mod Reading
+pub mod Playing

@@ -13,3 +13,4 @@ pub mod Updates
 pub mod Steps
 pub mod Theorems
 pub mod Example
+pub mod AwayExample

@@ -9,11 +9,11 @@ use lib.ListN.{getD, set}
 use Rattle.line.specs.Line.{lineStart}
 use Rattle.board.specs.declared.State.{State}
 use Rattle.board.specs.declared.Call.{Call}
-use Rattle.board.specs.declared.Condition.the-variants.{Away, Free}
+use Rattle.board.specs.declared.Condition.the-variants.{Free, Waiting, Away}
 use Rattle.board.specs.declared.Call.the-variants.{FormatStart, RecoveryStart, Step, Update, RestartPoint, Advance, Read, GoAway, ComeBack}
 use Rattle.board.specs.declared.Phase.{Phase}
 use Rattle.board.specs.Board.{Board, cells, epochOf, linesOf, workersOf}
-use Rattle.board.specs.State.{conditionOf, isFree, isWaiting, quiescent, isFormatting, isRunning}
+use Rattle.board.specs.State.{conditionOf, isFree, isWaiting, isFormatting, isRunning}
 use Rattle.board.specs.Effects.{writtenBack}
 use Rattle.board.specs.Next.{Taken, next, Kind, startsFormat, startsRecovery, stepping, writing, other, reading, kind, isStep, Performed}
 use Rattle.board.specs.Machine.{Machine, formatSteps}
@@ -160,14 +160,14 @@ abbrev pub RecoveryEnds : Type 0
 RecoveryEnds = (b : Board) → Taken RecoveryStart b → EndsIn (recoverySteps (b .memory)) (next RecoveryStart b)
 
 -- Every worker under W waits or is away.
-abbrev pub AllQuiescent : State → Type 0
-AllQuiescent s = (w : ℕ) → w < s .workers → quiescent (conditionOf s w) ≡ true
+abbrev pub AllWaitOrAway : State → Type 0
+AllWaitOrAway s = (w : ℕ) → w < s .workers → (conditionOf s w ≡ Waiting) ⊎ (conditionOf s w ≡ Away)
 
 -- "With n entries that is n+3 steps": a requested checkpoint ends once all workers under W wait or are away.
 abbrev pub CheckpointEnds : Type 0
 CheckpointEnds =
     (r : Run) → History r → r .crashed ≡ false → isRunning (r .board .state .phase) ≡ true → r .board .state .requested ≡ true → r .board .state .place ≡ 0 →
-    AllQuiescent (r .board .state) → EndsIn (r .board .state .listed + 3) (r .board)
+    AllWaitOrAway (r .board .state) → EndsIn (r .board .state .listed + 3) (r .board)
 
 -- Of the eight workers those that were away are away, and the others are free.
 abbrev pub KeepsAway : State → State → Type 0
@@ -178,7 +178,7 @@ KeepsAway s s′ = (w : ℕ) → w < 8 → (conditionOf s w ≡ Away → conditi
 abbrev pub AwayHoldsUpNone : Type 0
 AwayHoldsUpNone =
     (r : Run) → History r → r .crashed ≡ false → isRunning (r .board .state .phase) ≡ true → r .board .state .requested ≡ true →
-    AllQuiescent (r .board .state) →
+    AllWaitOrAway (r .board .state) →
     (left : ℕ) → r .board .state .place + left ≡ r .board .state .listed + 3 → EndsIn left (r .board) × KeepsAway (r .board .state) (stepsFrom left (r .board) .state)
 
 -- 02, ticket 2: a running board lets worker `w` go away exactly where it is free, and come back exactly where it is away and no step of a requested checkpoint was taken; nothing else turns them down.

@@ -60,6 +60,12 @@ pub fn perform(
         Call::WriteBack { line } => unread(crate::write_back(state, memory, cache, entries, line)),
         Call::Read { cell } => crate::read(state, memory, cache, entries, cell),
         Call::GoAway { worker } => unread(crate::go_away(state, memory, cache, entries, worker)),
-        Call::ComeBack { worker } => unread(crate::come_back(state, memory, cache, entries, worker)),
+        Call::ComeBack { worker } => unread(crate::come_back(
+            state,
+            memory,
+            cache,
+            entries,
+            worker,
+        )),
     }
 }

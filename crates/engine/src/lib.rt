@@ -259,13 +259,7 @@ pub fn read(state: State, memory: &[u64], cache: &[u64], entries: &[u16], cell: 
 }
 
 // "A free worker may go away".
-pub fn go_away(
-    state: State,
-    memory: &[u64],
-    cache: &[u64],
-    entries: &[u16],
-    worker: u64,
-) -> Answer
+pub fn go_away(state: State, memory: &[u64], cache: &[u64], entries: &[u16], worker: u64) -> Answer
     ensures performed { λ r. ⌜ Performed (Call.GoAway worker)
         (lent state (now (memory .entry)) (now (cache .entry)) (now (entries .entry)))
         (r .number) 0

@@ -16,12 +16,16 @@ pub enum Round {
     Fill,
     /// a request, then a restart point of each worker, after which it waits
     Wait,
+    /// a request, then a restart point of worker 0, after which it waits; all others go away
+    Leave,
     /// an update of an unmarked cell: a start and three advances; the host then takes the mark and the entry back
     Update,
     /// an update of a marked cell: a start and one advance
     Again,
     /// a checkpoint's n + 3 steps; the host then puts the state record back
     Checkpoint,
+    /// the same with one restart cell listed, all workers but one being away: n - W + 4 steps
+    CheckpointAway,
     /// a recovery's start and its 2L steps, with no cell to undo
     Recovery,
     /// a write-back of the line of a random cell
@@ -44,6 +48,7 @@ impl Workload {
             "update" => Workload::Rounds(Round::Update),
             "again" => Workload::Rounds(Round::Again),
             "checkpoint" => Workload::Rounds(Round::Checkpoint),
+            "checkpoint-away" => Workload::Rounds(Round::CheckpointAway),
             "recovery" => Workload::Rounds(Round::Recovery),
             "write-back" => Workload::Rounds(Round::WriteBack),
             "page-equal" => Workload::Pages(Marks::Equal),
@@ -91,9 +96,11 @@ fn calls_in(round: Round, plan: Plan) -> u64 {
         Round::Format => 1 + plan.lines + 2,
         Round::Fill => 4 * (plan.n - plan.workers),
         Round::Wait => 1 + 4 * plan.workers,
+        Round::Leave => 4 + plan.workers,
         Round::Update => 4,
         Round::Again => 2,
         Round::Checkpoint => plan.n + 3,
+        Round::CheckpointAway => plan.n - plan.workers + 4,
         Round::Recovery => 1 + cells(plan.lines),
         Round::WriteBack => 1,
         Round::Reads => cells(plan.lines),
@@ -122,6 +129,15 @@ fn wait_call(k: u64) -> Call {
     }
 }
 
+/// Call number `k` of a leave: a wait's calls of worker 0, and then each other goes away.
+fn leave_call(k: u64) -> Call {
+    if k < 5 {
+        wait_call(k)
+    } else {
+        Call::GoAway { worker: k - 4 }
+    }
+}
+
 /// A start before the first step, and then steps.
 fn step_call(k: u64, start: Call) -> Call {
     if k == 0 {
@@ -137,8 +153,9 @@ fn call_at(round: Round, plan: Plan, k: u64, drawn: Drawn) -> Call {
         Round::Format => step_call(k, Call::Format { lines: plan.lines, workers: plan.workers }),
         Round::Fill => update_call(plan.worker, k % 4, plan.workers + k / 4, plan.workers + k / 4),
         Round::Wait => wait_call(k),
+        Round::Leave => leave_call(k),
         Round::Update | Round::Again => update_call(plan.worker, k, drawn.cell, drawn.random),
-        Round::Checkpoint => Call::Step,
+        Round::Checkpoint | Round::CheckpointAway => Call::Step,
         Round::Recovery => step_call(k, Call::Recovery),
         Round::WriteBack => Call::WriteBack { line: line_of(drawn.cell as usize) as u64 },
         Round::Reads => Call::Read { cell: k },
@@ -189,7 +206,7 @@ fn play(round: Round, plan: Plan, rounds: u64, board: &mut Board) -> u64 {
                     board.cache[mark_at(drawn.cell as usize)] = 0;
                     board.state.list_length = 0;
                 }
-                Round::Checkpoint => board.state = from,
+                Round::Checkpoint | Round::CheckpointAway => board.state = from,
                 _ => {}
             }
             drawn = draw(plan, drawn.random);
@@ -208,6 +225,10 @@ fn prepare(round: Round, plan: Plan, board: &mut Board) {
         Round::Checkpoint => {
             play(Round::Fill, plan, 1, board);
             play(Round::Wait, plan, 1, board);
+        }
+        Round::CheckpointAway => {
+            play(Round::Fill, plan, 1, board);
+            play(Round::Leave, plan, 1, board);
         }
         _ => {}
     }

@@ -23,10 +23,12 @@ pub enum Check {
     Invariant,
     /// Ticket 1: a page's number, and each byte of its text row.
     Page,
+    /// Ticket 2: who is away after a call, and after a checkpoint.
+    Away,
 }
 
 /// Every check with its name and a few words.
-pub const CHECKS: [(&str, Check, &str); 10] = [
+pub const CHECKS: [(&str, Check, &str); 11] = [
     ("causes", Check::Causes, "the table of causes; a refused call leaves all as it was"),
     ("outcome", Check::Outcome, "the complete outcome of a taken call"),
     ("reads", Check::Reads, "a taken read gives the machine's current value"),
@@ -37,6 +39,7 @@ pub const CHECKS: [(&str, Check, &str); 10] = [
     ("stores", Check::Stores, "one store or one write-back a call"),
     ("invariant", Check::Invariant, "the design page's invariant"),
     ("page", Check::Page, "a page's number and each byte of its text row"),
+    ("away", Check::Away, "who is away after a call, and after a checkpoint"),
 ];
 
 impl Check {

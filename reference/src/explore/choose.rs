@@ -5,7 +5,7 @@ use super::watched::Watched;
 use crate::board::Phase;
 use crate::call::Call;
 use crate::random::Random;
-use crate::work::{good_call, some_workers};
+use crate::work::{good_call_with_away, some_workers, Leave};
 
 /// How often a sequence is disturbed, in a thousand events.
 pub struct Temper {
@@ -14,6 +14,7 @@ pub struct Temper {
     junk: u64,
     write_back: u64,
     request: u64,
+    leave: Leave,
     small_values: bool,
 }
 
@@ -35,6 +36,7 @@ impl Temper {
             junk: random.pick(&[5, 50, 150]),
             write_back: random.pick(&[0, 50, 200]),
             request: random.pick(&[20, 100, 300]),
+            leave: Leave { away: random.pick(&[0, 20, 100, 300]), back: random.pick(&[10, 60, 200]) },
             small_values: random.chance(1, 4),
         }
     }
@@ -75,7 +77,9 @@ impl Temper {
             };
         }
         Choice::Call(match watched.board.state.phase {
-            Phase::Running => good_call(random, &watched.board.state, self.request, self.value(random)),
+            Phase::Running => {
+                good_call_with_away(random, &watched.board.state, self.request, self.leave, self.value(random))
+            }
             _ => Call::Step,
         })
     }

@@ -15,7 +15,7 @@ use crate::mistake::Mistake;
 const LAST_EPOCH: u64 = 3;
 
 /// Every call of the smallest board with two values, refused ones too.
-const CALLS: [Call; 18] = [
+const CALLS: [Call; 20] = [
     Call::Format { lines: 1, workers: 1 },
     Call::Recovery,
     Call::Step,
@@ -34,6 +34,8 @@ const CALLS: [Call; 18] = [
     Call::Page { room: 203 },
     Call::Page { room: 204 },
     Call::Page { room: 205 },
+    Call::GoAway { worker: 0 },
+    Call::ComeBack { worker: 0 },
 ];
 
 /// How much was seen.

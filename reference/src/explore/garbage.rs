@@ -79,18 +79,20 @@ fn state(random: &Random, lines: u64, workers: u64) -> State {
         Phase::Recovering => random.below(cells),
         _ => random.pick(&[random.below(state.list_length as u64 + 3), state.list_length as u64]),
     } as u16;
-    let waiting = random.chance(1, 3);
+    let still = random.chance(1, 3);
+    let waiting = [Condition::Waiting, random.pick(&[Condition::Waiting, Condition::Away]), Condition::Away];
     for slot in &mut state.worker {
-        *slot = if waiting { Condition::Waiting } else { condition(random, cells) };
+        *slot = if still { random.pick(&waiting) } else { condition(random, cells) };
     }
     state
 }
 
 /// Some condition of a worker.
 fn condition(random: &Random, cells: u64) -> Condition {
-    match random.below(4) {
+    match random.below(5) {
         0 => Condition::Waiting,
         1 => Condition::Free,
+        2 => Condition::Away,
         _ => Condition::Updating(Update {
             cell: random.below(cells) as u16,
             value: word(random),
@@ -172,7 +174,7 @@ fn spoil_words(random: &Random, board: &mut Board) {
 pub fn call(random: &Random, state: &State) -> Call {
     let (lines, workers) = (state.lines as u64, state.workers as u64);
     let worker = about(random, workers);
-    match random.below(10) {
+    match random.below(12) {
         0 => Call::Format {
             lines: random.pick(&[lines, lines, about(random, lines), about(random, 511)]),
             workers: about(random, 8),
@@ -185,6 +187,8 @@ pub fn call(random: &Random, state: &State) -> Call {
         6 => Call::Request,
         7 => Call::WriteBack { line: about(random, lines) },
         8 => Call::Read { cell: about(random, 2 * lines) },
+        9 => Call::GoAway { worker },
+        10 => Call::ComeBack { worker },
         _ => Call::Page { room: room(random, lines) },
     }
 }

@@ -186,7 +186,7 @@ fn workers(board: &Board, machine: &Machine) -> Finding {
         let twice = active[..worker].iter().filter_map(unfinished).any(|other| other.cell == update.cell as u64);
         ensure(!twice, || format!("worker {worker}'s cell is being updated twice"))?;
     }
-    let waiting = active.iter().all(|condition| *condition == Condition::Waiting);
+    let waiting = active.iter().all(|condition| matches!(condition, Condition::Waiting | Condition::Away));
     ensure(board.state.place == 0 || waiting, || "a checkpoint under way and a worker not waiting".into())?;
     let requested = board.state.requested;
     ensure(requested || !active.contains(&Condition::Waiting), || "a worker waits for no request".into())

@@ -60,6 +60,7 @@ pub fn encode(watched: &Watched) -> Key {
     out.put(watched.cut as u64 + 2 * promise.broken_format as u64);
     out.put(promise.format_left);
     out.put(promise.checkpoint_left);
+    out.put((promise.checkpoint_left > 0 && promise.away[0]) as u64);
     out.put(promise.recovery_left);
     if promise.recovery_left > 0 {
         promise.recovery_values.iter().for_each(|value| out.put(*value));
@@ -78,6 +79,7 @@ fn encode_state(state: &State, out: &mut Writer) {
         Condition::Free => (0, 0, 0, 0),
         Condition::Waiting => (1, 0, 0, 0),
         Condition::Updating(update) => (2, update.cell as u64, update.value, code(&STORES, &update.next)),
+        Condition::Away => (3, 0, 0, 0),
     };
     [tag, cell, value, next].into_iter().for_each(|number| out.put(number));
 }
@@ -112,6 +114,7 @@ pub fn decode(key: &Key, watched: &mut Watched) {
     promise.broken_format = flags & 2 == 2;
     promise.format_left = input.get();
     promise.checkpoint_left = input.get();
+    promise.away[0] = input.get() == 1;
     promise.recovery_left = input.get();
     promise.recovery_values.clear();
     if promise.recovery_left > 0 {
@@ -132,6 +135,7 @@ fn decode_state(input: &mut Reader) -> State {
     state.worker[0] = match tag {
         0 => Condition::Free,
         1 => Condition::Waiting,
+        3 => Condition::Away,
         _ => Condition::Updating(Update { cell, value, next }),
     };
     state

@@ -1,5 +1,6 @@
 //! `explore`: random sequences of calls and cuts, the board beside the simple machine, every statement checked.
 
+mod away;
 pub mod check;
 mod choose;
 pub mod exhaustive;
@@ -154,7 +155,7 @@ impl Explorer {
         self.tally.answer(call, done.answer.number);
         match done.finished {
             Some(Finished::Format) => self.tally.formats += 1,
-            Some(Finished::Checkpoint) => self.tally.checkpoints += 1,
+            Some(Finished::Checkpoint) => self.tally.checkpoint(&watched.board.state),
             Some(Finished::Recovery) => {
                 self.tally.recoveries += 1;
                 self.compare(watched)?;

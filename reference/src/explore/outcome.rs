@@ -55,7 +55,7 @@ impl Told<'_> {
             || (self.step_in(Phase::Recovering) && state.place == 2 * state.lines - 1 && self.leaves_cell())
     }
 
-    /// "release, with all eight workers free, list empty, request gone"
+    /// "release, with all eight workers free, list empty, request gone", but by ticket 2 "Release leaves it away"
     fn releases(&self) -> bool {
         let state = &self.board.state;
         self.step_in(Phase::Running) && state.place == state.list_length + 2
@@ -195,10 +195,13 @@ impl Told<'_> {
     /// One worker's condition.
     fn condition(&self, index: usize) -> Condition {
         let old = &self.board.state;
-        if self.call.is_start() || self.releases() || self.begins_running() {
+        if self.call.is_start() || self.begins_running() {
             return Condition::Free;
         }
         match self.call {
+            Call::Step if self.releases() && old.worker[index] != Condition::Away => Condition::Free,
+            Call::GoAway { worker } if worker as usize == index => Condition::Away,
+            Call::ComeBack { worker } if worker as usize == index => Condition::Free,
             Call::Update { worker, cell, value } if worker as usize == index => self.begun(cell, value),
             Call::RestartPoint { worker, value } if worker as usize == index => self.begun(worker, value),
             Call::Advance { worker } if worker as usize == index => {

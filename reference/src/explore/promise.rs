@@ -1,5 +1,6 @@
 //! Statement 5: how many steps a format, a recovery or a checkpoint still owes.
 
+use super::away::{away, Away};
 use super::check::{ensure, Finding};
 use crate::board::{Board, Condition, Phase};
 use crate::call::Call;
@@ -22,6 +23,8 @@ pub struct Promise {
     /// The checkpointed values at the taken start of the recovery under way.
     pub recovery_values: Vec<u64>,
     pub checkpoint_left: u64,
+    /// Who was away before the first step of the last checkpoint.
+    pub away: Away,
     /// "a format's first step was taken and the format not finished"
     pub broken_format: bool,
 }
@@ -43,7 +46,8 @@ impl Promise {
 
     /// A step that this board must take.
     pub fn owes_step(&self, board: &Board) -> bool {
-        let waiting = board.state.active_workers().iter().all(|condition| *condition == Condition::Waiting);
+        let waits = |condition: &Condition| matches!(condition, Condition::Waiting | Condition::Away);
+        let waiting = board.state.active_workers().iter().all(waits);
         let checkpoint = board.state.phase == Phase::Running && board.state.requested && waiting;
         self.format_left > 0 || self.recovery_left > 0 || checkpoint
     }
@@ -80,6 +84,7 @@ impl Promise {
         }
         if self.checkpoint_left == 0 {
             self.checkpoint_left = before.state.list_length as u64 + 3;
+            self.away = away(&before.state);
         }
         self.checkpoint_left -= 1;
         (self.checkpoint_left == 0).then_some(Finished::Checkpoint)

@@ -1,5 +1,5 @@
 //! The table "Why a call is turned down" with what 02 adds to it, a second time, as a list of causes and their numbers in
-//! no order: the answer is the smallest number whose cause holds. It shares no test with `causes`.
+//! no order: the answer is the first number of `ORDER` whose cause holds. It shares no test with `causes`.
 
 use crate::board::{Condition, Lent, Phase, State, Store, Update};
 use crate::call::Call;
@@ -14,8 +14,16 @@ struct Case<'a> {
 /// A part of a cause: the cause's number, a few words, and whether it holds.
 type Part = (u8, &'static str, fn(&Case) -> bool);
 
+/// The causes in the order in which they are tested: rising, and "after 8" for 13.
+pub const ORDER: [u8; 13] = [1, 2, 3, 4, 5, 6, 7, 8, 13, 9, 10, 11, 12];
+
+/// Where a cause stands in that order, from 1; 0 for none.
+pub fn rank(cause: u8) -> usize {
+    ORDER.iter().position(|known| *known == cause).map_or(0, |at| at + 1)
+}
+
 /// Every part of every cause.
-const TABLE: [Part; 32] = [
+const TABLE: [Part; 34] = [
     (12, "text row", |case| matches!(case.call, Call::Page { room } if (room as u128) < 68 * (case.two_l() + 1))),
     (11, "the last epoch", |case| {
         case.rows.cache.first() == Some(&u64::MAX) && (case.call == Call::Request || case.at_epoch_store())
@@ -23,14 +31,20 @@ const TABLE: [Part; 32] = [
     (10, "request while one stands", |case| case.call == Call::Request && case.state.requested),
     (10, "no request", |case| case.running_step() && !case.state.requested),
     (10, "a worker not waiting", |case| {
-        case.running_step() && case.under_w().any(|(_, condition)| *condition != Condition::Waiting)
+        case.running_step() && case.under_w().any(|(_, condition)| !case.waits(condition))
     }),
     (9, "another's update of the cell", |case| {
         case.begins().is_some_and(|(worker, cell)| case.updates().any(|(w, u)| w != worker && u.cell as u64 == cell))
     }),
-    (8, "worker not free", |case| {
-        case.begins().is_some_and(|(worker, _)| case.condition(worker) != Some(Condition::Free))
+    (13, "a checkpoint under way", |case| {
+        matches!(case.call, Call::ComeBack { .. }) && case.state.requested && case.state.place != 0
     }),
+    (8, "worker not free", |case| case.needed_free().is_some_and(|w| case.condition(w) != Some(Condition::Free))),
+    (
+        8,
+        "worker not away",
+        |case| matches!(case.call, Call::ComeBack { worker } if case.condition(worker) != Some(Condition::Away)),
+    ),
     (
         8,
         "worker without update",
@@ -84,15 +98,14 @@ const TABLE: [Part; 32] = [
 
 /// The answer that the table gives.
 pub fn answer(call: &Call, state: &State, rows: Lent) -> u8 {
-    let case = Case { call: *call, state, rows };
-    TABLE.iter().filter(|(.., holds)| holds(&case)).map(|(number, ..)| *number).min().unwrap_or(0)
+    causes(call, state, rows).first().copied().unwrap_or(0)
 }
 
-/// The numbers of all causes that hold, rising.
+/// The numbers of all causes that hold, in the order in which they are tested.
 pub fn causes(call: &Call, state: &State, rows: Lent) -> Vec<u8> {
     let case = Case { call: *call, state, rows };
     let mut numbers: Vec<u8> = TABLE.iter().filter(|(.., holds)| holds(&case)).map(|(number, ..)| *number).collect();
-    numbers.sort_unstable();
+    numbers.sort_unstable_by_key(|number| rank(*number));
     numbers.dedup();
     numbers
 }
@@ -158,6 +171,7 @@ impl Case<'_> {
     fn named_worker(&self) -> Option<u64> {
         match self.call {
             Call::Update { worker, .. } | Call::RestartPoint { worker, .. } | Call::Advance { worker } => Some(worker),
+            Call::GoAway { worker } | Call::ComeBack { worker } => Some(worker),
             _ => None,
         }
     }
@@ -169,6 +183,19 @@ impl Case<'_> {
             Call::RestartPoint { worker, .. } => Some((worker, worker)),
             _ => None,
         }
+    }
+
+    /// The worker that must be free for this call.
+    fn needed_free(&self) -> Option<u64> {
+        match self.call {
+            Call::GoAway { worker } => Some(worker),
+            _ => self.begins().map(|(worker, _)| worker),
+        }
+    }
+
+    /// "away counts as waiting"
+    fn waits(&self, condition: &Condition) -> bool {
+        [Condition::Waiting, Condition::Away].contains(condition)
     }
 
     /// "Write-back needs recovering or running. The step call needs a phase other than off. All else needs running."

@@ -2,7 +2,11 @@
 
 use std::fmt;
 
+use crate::board::{Condition, State};
 use crate::call::Call;
+
+/// How many answers there are: 0, and the causes 1 to 13.
+const ANSWERS: usize = 14;
 
 /// Counts of events.
 #[derive(Clone, PartialEq, Eq, Debug, Default)]
@@ -14,8 +18,13 @@ pub struct Tally {
     pub formats: u64,
     pub recoveries: u64,
     pub checkpoints: u64,
+    /// Those of them that some workers under W were away in, and all of them.
+    pub some_away: u64,
+    pub all_away: u64,
     pub pages: u64,
-    pub answers: [u64; 13],
+    pub answers: [u64; ANSWERS],
+    pub going_away: [u64; ANSWERS],
+    pub coming_back: [u64; ANSWERS],
 }
 
 impl Tally {
@@ -24,6 +33,20 @@ impl Tally {
         self.calls += 1;
         self.pages += (matches!(call, Call::Page { .. }) && number == 0) as u64;
         self.answers[number as usize] += 1;
+        match call {
+            Call::GoAway { .. } => self.going_away[number as usize] += 1,
+            Call::ComeBack { .. } => self.coming_back[number as usize] += 1,
+            _ => {}
+        }
+    }
+
+    /// Count a checkpoint that left this record.
+    pub fn checkpoint(&mut self, state: &State) {
+        let workers = state.active_workers();
+        let away = workers.iter().filter(|condition| **condition == Condition::Away).count();
+        self.checkpoints += 1;
+        self.some_away += (away > 0 && away < workers.len()) as u64;
+        self.all_away += (away == workers.len()) as u64;
     }
 }
 
@@ -36,10 +59,18 @@ impl fmt::Display for Tally {
         writeln!(out, "formats finished within sequences {}", self.formats)?;
         writeln!(out, "recoveries finished {}", self.recoveries)?;
         writeln!(out, "checkpoints released {}", self.checkpoints)?;
+        writeln!(out, "of them with some workers away {}, with all away {}", self.some_away, self.all_away)?;
         writeln!(out, "pages taken {}", self.pages)?;
         for (number, count) in self.answers.iter().enumerate() {
             writeln!(out, "answer {number}: {count}")?;
         }
-        Ok(())
+        writeln!(out, "going away: {}", met(&self.going_away))?;
+        writeln!(out, "coming back: {}", met(&self.coming_back))
     }
+}
+
+/// The answers that were met, each with its count.
+fn met(answers: &[u64; ANSWERS]) -> String {
+    let counts = answers.iter().enumerate().filter(|(_, count)| **count > 0);
+    counts.map(|(number, count)| format!("answer {number} {count}")).collect::<Vec<_>>().join(", ")
 }

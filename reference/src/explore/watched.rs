@@ -2,7 +2,7 @@
 
 use super::check::{ensure, Check, Checks, Finding, Violation};
 use super::promise::{Finished, Promise};
-use super::{invariant, outcome, page, stores, table};
+use super::{away, invariant, outcome, page, stores, table};
 use crate::board::{Board, Phase};
 use crate::call::{Answer, Call};
 use crate::line::{cells, header, LINE_WORDS};
@@ -81,6 +81,9 @@ impl Watched {
         if *call == Call::Step {
             self.checks.run(Check::Progress, || self.promise.kept(&self.board))?;
         }
+        if finished == Some(Finished::Checkpoint) {
+            self.checks.run(Check::Away, || away::after_checkpoint(&self.promise.away, &self.board.state))?;
+        }
         if finished == Some(Finished::Recovery) {
             self.checks.run(Check::Recovery, || self.recovered())?;
         }
@@ -145,6 +148,7 @@ pub fn answered(checks: Checks, call: &Call, before: &Board, after: &Board, answ
         return Ok(());
     }
     checks.run(Check::Stores, || stores::rows_changed(call, before, after))?;
+    checks.run(Check::Away, || away::after_call(call, before, after))?;
     checks.run(Check::Outcome, || outcome::complete(call, before, after))
 }
 

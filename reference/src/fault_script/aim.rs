@@ -2,10 +2,12 @@
 
 use std::cmp::Reverse;
 
+use super::away::AWAY;
 use super::Script;
 use crate::board::Condition;
 use crate::call::Call;
 use crate::damage::Damage;
+use crate::explore::table::rank;
 use crate::reached::CAUSES;
 use crate::work::some_workers;
 
@@ -23,11 +25,13 @@ impl Script {
         let (one, other) = (random.pick(&CAUSES), random.pick(&CAUSES));
         let (letter, causes) = if one.1.len() < other.1.len() && random.chance(1, 2) { other } else { one };
         let later = if random.chance(1, 3) { random.pick(causes) } else { 0 };
-        let first = random.pick(causes).max(later);
-        let others = if first >= 9 { random.pick(&[0, 1, 1, 2]) } else { random.pick(&[0, 0, 0, 1, 1, 2, 3]) };
+        let first = random.pick(causes);
+        let first = if rank(later) > rank(first) { later } else { first };
+        let others =
+            if rank(first) > rank(8) { random.pick(&[0, 1, 1, 2]) } else { random.pick(&[0, 0, 0, 1, 1, 2, 3]) };
         let mut aims = vec![first];
         (0..others).for_each(|_| aims.push(random.pick(causes)));
-        aims.sort_by_key(|cause| Reverse(if matches!(cause, 6 | 7) { u8::MAX } else { *cause }));
+        aims.sort_by_key(|cause| Reverse(if matches!(cause, 6 | 7) { usize::MAX } else { rank(*cause) }));
         (letter, aims)
     }
 
@@ -95,6 +99,11 @@ impl Script {
                 Call::RestartPoint { worker, value: self.word() }
             }
             b'A' => self.prepare_advance(worker),
+            b'a' => {
+                self.make_free(worker);
+                Call::GoAway { worker }
+            }
+            b'b' => self.prepare_back(worker),
             b'C' => self.prepare_request(),
             b'E' => Call::WriteBack { line: self.random.below(self.lines() + 1) },
             b'p' => self.prepare_page(),
@@ -121,7 +130,7 @@ impl Script {
     }
 
     /// A worker made free if it is not.
-    fn make_free(&mut self, worker: u64) {
+    pub(super) fn make_free(&mut self, worker: u64) {
         if self.board.state.worker[worker as usize] != Condition::Free {
             self.damage(Damage::Worker { worker, numbers: FREE });
         }
@@ -158,13 +167,18 @@ impl Script {
             }
             _ => self.prepare_checkpoint(),
         }
+        if !self.running() && self.random.chance(1, 2) {
+            self.one_away();
+        }
         Call::Step
     }
 
-    /// A requested checkpoint at any place of it, all workers waiting, with entries and words that it is to write.
+    /// A requested checkpoint at any place of it, all workers waiting or away, with entries and words to write.
     fn prepare_checkpoint(&mut self) {
+        let away = self.random.pick(&[0, 0, 1, 2]);
         for worker in 0..self.workers() {
-            self.damage(Damage::Worker { worker, numbers: WAITING });
+            let numbers = if self.random.chance(away, 2) { AWAY } else { WAITING };
+            self.damage(Damage::Worker { worker, numbers });
         }
         let cells = self.cells();
         let length = self.random.pick(&[self.listed(), self.random.below(cells + 1), cells]);
@@ -199,6 +213,7 @@ impl Script {
             10 => return self.request_fault(call),
             11 => return self.last_epoch(call),
             12 => *call = Call::Page { room: self.too_short() },
+            13 => return self.under_way(),
             _ => {}
         }
         Vec::new()
@@ -237,21 +252,26 @@ impl Script {
             }
             Call::RestartPoint { value, .. } => Call::RestartPoint { worker: past(workers), value },
             Call::Advance { .. } => Call::Advance { worker: past(workers) },
+            Call::GoAway { .. } => Call::GoAway { worker: past(workers) },
+            Call::ComeBack { .. } => Call::ComeBack { worker: past(workers) },
             Call::WriteBack { .. } => Call::WriteBack { line: past(self.lines() + 1) },
             Call::Read { .. } => Call::Read { cell: past(cells) },
             other => other,
         }
     }
 
-    /// A worker that is not free, or for an advance one without an update.
+    /// A worker that is not free, for an advance one without an update, for coming back one that is not away.
     fn wrong_condition(&mut self, call: &Call) -> Vec<Damage> {
         let cell = self.random.below(self.cells().max(1));
-        let busy = self.random.pick(&[WAITING, [2, self.random.below(3), cell, 1]]);
-        let (worker, numbers) = match *call {
-            Call::Update { worker, .. } | Call::RestartPoint { worker, .. } => (worker, busy),
-            Call::Advance { worker } => (worker, self.random.pick(&[FREE, WAITING])),
+        let updating = [2, self.random.below(3), cell, 1];
+        let (worker, among) = match *call {
+            Call::Update { worker, .. } | Call::RestartPoint { worker, .. } => (worker, [WAITING, updating, AWAY]),
+            Call::GoAway { worker } => (worker, [WAITING, updating, AWAY]),
+            Call::Advance { worker } => (worker, [FREE, WAITING, AWAY]),
+            Call::ComeBack { worker } => (worker, [FREE, WAITING, updating]),
             _ => return Vec::new(),
         };
+        let numbers = self.random.pick(&among);
         vec![Damage::Worker { worker: worker.min(7), numbers }]
     }
 

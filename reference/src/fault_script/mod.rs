@@ -2,6 +2,7 @@
 //! with damage and with lines that nothing reads, and everything is summed up every few lines.
 
 mod aim;
+mod away;
 mod odd;
 mod other_form;
 mod page;

@@ -1,5 +1,6 @@
 //! Damage that need not show: edges of what is allowed, records put together field by field, words anywhere.
 
+use super::away::AWAY;
 use super::Script;
 use crate::call::Call;
 use crate::damage::{Damage, ROOM_ENTRIES, ROOM_WORDS};
@@ -57,19 +58,21 @@ impl Script {
         let random = &self.random;
         let worker = random.pick(&[random.below(8), random.below(self.workers().clamp(1, 8))]);
         let cell = random.pick(&[self.about(self.cells()), random.below(self.cells().max(1)).min(65_535)]);
-        let numbers = match random.below(4) {
+        let numbers = match random.below(5) {
             0 => [0; 4],
             1 => [1, 0, 0, 0],
+            2 => AWAY,
             _ => [2, random.below(3), cell, self.word()],
         };
         Damage::Worker { worker, numbers }
     }
 
-    /// A worker that is not under W, if there is one, in the middle of an update.
+    /// A worker that is not under W, if there is one, in the middle of an update or away.
     pub(super) fn worker_from_w_on(&mut self) -> Damage {
         let workers = self.workers().min(7);
         let worker = workers + self.random.below(8 - workers);
-        Damage::Worker { worker, numbers: [2, self.random.below(3), self.about(self.cells()), self.word()] }
+        let updating = [2, self.random.below(3), self.about(self.cells()), self.word()];
+        Damage::Worker { worker, numbers: self.random.pick(&[updating, AWAY]) }
     }
 
     /// A record put together field by field, then calls of every kind.

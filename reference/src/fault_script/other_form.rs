@@ -10,18 +10,18 @@ use crate::text::MOST_BYTES;
 impl Script {
     /// One line that prints `?`, or in a few cases one that just does not.
     pub(super) fn another_form(&mut self) {
-        let text = match self.random.below(15) {
+        let text = match self.random.below(17) {
             0 => Vec::new(),
             1 => self.long(),
             2 => self.unknown_letter(),
             3 | 4 => self.miscounted(),
             5 => self.past_word(),
-            6 => self.no_such_place(),
-            7 | 8 => self.too_large(),
-            9 | 10 => self.past_row(),
-            11 => self.no_room(),
-            12 => self.unused(),
-            13 => return self.page_of_another_form(),
+            6 | 7 => self.no_such_place(),
+            8 | 9 => self.too_large(),
+            10 | 11 => self.past_row(),
+            12 => self.no_room(),
+            13 | 14 => self.unused(),
+            15 => return self.page_of_another_form(),
             _ => {
                 let known = self.known();
                 spoil(&self.random, known)
@@ -61,7 +61,7 @@ impl Script {
 
     /// A letter that no line has today: one of a later ticket, of the other case, or of two bytes.
     fn unknown_letter(&self) -> Vec<u8> {
-        let letter = self.random.pick(b"abnHVOuxcsegrtwmqkLZ09?\xff");
+        let letter = self.random.pick(b"nHVOuxcsegrtwmqkLZ09?\xff");
         let mut text = self.small(letter, self.random.below(3) as usize);
         if self.random.chance(1, 4) {
             text.insert(1, self.form().0);
@@ -88,13 +88,13 @@ impl Script {
         format!("{}\t{}", letter as char, fields.join("\t")).into_bytes()
     }
 
-    /// A field of the record past the last, a worker past the eighth, a condition past the third.
+    /// A field of the record past the last, a worker past the eighth, a condition past the fourth.
     fn no_such_place(&self) -> Vec<u8> {
         let past = self.random.pick(&[0, 0, 1, 249, 250, 65_536, u64::MAX - 9]);
         match self.random.below(3) {
             0 => line('B', &[7 + past, self.random.below(2)]),
             1 => line('K', &[8 + past, self.random.below(2), 0, 0, 0]),
-            _ => line('K', &[self.random.below(8), 3 + past, 0, 0, 0]),
+            _ => line('K', &[self.random.below(8), 4 + past, 0, 0, 0]),
         }
     }
 
@@ -130,9 +130,9 @@ impl Script {
         line('W', &lengths)
     }
 
-    /// A free or waiting worker with a number other than 0 that it has no use for.
+    /// A free or waiting worker, or one that is away, with a number other than 0 that it has no use for.
     fn unused(&self) -> Vec<u8> {
-        let mut numbers = [self.random.below(8), self.random.below(2), 0, 0, 0];
+        let mut numbers = [self.random.below(8), self.random.pick(&[0, 1, 3]), 0, 0, 0];
         numbers[2 + self.random.below(3) as usize] = self.random.pick(&[1, 2, 65_536, u64::MAX]);
         line('K', &numbers)
     }

@@ -6,12 +6,17 @@ use crate::call::Call;
 use crate::damage::Damage;
 
 impl Script {
-    /// A field of the record, or a worker's cell, outside its limits.
+    /// A field of the record, or a worker's cell, outside its limits; at the last epoch place and list stay.
     pub(super) fn record_fault(&mut self, call: &Call) -> Vec<Damage> {
         let (lines, workers, cells) = (self.lines(), self.workers(), self.cells());
         let random = &self.random;
         let far = random.pick(&[32_768, 65_535]);
-        match random.below(if matches!(call, Call::Advance { .. }) { 7 } else { 5 }) {
+        let kind = match call {
+            Call::Advance { .. } => random.below(7),
+            Call::Step if self.board.cache.first() == Some(&u64::MAX) => random.pick(&[0, 1, 4]),
+            _ => random.below(5),
+        };
+        match kind {
             0 => vec![Damage::Field { k: 1, number: random.pick(&[0, 512, far, workers / 2, lines | 512]) }],
             1 => vec![Damage::Field {
                 k: 2,

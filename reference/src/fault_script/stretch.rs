@@ -7,20 +7,22 @@ use crate::damage::Damage;
 use crate::drill::Command;
 use crate::line::{line_of, mark_at, record_at, row_words};
 use crate::say::drill_line;
-use crate::work::{good_call, some_workers};
+use crate::work::{good_call_with_away, some_workers, Leave};
 
 impl Script {
     /// One stretch, and a checksum after it.
     pub(super) fn stretch(&mut self) {
-        match self.random.below(34) {
-            0..=5 => self.work(50),
-            6..=17 => self.aimed(),
-            18 | 19 => self.odd_record(),
-            20..=22 => self.marked_cells(),
-            23 => self.foreign_board(),
-            24 => self.broken_format(),
-            25 | 26 => self.other_forms(),
-            27 | 28 => self.pages(),
+        match self.random.below(42) {
+            0..=5 => self.work(40),
+            6..=23 => self.aimed(),
+            24 | 25 => self.odd_record(),
+            26..=28 => self.marked_cells(),
+            29 => self.foreign_board(),
+            30 => self.broken_format(),
+            31 | 32 => self.other_forms(),
+            33 | 34 => self.pages(),
+            35 | 36 => self.leaving(),
+            37 => self.odd_away(),
             _ => self.odd_places(),
         }
         self.sum();
@@ -30,13 +32,14 @@ impl Script {
     pub(super) fn work(&mut self, most: u64) {
         self.ground(0);
         let requests = self.random.pick(&[5, 60, 300]);
+        let leave = Leave { away: self.random.pick(&[0, 0, 50, 200]), back: self.random.pick(&[20, 100]) };
         for _ in 0..5 + self.random.below(most) {
-            self.good_line(requests);
+            self.good_line(requests, leave);
         }
     }
 
     /// A line that brings a board on from where it is.
-    fn good_line(&mut self, requests: u64) {
+    fn good_line(&mut self, requests: u64, leave: Leave) {
         let (random, state) = (&self.random, &self.board.state);
         let patience = 40 + self.cells().min(30);
         if random.chance(1, patience) {
@@ -51,7 +54,7 @@ impl Script {
         }
         let call = match state.phase {
             Phase::Off => Call::Recovery,
-            Phase::Running if self.sizes_kept() => good_call(random, state, requests, self.word()),
+            Phase::Running if self.sizes_kept() => good_call_with_away(random, state, requests, leave, self.word()),
             _ => Call::Step,
         };
         self.call(call);

@@ -14,8 +14,8 @@ use Rattle.board.specs.Causes.{causes}
 use Rattle.board.specs.Effects.{Act, writeLine, storeEpoch, writeHeader, release, actAt, performAct, step, effect}
 use Rattle.board.specs.Machine.{Machine, markedCount, counted, completed, dropped, checkpointStep, stepped, beginning, finishesFormat, feed}
 use Rattle.board.specs.Sequence.{Run}
-use Rattle.board.specs.Statements.{AllQuiescent}
 use Rattle.board.proofs.Laws.Bools.{chosen, passedOver, or-left, or-right, and-not, and-off-right, not-off, not-on, none-under}
+use Rattle.board.proofs.Invariant.{AllQuiescent}
 use Rattle.board.proofs.Laws.Taken.{standsAt, passed, afterTaken}
 use Rattle.board.specs.Next.{Taken}
 

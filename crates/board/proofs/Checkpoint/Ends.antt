@@ -1,6 +1,7 @@
 -- A requested checkpoint with all workers waiting or away and n entries ends in n+3 steps, each of them taken; those that were away stay away.
 use Prim.Native.Nat.{ℕ, zero, suc, _+_, _≤_, _<_}
 use mathlib.Core.Path.{_≡_, refl, sym, ap, subst, _∙_}
+use mathlib.Core.Logic.{_⊎_, inl, inr}
 use mathlib.Core.List.{List}
 use mathlib.Core.Bool.{Bool, true, false, not, _&&_, _||_, false≢true}
 use native.Mathlib.Omega.{arith}
@@ -23,10 +24,10 @@ use Rattle.board.specs.Effects.{writtenBack, stated, Act, writeLine, sto
 use Rattle.board.specs.Next.{next, Taken}
 use Rattle.board.specs.Machine.{Machine, countUnder}
 use Rattle.board.specs.Sequence.{Run}
-use Rattle.board.specs.Statements.{AllQuiescent, KeepsAway, stepsFrom, AllTaken, EndsIn}
+use Rattle.board.specs.Statements.{AllWaitOrAway, KeepsAway, stepsFrom, AllTaken, EndsIn}
 use Rattle.board.proofs.Laws.Bools.{or-none, and-right, and-off-right, and-if, not-on}
 use Rattle.board.proofs.Laws.View.{Sized, cell-line, sized-back}
-use Rattle.board.proofs.Invariant.{Sizes, Stage, early, gap, late, Inv}
+use Rattle.board.proofs.Invariant.{AllQuiescent, Sizes, Stage, early, gap, late, Inv}
 use Rattle.board.proofs.Laws.Rows.{sized-set}
 use Rattle.board.proofs.Laws.Taken.{Clear, take, taken-next, rows-fine, record-fine, none-worker}
 use Rattle.board.proofs.Laws.Count.{count-most}
@@ -155,10 +156,11 @@ Ends n b = EndsIn n b × KeepsAway (b .state) (stepsFrom n b .state)
 -- The steps after one that keeps the workers.
 ends-after : (n : ℕ) (b d : Board) → Taken Step b → next Step b ≡ d → d .state .worker ≡ b .state .worker → Ends n d → Ends (suc n) b
 unfolding stepsFrom
-ends-after n b d t e same rest =
-    (ends-more n b d t e (rest .0),
-    subst (λ (x : Board). KeepsAway (b .state) (stepsFrom n x .state)) (sym e)
-    (subst (λ (ws : List Worker). KeepsAway (record { phase = b .state .phase; lines = b .state .lines; workers = b .state .workers; listed = b .state .listed; place = b .state .place; undo = b .state .undo; requested = b .state .requested; worker = ws }) (stepsFrom n d .state)) same (rest .1)))
+ends-after n b d t e same rest = (
+  ends-more n b d t e (rest .0),
+  subst (λ (x : Board). KeepsAway (b .state) (stepsFrom n x .state)) (sym e)
+      (subst (λ (ws : List Worker). KeepsAway (record { phase = b .state .phase; lines = b .state .lines; workers = b .state .workers; listed = b .state .listed; place = b .state .place; undo = b .state .undo; requested = b .state .requested; worker = ws }) (stepsFrom n d .state)) same (rest .1)),
+)
 
 -- The steps from a ready board to the release.
 ends : {l : ℕ} (n : ℕ) (b : Board) → Ready l b → n + b .state .place ≡ b .state .listed + 3 → Ends n b
@@ -188,9 +190,10 @@ ends {l} (suc n) b y e =
 
     last : (k : ℕ) → k ≡ 0 → next Step b ≡ performAct release s b → Ends (suc k) b
     last k z q =
-        subst (λ (j : ℕ). Ends (suc j) b) (sym z)
-        (ends-more zero b (stated (released s) b) t q (tt, ap isRunning (y .phase), refl),
-        subst (λ (x : Board). KeepsAway s (x .state)) (sym q) (released-away s))
+        subst (λ (j : ℕ). Ends (suc j) b) (sym z) (
+          ends-more zero b (stated (released s) b) t q (tt, ap isRunning (y .phase), refl),
+          subst (λ (x : Board). KeepsAway s (x .state)) (sym q) (released-away s),
+        )
 
 -- ---- from the invariant
 
@@ -200,8 +203,16 @@ room b m on (early a) h = a .room on
 room b m on (gap g) h = absurd (omega (arith, g .place))
 room b m on (late a) h = absurd (omega (arith, a .low))
 
+-- A worker that waits or is away holds nothing up.
+all-quiescent : (s : State) → AllWaitOrAway s → AllQuiescent s
+all-quiescent s f w h = by (f w h)
+  where
+    by : (conditionOf s w ≡ Waiting) ⊎ (conditionOf s w ≡ Away) → quiescent (conditionOf s w) ≡ true
+    by (inl e) = ap quiescent e
+    by (inr e) = ap quiescent e
+
 -- A requested checkpoint ends from whatever place it has reached, where the invariant holds.
-pub checkpoint-ends : (r : Run) → Inv r → r .crashed ≡ false → isRunning (r .board .state .phase) ≡ true → r .board .state .requested ≡ true → AllQuiescent (r .board .state) → (left : ℕ) → r .board .state .place + left ≡ r .board .state .listed + 3 → EndsIn left (r .board) × KeepsAway (r .board .state) (stepsFrom left (r .board) .state)
+pub checkpoint-ends : (r : Run) → Inv r → r .crashed ≡ false → isRunning (r .board .state .phase) ≡ true → r .board .state .requested ≡ true → AllWaitOrAway (r .board .state) → (left : ℕ) → r .board .state .place + left ≡ r .board .state .listed + 3 → EndsIn left (r .board) × KeepsAway (r .board .state) (stepsFrom left (r .board) .state)
 checkpoint-ends r inv d e on wait left h =
     let b = r .board in
     let m = r .machine in
@@ -218,6 +229,6 @@ checkpoint-ends r inv d e on wait left h =
       place = place-in (m .lines) b m (v .stage) on;
       entries = v .listed;
       epoch = room b m on (v .stage);
-      waiting = wait;
+      waiting = all-quiescent (b .state) wait;
     } in
     ends left b y (omega arith)

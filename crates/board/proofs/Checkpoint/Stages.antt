@@ -11,10 +11,9 @@ use Rattle.board.specs.Board.{Board, cells, epochOf}
 use Rattle.board.specs.State.{placed}
 use Rattle.board.specs.Effects.{writtenBack}
 use Rattle.board.specs.Machine.{Machine}
-use Rattle.board.specs.Statements.{AllQuiescent}
 use Rattle.board.proofs.Laws.Bools.{chosen}
 use Rattle.board.proofs.Laws.View.{view}
-use Rattle.board.proofs.Invariant.{Sizes, SameSizes, Undoes, progress, SameRecords, Early, Gap, Late, Stage, early, gap, late, RunningInv}
+use Rattle.board.proofs.Invariant.{AllQuiescent, Sizes, SameSizes, Undoes, progress, SameRecords, Early, Gap, Late, Stage, early, gap, late, RunningInv}
 use Rattle.board.proofs.Laws.Rows.{own-same, sizes-same}
 use Rattle.board.proofs.Checkpoint.Memory.{value-back, epoch-back}
 

@@ -20,9 +20,8 @@ use Rattle.board.specs.Effects.{stated, effect}
 use Rattle.board.specs.Next.{Taken}
 use Rattle.board.specs.Machine.{Unfinished, none, feed}
 use Rattle.board.specs.Sequence.{Run}
-use Rattle.board.specs.Statements.{AllQuiescent}
 use Rattle.board.proofs.Laws.Bools.{split, chosen, passedOver, and-not, and-off, and-off-right, not-off, not-on}
-use Rattle.board.proofs.Invariant.{WorkerInv, Touches, progress, Inv}
+use Rattle.board.proofs.Invariant.{AllQuiescent, WorkerInv, Touches, progress, Inv}
 use Rattle.board.proofs.Laws.Taken.{Clear, take, standsAt, passed, afterTaken, workers-in}
 use Rattle.board.proofs.Laws.Workers.{is-free, is-away, condition-at, condition-other}
 use Rattle.board.proofs.Laws.Reading.{running-passes}
@@ -134,8 +133,7 @@ goes-and-comes r inv d e w =
     let b = r .board in
     let s = b .state in
     let k = conditionOf s w in
-    let y = running-passes r inv d (is-running (s .phase) e) in
-    (
+    let y = running-passes r inv d (is-running (s .phase) e) in (
       (
         λ t. (leb-false (s .workers) w (passed (GoAway w) b t 6), is-free k (not-off (isFree k) (passed (GoAway w) b t 8))),
         λ h. take (GoAway w) b (y .phase, (y .state, (y .rows, (lt-leb (s .workers) w (h .0), (not-on (isFree k) (ap isFree (h .1)), tt))))),

@@ -18,10 +18,9 @@ use Rattle.board.specs.State.{conditionOf, quiescent, afterRelease, plac
 use Rattle.board.specs.Effects.{writtenBack, cached, stated, Act, writeLine, storeEpoch, writeHeader, release, actAt, performAct}
 use Rattle.board.specs.Machine.{Unfinished, none, update, Machine, countUnder, counted, completed, dropped, checkpointStep}
 use Rattle.board.specs.Sequence.{Run}
-use Rattle.board.specs.Statements.{AllQuiescent}
 use Rattle.board.proofs.Laws.Bools.{chosen, passedOver}
 use Rattle.board.proofs.Laws.View.{View, view, Sized, cell-line, view-backed, view-header}
-use Rattle.board.proofs.Invariant.{Undo, WorkerInv, Touches, SameRecords, Early, Late, Stage, early, gap, late, RunningInv, Inv}
+use Rattle.board.proofs.Invariant.{AllQuiescent, Undo, WorkerInv, Touches, SameRecords, Early, Late, Stage, early, gap, late, RunningInv, Inv}
 use Rattle.board.proofs.Laws.Rows.{epoch-set, sized-set, header-set, spare-set, own-same, sizes-same, sizes-set}
 use Rattle.board.proofs.Laws.Taken.{workers-in, afterTaken}
 use Rattle.board.proofs.Laws.Workers.{released-condition}

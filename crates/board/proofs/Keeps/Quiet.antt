@@ -17,10 +17,9 @@ use Rattle.board.specs.Effects.{stated, effect}
 use Rattle.board.specs.Next.{Taken}
 use Rattle.board.specs.Machine.{Machine, Unfinished, feed}
 use Rattle.board.specs.Sequence.{Run}
-use Rattle.board.specs.Statements.{AllQuiescent}
 use Rattle.board.proofs.Laws.Bools.{chosen, not-off}
 use Rattle.board.proofs.Laws.Taken.{standsAt, passed, afterTaken}
-use Rattle.board.proofs.Invariant.{WorkerInv, Touches, progress, Early, Stage, early, gap, late, RunningInv, Inv}
+use Rattle.board.proofs.Invariant.{AllQuiescent, WorkerInv, Touches, progress, Early, Stage, early, gap, late, RunningInv, Inv}
 use Rattle.board.proofs.Checkpoint.Run.{Carried, quietly, is-running, running-run, inv-running}
 
 -- The record with other workers.

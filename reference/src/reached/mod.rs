@@ -1,18 +1,22 @@
-//! What random fault scripts reach: how often each call got each answer, and each kind of `?`.
+//! What random fault scripts reach: how often each call got each answer, each case of ticket 2, and each kind of `?`.
+
+mod away;
 
 use std::collections::HashMap;
 use std::fmt;
 
 use crate::board::Board;
 use crate::call::Call;
-use crate::explore::table::{causes, deciding_part, parts};
+use crate::explore::table::{causes, deciding_part, parts, rank};
 use crate::fault::{self, Fault};
 use crate::fault_script::script;
 use crate::program::Program;
-use crate::text::{fields, Unread, UNREAD};
+use crate::text::{fields, Fields, Unread, UNREAD};
+use away::Scene;
+pub use away::CASES;
 
 /// The letters of calls with the answers that the table has for each.
-pub const CAUSES: [(u8, &[u8]); 11] = [
+pub const CAUSES: [(u8, &[u8]); 13] = [
     (b'f', &[0, 1, 4]),
     (b'F', &[0, 1]),
     (b'R', &[0, 4, 5]),
@@ -24,10 +28,12 @@ pub const CAUSES: [(u8, &[u8]); 11] = [
     (b'E', &[0, 2, 3, 4, 7]),
     (b'G', &[0, 2, 3, 4, 7]),
     (b'p', &[0, 2, 3, 4, 12]),
+    (b'a', &[0, 2, 3, 4, 6, 8]),
+    (b'b', &[0, 2, 3, 4, 6, 8, 13]),
 ];
 
-/// How many answers there are: 0, and the causes 1 to 12.
-const ANSWERS: usize = 13;
+/// How many answers there are: 0, and the causes 1 to 13.
+const ANSWERS: usize = 14;
 
 /// The counts over some scripts.
 #[derive(Clone, PartialEq, Eq, Debug)]
@@ -42,6 +48,10 @@ pub struct Reached {
     pub parts: HashMap<(&'static str, u8), u64>,
     /// For each letter and two causes, how often the first answered while the second held too.
     pub orders: HashMap<(u8, u8, u8), u64>,
+    /// For each case of ticket 2 in the order of `CASES`, how often it was met.
+    pub cases: [u64; CASES.len()],
+    /// `K` with the condition away: taken, and with a number that it has no use for.
+    pub put_away: [u64; 2],
 }
 
 /// The counts over the scripts of seeds 1 to `seeds`, each of so many lines.
@@ -53,6 +63,8 @@ pub fn reached(seeds: u64, lines: u64) -> Reached {
         unread: [0; UNREAD.len()],
         parts: HashMap::new(),
         orders: HashMap::new(),
+        cases: [0; CASES.len()],
+        put_away: [0; 2],
     };
     for seed in 1..=seeds {
         let text = script(seed, lines);
@@ -66,7 +78,7 @@ pub fn reached(seeds: u64, lines: u64) -> Reached {
 }
 
 impl Reached {
-    /// The pairs of causes of each letter, the lower having answered.
+    /// The pairs of causes of each letter, the earlier having answered.
     fn write_orders(&self, out: &mut fmt::Formatter) -> fmt::Result {
         writeln!(out, "| call | one cause answered while a later one held too |\n|---|---|")?;
         for (letter, _) in CAUSES.iter().filter(|(letter, _)| *letter != b'F') {
@@ -93,9 +105,24 @@ impl Reached {
         if let Some(call) = command.call() {
             self.count_causes(board, &call, fields.letter);
         }
-        let reply = Fault::execute(board, &command)?;
-        self.answers[fields.letter as usize][reply.number as usize] += 1;
+        let before = board.state;
+        let reply = Fault::execute(board, &command);
+        self.count_put_away(&fields, reply.is_ok());
+        let number = reply?.number;
+        self.answers[fields.letter as usize][number as usize] += 1;
+        if let Some(call) = command.call() {
+            let scene = Scene { call, number, before: &before, after: &board.state };
+            self.cases.iter_mut().zip(CASES).for_each(|(count, (_, holds))| *count += holds(&scene) as u64);
+        }
         Ok(())
+    }
+
+    /// Count a `K` that makes a worker away, or would but for a number.
+    fn count_put_away(&mut self, fields: &Fields, read: bool) {
+        let [worker, condition, ..] = fields.numbers;
+        if fields.letter == b'K' && condition == 3 && worker < 8 {
+            self.put_away[!read as usize] += 1;
+        }
     }
 
     /// Count which causes hold for a call, and the part that its answer hangs on.
@@ -134,13 +161,25 @@ impl Reached {
 
     /// For each part of a cause, the calls whose answer hung on it alone.
     fn write_parts(&self, out: &mut fmt::Formatter) -> fmt::Result {
-        let letters = b"fRSUPACEGp";
+        let letters = b"fRSUPACEGpab";
         let head = letters.iter().map(|letter| format!(" {} |", *letter as char)).collect::<String>();
         writeln!(out, "| answer | hung alone on |{head}")?;
         writeln!(out, "|---|---|{}", "---|".repeat(letters.len()))?;
         for (number, part) in parts() {
             let row = counts(letters.iter().map(|letter| self.part(part, *letter)));
             writeln!(out, "| {number} | {part} |{row}")?;
+        }
+        writeln!(out)
+    }
+
+    /// The cases of ticket 2, and `K` with the condition away.
+    fn write_cases(&self, out: &mut fmt::Formatter) -> fmt::Result {
+        writeln!(out, "| case of a worker that is away | lines |\n|---|---|")?;
+        for ((words, _), count) in CASES.iter().zip(self.cases) {
+            writeln!(out, "| {words} | {count} |")?;
+        }
+        for (words, count) in ["K makes a worker away", "K would, but for a number"].iter().zip(self.put_away) {
+            writeln!(out, "| {words} | {count} |")?;
         }
         writeln!(out)
     }
@@ -151,11 +190,11 @@ fn apart(letter: u8, first: u8, other: u8) -> bool {
     letter == b'S' && first == 2 && other >= 10
 }
 
-/// Each letter of a call with every two of its causes that can both hold, the lower first.
+/// Each letter of a call with every two of its causes that can both hold, the earlier first.
 pub fn orders() -> impl Iterator<Item = (u8, u8, u8)> {
     CAUSES.iter().flat_map(|(letter, causes)| {
         let later =
-            move |first: u8| causes.iter().filter(move |other| **other > first).map(move |other| (first, *other));
+            move |first: u8| causes.iter().filter(move |o| rank(**o) > rank(first)).map(move |other| (first, *other));
         let pairs = causes.iter().filter(|first| **first > 0).flat_map(move |first| later(*first));
         pairs
             .map(|(first, other)| (*letter, first, other))
@@ -174,6 +213,7 @@ impl fmt::Display for Reached {
         self.write_answers(out)?;
         self.write_parts(out)?;
         self.write_orders(out)?;
+        self.write_cases(out)?;
         writeln!(out, "| why a line printed ? | lines |\n|---|---|")?;
         for ((_, words), count) in UNREAD.iter().zip(self.unread) {
             writeln!(out, "| {words} | {count} |")?;

@@ -1,0 +1,112 @@
+-- An inhabited example of 02's ticket 2: a checkpoint is completed while a worker is away; a second one is cut in the middle while all are.
+use Prim.Native.Nat.{ℕ, _<_}
+use mathlib.Core.Path.{_≡_, refl, sym, subst, _∙_}
+use mathlib.Core.List.{List, [], _∷_}
+use mathlib.Core.Bool.{true, false, _&&_}
+use native.Mathlib.Omega.{arith}
+use lib.ListN.{length, replicate}
+use Rattle.line.specs.Line.{lineOf, withLine}
+use Rattle.line.specs.Cell.{fieldIndex, fieldOf, withField}
+use Rattle.board.specs.declared.State.{State}
+use Rattle.board.specs.declared.Condition.the-variants.{Away}
+use Rattle.board.specs.declared.Phase.the-variants.{Running}
+use Rattle.board.specs.declared.Call.{Call}
+use Rattle.board.specs.declared.Call.the-variants.{FormatStart, RecoveryStart, Step, Update, RestartPoint, Advance, Request, Read, GoAway, ComeBack}
+use Rattle.board.specs.Board.{Board, cells}
+use Rattle.board.specs.State.{conditionOf, anyUnder, started}
+use Rattle.board.specs.Causes.{badRecord, causes, firstStanding, cause}
+use Rattle.board.specs.Effects.{formatStep, recoveryStep, actAt, performAct, step, advance, advanceOf, effect}
+use Rattle.board.specs.Next.{taken, next, Performed}
+use Rattle.board.specs.Machine.{beginning, changed, countUnder, fewer, advanced, checkpointStep, stepped, feed}
+use Rattle.board.specs.Sequence.{Begins, formatted, Run, opening, cutBoard, History, begun, undoSteps, recoverySteps}
+use Rattle.board.specs.Statements.{CutAndRecovered}
+use Rattle.board.specs.Bench.{blankFor, afterCalls}
+use Rattle.board.proofs.Laws.Taken.{performing}
+use Rattle.board.proofs.Laws.Playing.{made, madeAll, calls-history, byKind, takesTest, tested, cut-recovered}
+use Rattle.board.proofs.Theorems.{demand3}
+
+-- The board as the format (2, 2) left it.
+fresh : Board
+fresh = afterCalls (FormatStart 2 2 ∷ Step ∷ Step ∷ Step ∷ Step ∷ []) (blankFor 2)
+
+-- Worker 1 goes away. Worker 0 puts 7 into cell 2 and makes a restart point, and the checkpoint of these two cells ends in five steps without worker 1.
+first : List Call
+first =
+    GoAway 1 ∷ Update 0 2 7 ∷ Advance 0 ∷ Advance 0 ∷ Advance 0 ∷ Request ∷ RestartPoint 0 3 ∷ Advance 0 ∷ Advance 0 ∷ Advance 0
+    ∷ Step ∷ Step ∷ Step ∷ Step ∷ Step ∷ []
+
+-- Worker 1, away still, comes back and puts 9 into cell 2. Both go away; a second checkpoint writes the cell's line, and worker 1 is not let back.
+second : List Call
+second = ComeBack 1 ∷ Update 1 2 9 ∷ Advance 1 ∷ Advance 1 ∷ Advance 1 ∷ GoAway 1 ∷ Request ∷ GoAway 0 ∷ Step ∷ ComeBack 1 ∷ []
+
+-- The run after the first checkpoint, and the run that the history leads to.
+midway : Run
+midway = madeAll first (opening fresh (beginning 2))
+
+pub run : Run
+run = madeAll second midway
+
+-- What the cut leaves.
+garbage : State
+garbage = started Running 9 200
+
+cutCache : List ℕ
+cutCache = replicate 24 77
+
+cutList : List ℕ
+cutList = 5 ∷ 6 ∷ 7 ∷ 8 ∷ []
+
+-- The board after the cut, the recovery's calls, and the board after them.
+cutOff : Board
+cutOff = cutBoard garbage cutCache cutList (run .board)
+
+recoveryCalls : List Call
+recoveryCalls = replicate 6 Step
+
+pub recoveredBoard : Board
+recoveredBoard = afterCalls recoveryCalls (next RecoveryStart cutOff)
+
+begins-fresh : Begins fresh (beginning 2)
+unfolding fresh afterCalls takesTest byKind next cause causes firstStanding badRecord anyUnder effect step formatStep withLine
+begins-fresh =
+    formatted 2 2 _ (blankFor 2) _ fresh (performing (FormatStart 2 2) (blankFor 2) refl refl refl) (tested 4 (Step ∷ Step ∷ Step ∷ Step ∷ []) (next (FormatStart 2 2) (blankFor 2)) refl)
+
+-- The run is one that the theorems speak of.
+midway-history : History midway
+unfolding midway
+midway-history = calls-history first (opening fresh (beginning 2)) refl (begun begins-fresh)
+
+-- After the first checkpoint worker 1 is away and no cut has fallen.
+midway-seen : (midway .crashed ≡ false) × (conditionOf (midway .board .state) 1 ≡ Away)
+unfolding midway first fresh made madeAll afterCalls next cause causes firstStanding badRecord anyUnder effect step formatStep actAt performAct advance advanceOf lineOf withLine fieldIndex fieldOf withField feed changed countUnder fewer advanced checkpointStep stepped
+midway-seen = (refl, refl)
+
+pub run-history : History run
+unfolding run
+run-history = calls-history second midway (midway-seen .0) midway-history
+
+-- In the middle of the second checkpoint both workers are away, and worker 1 may not come back: cause 13.
+pub run-seen : (conditionOf (run .board .state) 0 ≡ Away) × (conditionOf (run .board .state) 1 ≡ Away) × (cause (ComeBack 1) (run .board) ≡ 13)
+unfolding run midway first second fresh made madeAll afterCalls next cause causes firstStanding badRecord anyUnder effect step formatStep actAt performAct advance advanceOf lineOf withLine fieldIndex fieldOf withField feed changed countUnder fewer advanced checkpointStep stepped
+run-seen = (refl, refl, refl)
+
+-- The rows keep their lengths; the recovery's start is taken, and then six steps.
+run-takes : (length (run .board .cache) ≡ 24) × (length (run .board .entries) ≡ 4) × (taken RecoveryStart cutOff && takesTest 6 recoveryCalls (next RecoveryStart cutOff) ≡ true) × (recoverySteps (run .board .memory) ≡ 6)
+unfolding cutOff takesTest byKind undoSteps recoveryCalls run midway first second garbage cutCache cutList fresh made madeAll afterCalls next cause causes firstStanding badRecord anyUnder effect step formatStep recoveryStep actAt performAct advance advanceOf lineOf withLine fieldIndex fieldOf withField feed changed countUnder fewer advanced checkpointStep stepped
+run-takes = (refl, refl, refl, refl)
+
+-- One more cut, and a finished recovery.
+pub run-recovered : CutAndRecovered run recoveredBoard
+unfolding recoveredBoard cutOff cutCache cutList
+run-recovered = cut-recovered run garbage cutCache cutList recoveryCalls 6 (sym (run-takes .0), sym (run-takes .1)) (run-takes .2) (run-takes .3)
+
+-- What the machine held at the last completed checkpoint: 7 in cell 2.
+run-values : (recoveredBoard .state .lines ≡ 2) × (run .machine .checkpointed 2 ≡ 7)
+unfolding recoveredBoard cutOff recoveryCalls run midway first second garbage cutCache cutList fresh made madeAll afterCalls next cause causes firstStanding badRecord anyUnder effect step formatStep recoveryStep actAt performAct advance advanceOf lineOf withLine fieldIndex fieldOf withField feed changed countUnder fewer advanced checkpointStep stepped
+run-values = (refl, refl)
+
+-- "What a cut brings back is still the last checkpoint, whoever was away": by the theorem a read of cell 2 returns 0 and gives 7.
+pub reads-seven : (number value : ℕ) (b : Board) → Performed (Read 2) recoveredBoard number value b → (number ≡ 0) × (value ≡ 7)
+reads-seven number value b p =
+    let read = demand3 run run run-history run-history recoveredBoard recoveredBoard run-recovered run-recovered .0 2 (subst (λ (l : ℕ). 2 < cells l) (sym (run-values .0)) (omega arith)) number value b p in
+    (read .0, read .1 ∙ run-values .1)
