@@ -12,12 +12,16 @@ pub enum Round {
     Fill,
     // A request, then a restart point of each worker, after which it waits.
     Wait,
+    // A request, a restart point of worker 0, after which it waits, and every other worker away.
+    Leave,
     // An update of an unmarked cell: a start and three advances. The host then takes the mark and the entry back.
     Update,
     // An update of a marked cell: a start and one advance.
     Again,
     // A checkpoint's n + 3 steps. The host then puts the state record back.
     Checkpoint,
+    // The same with every worker but worker 0 away, whose restart cells are not listed: n − W + 4 steps.
+    CheckpointAway,
     // A recovery's start and its 2L steps, with no cell to undo.
     Recovery,
     // A write-back of the line of a random cell.
@@ -51,6 +55,7 @@ pub fn numbered(kind: u64) -> Kind {
         6 => Kind::Pages(Marks::Equal),
         7 => Kind::Pages(Marks::Rising),
         8 => Kind::Pages(Marks::Random),
+        9 => Kind::Calls(Round::CheckpointAway),
         _ => Kind::Unknown,
     }
 }
@@ -97,9 +102,11 @@ pub fn calls_in(round: Round, plan: Plan) -> u32
         Round::Format => 1 + lines + 2,
         Round::Fill => 4 * (n - workers),
         Round::Wait => 1 + 4 * workers,
+        Round::Leave => 4 + workers,
         Round::Update => 4,
         Round::Again => 2,
         Round::Checkpoint => n + 3,
+        Round::CheckpointAway => n - workers + 4,
         Round::Recovery => 1 + cells,
         Round::WriteBack => 1,
         Round::Reads => cells,
@@ -132,6 +139,15 @@ fn wait_call(k: u64) -> Call {
     }
 }
 
+// Call number `k` of a leave: the request, four calls of worker 0, and the others' going away.
+fn leave_call(k: u64) -> Call {
+    if k < 5 {
+        wait_call(k)
+    } else {
+        Call::GoAway { worker: k - 4 }
+    }
+}
+
 // A start before the first step, and then steps.
 fn step_call(k: u64, start: Call) -> Call {
     if k == 0 { start } else { Call::Step }
@@ -150,8 +166,9 @@ pub fn call_at(round: Round, plan: Plan, k: u64, drawn: Drawn) -> Call {
         ),
         Round::Fill => update_call(plan.worker, k % 4, workers + k / 4, workers + k / 4),
         Round::Wait => wait_call(k),
+        Round::Leave => leave_call(k),
         Round::Update | Round::Again => update_call(plan.worker, k, drawn.cell, drawn.random),
-        Round::Checkpoint => Call::Step,
+        Round::Checkpoint | Round::CheckpointAway => Call::Step,
         Round::Recovery => step_call(k, Call::RecoveryStart),
         Round::WriteBack => Call::WriteBack {
             line: line::cell_line(drawn.cell as usize) as u64,

@@ -66,7 +66,7 @@ fn play(
                     unmark(cache, drawn.cell);
                     state.listed = 0;
                 }
-                Round::Checkpoint => state = from,
+                Round::Checkpoint | Round::CheckpointAway => state = from,
                 _ => {}
             }
             drawn = draw(plan, drawn.random);
@@ -76,7 +76,25 @@ fn play(
     Summed { state, sum }
 }
 
-// The state record with the cells listed that a workload needs: all data cells, or n cells and the workers waiting.
+// The state record after a fill and a round `last`, after which the workers wait or are away.
+fn prepared(
+    last: Round,
+    plan: Plan,
+    fresh: State,
+    memory: &mut [u64],
+    cache: &mut [u64],
+    entries: &mut [u16],
+) -> State
+    requires { ⌜ Allowed plan × (length (now cache) ≡ rowWords (plan .lines)) ⌝ }
+{
+    let filled = play(Round::Fill, plan, 1, fresh, memory, cache, entries);
+    let state = filled.state;
+    let ready = play(last, plan, 1, state, memory, cache, entries);
+    ready.state
+}
+
+// The state record with the cells listed that a workload needs: all data cells, or those below n and the restart cells
+// of the workers that wait.
 fn listed(
     round: Round,
     plan: Plan,
@@ -94,12 +112,8 @@ fn listed(
             let filled = play(Round::Fill, full, 1, fresh, memory, cache, entries);
             filled.state
         }
-        Round::Checkpoint => {
-            let filled = play(Round::Fill, plan, 1, fresh, memory, cache, entries);
-            let state = filled.state;
-            let waiting = play(Round::Wait, plan, 1, state, memory, cache, entries);
-            waiting.state
-        }
+        Round::Checkpoint => prepared(Round::Wait, plan, fresh, memory, cache, entries),
+        Round::CheckpointAway => prepared(Round::Leave, plan, fresh, memory, cache, entries),
         _ => fresh,
     }
 }

@@ -41,10 +41,10 @@ unfolding fieldFits
 no-field k v h =
     simp (ne-eqb k 0 (λ e. omega arith), ne-eqb k 1 (λ e. omega arith), ne-eqb k 2 (λ e. omega arith), ne-eqb k 3 (λ e. omega arith), ne-eqb k 4 (λ e. omega arith), ne-eqb k 5 (λ e. omega arith), ne-eqb k 6 (λ e. omega arith))
 
--- There are three conditions.
-no-condition : (c n a v : ℕ) → 3 ≤ c → conditionFits c n a v ≡ false
+-- There are four conditions.
+no-condition : (c n a v : ℕ) → 4 ≤ c → conditionFits c n a v ≡ false
 unfolding conditionFits
-no-condition c n a v h = simp (ne-eqb c 0 (λ e. omega arith), ne-eqb c 1 (λ e. omega arith), ne-eqb c 2 (λ e. omega arith))
+no-condition c n a v h = simp (ne-eqb c 0 (λ e. omega arith), ne-eqb c 1 (λ e. omega arith), ne-eqb c 2 (λ e. omega arith), ne-eqb c 3 (λ e. omega arith))
 
 -- Each field.
 pub fields-back : FieldsReadBack
@@ -74,4 +74,5 @@ workers-back zero n a v fits = zeros-back 0 n a v fits
 workers-back (suc zero) n a v fits = zeros-back 1 n a v fits
 workers-back (suc (suc zero)) n a v fits =
     ap (λ (x : ℕ). 2 ∷ x ∷ a ∷ v ∷ []) (store-back n (leb-true n 2 (and-left (leb n 2) (leb a 65535) fits)))
-workers-back (suc (suc (suc c))) n a v fits = absurd (clash fits (no-condition (suc (suc (suc c))) n a v (omega arith)))
+workers-back (suc (suc (suc zero))) n a v fits = zeros-back 3 n a v fits
+workers-back (suc (suc (suc (suc c)))) n a v fits = absurd (clash fits (no-condition (suc (suc (suc (suc c)))) n a v (omega arith)))

@@ -12,7 +12,7 @@ use Rattle.board.specs.declared.Store.the-variants.{Backup, Mark, Record}
 use Rattle.board.specs.declared.UndoStep.{UndoStep}
 use Rattle.board.specs.declared.UndoStep.the-variants.{Restore, Unmark, WriteLine}
 use Rattle.board.specs.declared.Condition.{Condition}
-use Rattle.board.specs.declared.Condition.the-variants.{Free, Waiting, Updating}
+use Rattle.board.specs.declared.Condition.the-variants.{Free, Waiting, Updating, Away}
 use Rattle.board.specs.Board.{Board}
 use Rattle.board.specs.State.{conditionOf}
 
@@ -63,6 +63,7 @@ abbrev pub conditionNumbers : Condition → List ℕ
 conditionNumbers Free = 0 ∷ 0 ∷ 0 ∷ 0 ∷ []
 conditionNumbers Waiting = 1 ∷ 0 ∷ 0 ∷ 0 ∷ []
 conditionNumbers (Updating next a v) = 2 ∷ storeNumber next ∷ a ∷ v ∷ []
+conditionNumbers Away = 3 ∷ 0 ∷ 0 ∷ 0 ∷ []
 
 -- "c, n, a, v" of worker `w`.
 abbrev pub workerNumbers : State → ℕ → List ℕ

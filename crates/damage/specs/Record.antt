@@ -10,7 +10,7 @@ use Rattle.board.specs.declared.Store.the-variants.{Backup, Mark, Record}
 use Rattle.board.specs.declared.UndoStep.{UndoStep}
 use Rattle.board.specs.declared.UndoStep.the-variants.{Restore, Unmark, WriteLine}
 use Rattle.board.specs.declared.Condition.{Condition}
-use Rattle.board.specs.declared.Condition.the-variants.{Free, Waiting, Updating}
+use Rattle.board.specs.declared.Condition.the-variants.{Free, Waiting, Updating, Away}
 use Rattle.board.specs.State.{conditioned}
 
 -- "0 off, 1 formatting, 2 recovering, 3 running".
@@ -52,14 +52,14 @@ fieldPut s k v = cond (fieldFits k v) (withField s k v) s
 abbrev pub unused : ℕ → ℕ → ℕ → Bool
 unused n a v = eqb n 0 && (eqb a 0 && eqb v 0)
 
--- "0 free, 1 waiting, 2 updating with next store n, cell a to 65,535, value v".
+-- "0 free, 1 waiting, 2 updating with next store n, cell a to 65,535, value v; 3 away".
 unfoldable pub conditionFits : ℕ → ℕ → ℕ → ℕ → Bool
 conditionFits c n a v =
-    cond (eqb c 0) (unused n a v) (cond (eqb c 1) (unused n a v) (cond (eqb c 2) (leb n 2 && leb a 65535) false))
+    cond (eqb c 0) (unused n a v) (cond (eqb c 1) (unused n a v) (cond (eqb c 2) (leb n 2 && leb a 65535) (cond (eqb c 3) (unused n a v) false)))
 
 -- The condition that such numbers mean.
 unfoldable pub conditionOf : ℕ → ℕ → ℕ → ℕ → Condition
-conditionOf c n a v = cond (eqb c 0) Free (cond (eqb c 1) Waiting (Updating (storeOf n) a v))
+conditionOf c n a v = cond (eqb c 0) Free (cond (eqb c 1) Waiting (cond (eqb c 2) (Updating (storeOf n) a v) Away))
 
 -- "worker w, 0 to 7".
 abbrev pub workerFits : ℕ → ℕ → ℕ → ℕ → ℕ → Bool

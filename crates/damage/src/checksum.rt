@@ -160,6 +160,7 @@ fn mix_worker(sum: u64, worker: Worker) -> u64
         Condition::Updating { next, cell, value } => {
             mix_four(sum, 2, store_number(next), cell as u64, value)
         }
+        Condition::Away => mix_four(sum, 3, 0, 0, 0),
     }
 }
 

@@ -138,6 +138,7 @@ fn condition_fits(condition: u64, next: u64, cell: u64, value: u64) -> bool
             }
             cell <= 65535
         }
+        3 => unused(next, cell, value),
         _ => false,
     }
 }
@@ -151,11 +152,12 @@ fn condition_of(condition: u64, next: u64, cell: u64, value: u64) -> Condition
     match condition {
         0 => Condition::Free,
         1 => Condition::Waiting,
-        _ => Condition::Updating {
+        2 => Condition::Updating {
             next: store,
             cell: cell as u16,
             value,
         },
+        _ => Condition::Away,
     }
 }
 

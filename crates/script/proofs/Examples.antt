@@ -3,13 +3,13 @@ use mathlib.Core.Path.{_≡_, refl}
 use mathlib.Core.List.{List, [], _∷_, _++_, map}
 use Prim.Native.Nat.{ℕ}
 use lib.ListN.{replicate}
-use Rattle.board.specs.declared.Call.the-variants.{FormatStart, Step, Update, RestartPoint, Read}
+use Rattle.board.specs.declared.Call.the-variants.{FormatStart, Step, Update, RestartPoint, Read, GoAway, ComeBack}
 use Rattle.script.specs.declared.Line.{Line}
 use Rattle.script.specs.declared.Line.the-variants.{Format, Make, Show, Cut, Damage as Damaging, Page as Paging, Unknown}
 use Rattle.script.specs.declared.Damage.the-variants.{Field, Worker, Checksum}
-use Rattle.script.specs.declared.Program.the-variants.{Drill, Fault}
+use Rattle.script.specs.declared.Program.the-variants.{Drill, Fault, Page}
 use Rattle.script.specs.declared.Shown.the-variants as shown
-use Rattle.text.specs.Ascii.{tab, feed, '-', '0', '9', '?', 'A', 'B', 'F', 'G', 'K', 'P', 'S', 'T', 'U', 'X', 'f', 'p'}
+use Rattle.text.specs.Ascii.{tab, feed, '-', '0', '9', '?', 'A', 'B', 'F', 'G', 'K', 'P', 'S', 'T', 'U', 'X', 'a', 'b', 'f', 'p'}
 use Rattle.text.specs.Numbers.{spelled, allDigits, valueAfter}
 use Rattle.script.specs.Grammar.{fields, isNumber, allNumbers, drilled, damaging, formed, meaning}
 use Rattle.script.specs.Answers.{answerText}
@@ -61,15 +61,22 @@ pub lines-mean : map (λ (e : Example). meaning Drill (e .text)) examples ≡ ma
 unfolding fields allDigits valueAfter isNumber allNumbers drilled damaging formed meaning
 lines-mean = refl
 
--- The fault program's own letters: "T", "p 9", "f 1 1", "B 6 1" and "K 7 2 0 9 5", with tabs for blanks, and a drill's letter.
+-- The fault program's own letters: "T", "p 9", "a 7", "b 0", "f 1 1", "B 6 1" and "K 7 2 0 9 5", with tabs for blanks, and a drill's letter.
 abbrev pub damages : List Example
 damages =
     row ('T' ∷ []) (Damaging Checksum) ∷
     row ('p' ∷ tab ∷ '9' ∷ []) (Paging 9) ∷
+    row ('a' ∷ tab ∷ 55 ∷ []) (Make (GoAway 7)) ∷
+    row ('b' ∷ tab ∷ '0' ∷ []) (Make (ComeBack 0)) ∷
     row ('f' ∷ tab ∷ 49 ∷ tab ∷ 49 ∷ []) (Make (FormatStart 1 1)) ∷
     row ('B' ∷ tab ∷ 54 ∷ tab ∷ 49 ∷ []) (Damaging (Field 6 1)) ∷
     row ('K' ∷ tab ∷ 55 ∷ tab ∷ 50 ∷ tab ∷ '0' ∷ tab ∷ '9' ∷ tab ∷ 53 ∷ []) (Damaging (Worker 7 2 0 9 5)) ∷
     row ('S' ∷ []) (Make Step) ∷
+    -- No number, and two.
+    row ('a' ∷ []) Unknown ∷
+    row ('b' ∷ []) Unknown ∷
+    row ('a' ∷ tab ∷ 55 ∷ tab ∷ '0' ∷ []) Unknown ∷
+    row ('b' ∷ tab ∷ 55 ∷ tab ∷ '0' ∷ []) Unknown ∷
     -- Four numbers, and six.
     row ('K' ∷ tab ∷ 55 ∷ tab ∷ 50 ∷ tab ∷ '0' ∷ tab ∷ '9' ∷ []) Unknown ∷
     row ('K' ∷ tab ∷ 55 ∷ tab ∷ 50 ∷ tab ∷ '0' ∷ tab ∷ '9' ∷ tab ∷ 53 ∷ tab ∷ 53 ∷ []) Unknown ∷
@@ -79,8 +86,12 @@ pub damages-mean : map (λ (e : Example). meaning Fault (e .text)) damages ≡ m
 unfolding fields allDigits valueAfter isNumber allNumbers drilled damaging formed meaning
 damages-mean = refl
 
--- The drill knows none of them.
-pub damages-unknown : meaning Drill ('T' ∷ []) ∷ meaning Drill ('p' ∷ tab ∷ '9' ∷ []) ∷ meaning Drill ('f' ∷ tab ∷ 49 ∷ tab ∷ 49 ∷ []) ∷ [] ≡ Unknown ∷ Unknown ∷ Unknown ∷ []
+-- Neither the drill nor the page program knows any of them.
+abbrev pub undrilled : List (List ℕ)
+undrilled =
+    ('T' ∷ []) ∷ ('p' ∷ tab ∷ '9' ∷ []) ∷ ('a' ∷ tab ∷ 55 ∷ []) ∷ ('b' ∷ tab ∷ '0' ∷ []) ∷ ('f' ∷ tab ∷ 49 ∷ tab ∷ 49 ∷ []) ∷ []
+
+pub damages-unknown : map (meaning Drill) undrilled ++ map (meaning Page) undrilled ≡ replicate 10 Unknown
 unfolding fields allDigits valueAfter isNumber allNumbers drilled damaging formed meaning
 damages-unknown = refl
 

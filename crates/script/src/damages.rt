@@ -20,12 +20,18 @@ fn with_none(letter: u8) -> Line
     }
 }
 
-// "p room".
+// "p room", "a w", "b w".
 fn with_one(letter: u8, a: u64) -> Line
     ensures { λ r. ⌜ r ≡ damaging letter (a ∷ []) ⌝ }
 {
     match letter {
         b'p' => Line::Page { room: a },
+        b'a' => Line::Make {
+            call: Call::GoAway { worker: a },
+        },
+        b'b' => Line::Make {
+            call: Call::ComeBack { worker: a },
+        },
         _ => Line::Unknown,
     }
 }

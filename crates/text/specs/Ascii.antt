@@ -73,6 +73,12 @@ abbrev pub 'W' : ℕ
 abbrev pub 'X' : ℕ
 'X' = 88
 
+abbrev pub 'a' : ℕ
+'a' = 97
+
+abbrev pub 'b' : ℕ
+'b' = 98
+
 abbrev pub 'f' : ℕ
 'f' = 102
 

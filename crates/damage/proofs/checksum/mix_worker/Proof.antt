@@ -12,5 +12,8 @@ returns-2 c = rw (c .before .enum-told2 .given .1) (c .mix-four2 .ensures)
 returns-3 : tie.Need-returns-3
 returns-3 c = rw (c .before .before .before .condition .given .1, ← c .before .store-number .ensures) (c .mix-four3 .ensures)
 
+returns-4 : tie.Need-returns-4
+returns-4 c = rw (c .before .enum-told3 .given .1) (c .mix-four4 .ensures)
+
 pub mix-worker-spec : {M : Type 1} → statement M
-mix-worker-spec = tie.close (tie.spec (search needs) (search needs) (search needs) (search needs) (search needs) (search needs) (search needs) (search needs) returns returns-2 returns-3)
+mix-worker-spec = tie.close (tie.spec (search needs) (search needs) (search needs) (search needs) (search needs) (search needs) (search needs) (search needs) (search needs) (search needs) returns returns-2 returns-3 returns-4)

@@ -23,7 +23,11 @@ returns-4 c = rw (c .before .match .keys3) (simp (le-leb _ _ (c .if1 .left)))
 
 returns-5 : tie.Need-returns-5
 unfolding conditionFits
-returns-5 c = simp (ne-eqb _ _ (c .match .rest .0 .0 .1), ne-eqb _ _ (c .match .rest .0 .1), ne-eqb _ _ (c .match .rest .1))
+returns-5 c = rw (c .before .match .keys4) (c .unused3 .ensures)
+
+returns-6 : tie.Need-returns-6
+unfolding conditionFits
+returns-6 c = simp (ne-eqb _ _ (c .match .rest .0 .0 .0 .1), ne-eqb _ _ (c .match .rest .0 .0 .1), ne-eqb _ _ (c .match .rest .0 .1), ne-eqb _ _ (c .match .rest .1))
 
 pub condition-fits-spec : {M : Type 1} → statement M
-condition-fits-spec = tie.close (tie.spec (search needs) (search needs) returns returns-2 returns-3 returns-4 returns-5)
+condition-fits-spec = tie.close (tie.spec (search needs) (search needs) returns (search needs) returns-2 returns-3 returns-4 returns-5 returns-6)
