@@ -42,7 +42,7 @@ draw-requires-2 c κs = omega arith
 loop-again : tie.Need-loop-again Inv-loop μ-loop
 loop-again c =
     ⊎-elim (λ w. omega (arith, ap length (w .6)))
-    (⊎-elim (λ w. omega (arith, ap length (w .2))) (λ w. omega (arith, ap length (w .1))))
+    (⊎-elim (λ w. omega (arith, ap length (w .1))) (λ w. omega (arith, ap length (w .1))))
     (c .before .match .came)
 
 loop-again-2 : tie.Need-loop-again-2 Inv-loop μ-loop
@@ -53,5 +53,5 @@ play-spec =
     tie.close
     (tie.spec Inv-loop μ-loop (search needs) (search needs) mul-left (search needs) loop-holds
     (search needs) (search needs) (search needs) (search needs) add-k (search needs)
-    unmark-requires (search needs) draw-requires-2 (search needs) loop-again (search needs)
+    unmark-requires draw-requires-2 (search needs) loop-again (search needs)
     loop-again-2 (search needs) (search needs) (search needs) (search needs))
