@@ -112,7 +112,7 @@ noLine s l = ltb (s .lines) l
 abbrev pub busy : State → ℕ → Bool
 busy s w = not (isFree (conditionOf s w))
 
--- "advance of one free or waiting".
+-- "advance of one free or waiting", or away.
 abbrev pub idle : State → ℕ → Bool
 idle s w = not (isUpdating (conditionOf s w))
 

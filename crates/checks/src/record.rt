@@ -98,7 +98,7 @@ pub fn busy(state: State, worker: u64) -> bool
     !workers::is_free(workers::condition_of(state, worker))
 }
 
-// "advance of one free or waiting"
+// "advance of one free or waiting", or away
 pub fn idle(state: State, worker: u64) -> bool
     ensures { λ r. ⌜ r ≡ idle state worker ⌝ }
 {

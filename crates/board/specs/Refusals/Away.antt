@@ -76,7 +76,7 @@ comeTaken =
 
 -- ---- every other call
 
--- "Away is neither free nor updating": cause 8 of update (9 stands too), restart point (9 too) and advance, though the list be full.
+-- A worker that is away is neither free nor in an update: cause 8 of update (9 stands too), restart point (9 too) and advance, though the list be full.
 abbrev pub awayBusy : List Case
 awayBusy =
     gives 8 (Update 1 2 7) (updating 0 2 (worker 1 Away (sound Running 2 2)))
