@@ -2,6 +2,7 @@
 pub mod Format
 pub mod Recovery
 pub mod Workers
+pub mod Others
 pub mod Table
 pub mod Starts
 pub mod Opens

@@ -3,7 +3,8 @@ use Prim.Native.Nat.{ℕ, suc, _+_, _*_, _/_, _≤_, _<_}
 use mathlib.Core.Path.{_≡_}
 use mathlib.Core.Logic.{_⊎_, _↔_}
 use mathlib.Core.List.{List, _∷_, _++_, List·Memᴰ}
-use mathlib.Core.Bool.{true, false}
+use mathlib.Core.Bool.{Bool, true, false}
+use lib.Dec.{eqb}
 use lib.ListN.{length, getD, replicate}
 use Rattle.line.specs.declared.Field.{Field}
 use Rattle.line.specs.Line.{lineStart}
@@ -15,11 +16,11 @@ use Rattle.board.specs.declared.Phase.{Phase}
 use Rattle.board.specs.declared.Phase.the-variants.{Formatting, Recovering, Running}
 use Rattle.board.specs.declared.UndoStep.the-variants.{Restore}
 use Rattle.board.specs.declared.Call.{Call}
-use Rattle.board.specs.declared.Call.the-variants.{FormatStart, RecoveryStart, Step, Advance, Request, GoAway, ComeBack}
+use Rattle.board.specs.declared.Call.the-variants.{FormatStart, RecoveryStart, Step, Update, RestartPoint, Advance, Request, WriteBack, Read, GoAway, ComeBack}
 use Rattle.board.specs.Board.{Board}
 use Rattle.board.specs.State.{conditionOf}
 use Rattle.board.specs.Causes.{Cause, causes, cause}
-use Rattle.board.specs.Next.{next, Taken}
+use Rattle.board.specs.Next.{next, Taken, kind, isStart}
 use Rattle.board.specs.Statements.{stepsFrom, KeepsAway}
 
 -- ---- 1. format
@@ -222,3 +223,23 @@ GoesAway = (w : ℕ) (b : Board) → length (b .state .worker) ≡ 8 → Taken (
 -- 02: "and come back free".
 abbrev pub ComesBack : Type 0
 ComesBack = (w : ℕ) (b : Board) → Taken (ComeBack w) b → OnlyWorker w Free b (next (ComeBack w) b)
+
+-- The call names worker `i`.
+abbrev pub names : Call → ℕ → Bool
+names (FormatStart l w) i = false
+names RecoveryStart i = false
+names Step i = false
+names (Update w c v) i = eqb i w
+names (RestartPoint w v) i = eqb i w
+names (Advance w) i = eqb i w
+names Request i = false
+names (WriteBack l) i = false
+names (Read c) i = false
+names (GoAway w) i = eqb i w
+names (ComeBack w) i = eqb i w
+
+-- A taken call of a running board leaves every worker that it does not name in its condition, so one that is away stays away until it comes back; but for the two starts (6) and the release (3).
+abbrev pub OthersStay : Type 0
+OthersStay =
+    (k : Call) (b : Board) → b .state .phase ≡ Running → Taken k b → isStart (kind k) ≡ false → (k ≡ Step → b .state .place ≡ b .state .listed + 2 → ⊥) →
+    (i : ℕ) → names k i ≡ false → conditionOf (next k b .state) i ≡ conditionOf (b .state) i

@@ -1,8 +1,9 @@
 -- THE THEOREMS about single calls: every statement of `specs/Steps.antt`, proved.
-use Rattle.board.specs.Steps.{FormatWrites, RecoveryWrites, Releases, LastStore, TableBothWays, FormatStarts, FormatBegins, RecoveryBegins, Requests, FormatOpens, RecoveryOpens, GoesAway, ComesBack}
+use Rattle.board.specs.Steps.{FormatWrites, RecoveryWrites, Releases, LastStore, TableBothWays, FormatStarts, FormatBegins, RecoveryBegins, Requests, FormatOpens, RecoveryOpens, GoesAway, ComesBack, OthersStay}
 use Rattle.board.proofs.Steps.Format
 use Rattle.board.proofs.Steps.Recovery
 use Rattle.board.proofs.Steps.Workers
+use Rattle.board.proofs.Steps.Others
 use Rattle.board.proofs.Steps.Table
 use Rattle.board.proofs.Steps.Starts
 use Rattle.board.proofs.Steps.Opens
@@ -47,9 +48,12 @@ format-opens = Opens.format-opens
 pub recovery-opens : RecoveryOpens
 recovery-opens = Opens.recovery-opens
 
--- 8. Going away and coming back change that worker's condition and nothing else.
+-- 8. Going away and coming back change that worker's condition and nothing else; every call leaves the workers that it does not name in theirs.
 pub goes-away : GoesAway
 goes-away = Workers.goes-away
 
 pub comes-back : ComesBack
 comes-back = Workers.comes-back
+
+pub others-stay : OthersStay
+others-stay = Others.others-stay

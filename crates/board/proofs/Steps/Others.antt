@@ -1,0 +1,103 @@
+-- A call of a running board leaves every worker that it does not name in its condition.
+use Prim.Native.Nat.{ℕ, _+_, _≤_}
+use mathlib.Core.Path.{_≡_, refl, sym, ap, subst, _∙_}
+use mathlib.Core.Bool.{true, false, _&&_, true≢false}
+use native.Mathlib.Omega.{arith}
+use native.Mathlib.Decide.{ℕ-discrete, decLt}
+use lib.Dec.{ltb, eqb}
+use borrow.Author.Tests.{ltb-false, eqb-false}
+use Rattle.board.specs.declared.State.{State}
+use Rattle.board.specs.declared.Condition.{Condition}
+use Rattle.board.specs.declared.Condition.the-variants.{Free, Waiting, Updating, Away}
+use Rattle.board.specs.declared.Store.{Store}
+use Rattle.board.specs.declared.Store.the-variants.{Backup, Mark, Record}
+use Rattle.board.specs.declared.Phase.{Phase}
+use Rattle.board.specs.declared.Phase.the-variants.{Running}
+use Rattle.board.specs.declared.Call.{Call}
+use Rattle.board.specs.declared.Call.the-variants.{FormatStart, RecoveryStart, Step, Update, RestartPoint, Advance, Request, WriteBack, Read, GoAway, ComeBack}
+use Rattle.board.specs.Board.{Board}
+use Rattle.board.specs.State.{conditionOf}
+use Rattle.board.specs.Causes.{causes, placePast}
+use Rattle.board.specs.Effects.{Act, writeLine, storeEpoch, writeHeader, actAt, performAct, firstStore, afterLast, advance, advanceOf, effect}
+use Rattle.board.specs.Next.{Taken, kind, isStart}
+use Rattle.board.specs.Steps.{names, OthersStay}
+use Rattle.board.proofs.Laws.Bools.{and-not}
+use Rattle.board.proofs.Laws.Taken.{standsAt, passed, taken-next, workers-in, record-within}
+use Rattle.board.proofs.Laws.Workers.{condition-other}
+use Rattle.board.proofs.Checkpoint.Acts.{act-line, act-epoch, act-header, effect-acts, step-ready}
+
+-- ---- a checkpoint's step
+
+-- A taken step of a running board is at most at the release.
+step-within : (b : Board) → b .state .phase ≡ Running → Taken Step b → b .state .place ≤ b .state .listed + 2
+unfolding standsAt causes
+step-within b e t =
+    let s = b .state in
+    let fine = record-within s (passed Step b t 3) in
+    let on = step-ready b e (workers-in (s .lines) (s .workers) (fine .1) .1) t .0 in
+    ltb-false (s .listed + 2) (s .place) (and-not (s .requested) (ltb (s .listed + 2) (s .place)) (subst (λ (p : Phase). placePast p s ≡ false) e (fine .2)) on)
+
+-- Before the release a step keeps the workers.
+step-keeps : (b : Board) → b .state .phase ≡ Running → Taken Step b → (b .state .place ≡ b .state .listed + 2 → ⊥) → (i : ℕ) → conditionOf (effect Step b .state) i ≡ conditionOf (b .state) i
+unfolding performAct
+step-keeps b e t o i =
+    ap (λ (d : Board). conditionOf (d .state) i) (effect-acts b e)
+    ∙ elim (decLt place n) [
+      | yes h ↦ does writeLine (act-line n place h) refl
+      | no k ↦
+          elim (ℕ-discrete place n) [
+            | yes h ↦ does storeEpoch (act-epoch n place h) refl
+            | no l ↦ does writeHeader (act-header n place (omega (arith, step-within b e t))) refl
+          ]
+    ]
+  where
+    n : ℕ
+    n = b .state .listed
+
+    place : ℕ
+    place = b .state .place
+
+    does : (act : Act) → actAt n place ≡ act → conditionOf (performAct act (b .state) b .state) i ≡ conditionOf (b .state) i → conditionOf (performAct (actAt n place) (b .state) b .state) i ≡ conditionOf (b .state) i
+    does act p q = ap (λ (a : Act). conditionOf (performAct a (b .state) b .state) i) p ∙ q
+
+-- ---- calls of a worker
+
+-- An advance by its next store.
+advance-keeps : (n : Store) (w c v : ℕ) (b : Board) (i : ℕ) → (w ≡ i → ⊥) → conditionOf (advance n w c v (b .state) b .state) i ≡ conditionOf (b .state) i
+unfolding advance
+advance-keeps Backup w c v b i o = condition-other (b .state) w (Updating Mark c v) i o
+advance-keeps Mark w c v b i o = condition-other (b .state) w (Updating Record c v) i o
+advance-keeps Record w c v b i o = condition-other (b .state) w (afterLast (b .state) c) i o
+
+-- An advance of a worker in any condition.
+advances-keep : (k : Condition) (w : ℕ) (b : Board) (i : ℕ) → (w ≡ i → ⊥) → conditionOf (advanceOf k w (b .state) b .state) i ≡ conditionOf (b .state) i
+unfolding advanceOf
+advances-keep Free w b i o = refl
+advances-keep Waiting w b i o = refl
+advances-keep (Updating n c v) w b i o = advance-keeps n w c v b i o
+advances-keep Away w b i o = refl
+
+-- ---- every call
+
+-- A worker that is not named is another one.
+unnamed : (i w : ℕ) → eqb i w ≡ false → w ≡ i → ⊥
+unnamed i w e p = eqb-false i w e (sym p)
+
+-- What a taken call does to a worker that it does not name.
+effect-keeps : (k : Call) (b : Board) → b .state .phase ≡ Running → Taken k b → isStart (kind k) ≡ false → (k ≡ Step → b .state .place ≡ b .state .listed + 2 → ⊥) → (i : ℕ) → names k i ≡ false → conditionOf (effect k b .state) i ≡ conditionOf (b .state) i
+unfolding effect
+effect-keeps (FormatStart l w) b e t s o i n = absurd (true≢false s)
+effect-keeps RecoveryStart b e t s o i n = absurd (true≢false s)
+effect-keeps Step b e t s o i n = step-keeps b e t (o refl) i
+effect-keeps (Update w c v) b e t s o i n = condition-other (b .state) w (Updating (firstStore (b .cache) c) c v) i (unnamed i w n)
+effect-keeps (RestartPoint w v) b e t s o i n = condition-other (b .state) w (Updating (firstStore (b .cache) w) w v) i (unnamed i w n)
+effect-keeps (Advance w) b e t s o i n = advances-keep (conditionOf (b .state) w) w b i (unnamed i w n)
+effect-keeps Request b e t s o i n = refl
+effect-keeps (WriteBack l) b e t s o i n = refl
+effect-keeps (Read c) b e t s o i n = refl
+effect-keeps (GoAway w) b e t s o i n = condition-other (b .state) w Away i (unnamed i w n)
+effect-keeps (ComeBack w) b e t s o i n = condition-other (b .state) w Free i (unnamed i w n)
+
+-- A call leaves the others in their conditions.
+pub others-stay : OthersStay
+others-stay k b e t s o i n = ap (λ (d : Board). conditionOf (d .state) i) (taken-next k b t) ∙ effect-keeps k b e t s o i n
