@@ -1,7 +1,7 @@
 -- THE THEOREMS: every statement of `specs/Statements.antt`, proved. DEMAND 3 is `demand3`.
 use Prim.Native.Nat.{ℕ, _+_, _<_}
 use mathlib.Core.Path.{_≡_, refl, sym, ap, subst, _∙_}
-use mathlib.Core.Logic.{_⊎_, inl, inr}
+use mathlib.Core.Logic.{inl, inr}
 use mathlib.Core.Bool.{Bool, true, false, cond, not, true≢false}
 use native.Mathlib.Omega.{arith}
 use borrow.Author.Tests.{leb-false, eqb-true, eqb-false}
@@ -11,16 +11,16 @@ use Rattle.board.specs.declared.Call.the-variants.{FormatStart, Recovery
 use Rattle.board.specs.Board.{Board, cells, epochOf, linesOf, workersOf}
 use Rattle.board.specs.State.{isRunning, isFormatting}
 use Rattle.board.specs.Causes.{causes}
-use Rattle.board.specs.Next.{Taken, next, valueRead, valueOf, Performed}
+use Rattle.board.specs.Next.{Taken, next, valueOf}
 use Rattle.board.specs.Machine.{Machine, beginning, formatSteps}
 use Rattle.board.specs.Sequence.{Begins, formatted, Run, cutRun, cuts, History, begun, further, rose, lastCheckpoint, recoverySteps}
 use Rattle.board.specs.Statements
-use Rattle.board.specs.Statements.{Reads, ReadsCheckpointed, Recovered, Recovery, CutAndRecovered, ReadAlike, Demand3, LastCheckpoint, OwnSizes, RecoveredSizes, Completes, formatStepIn, Completion, stepsFrom, FormatEnds, RecoveryEnds, CheckpointEnds, AwayHoldsUpNone, GoesAndComes, RecoveryStarts, HistoryBegins, HasRecovery, UpdateEnds, SingleStores, Spare, SpareWords}
+use Rattle.board.specs.Statements.{Reads, ReadsCheckpointed, Recovery, CutAndRecovered, ReadAlike, Demand3, LastCheckpoint, RecoveredSizes, Completes, formatStepIn, Completion, stepsFrom, FormatEnds, RecoveryEnds, CheckpointEnds, AwayHoldsUpNone, GoesAndComes, RecoveryStarts, HistoryBegins, HasRecovery, UpdateEnds, SingleStores, Spare, SpareWords}
 use Rattle.board.proofs.Laws.Bools.{on, not-off}
 use Rattle.board.proofs.Invariant.{Inv}
 use Rattle.board.proofs.Laws.Taken.{standsAt, passed, performed-number, performed-value, performed-taken, performing}
 use Rattle.board.proofs.Laws.Takes.{all-takes}
-use Rattle.board.proofs.Laws.Reading.{in-phase, read-taken, read-current}
+use Rattle.board.proofs.Laws.Reading.{in-phase, read-current}
 use Rattle.board.proofs.Checkpoint.Run.{is-running}
 use Rattle.board.proofs.Keeps.Every.{carried, history-inv}
 use Rattle.board.proofs.Keeps.Away

@@ -1,15 +1,14 @@
 -- An update that is started ends: its advances are taken, undisturbed, and then a read gives its value.
-use Prim.Native.Nat.{ℕ, zero, suc, _+_, _-_, _<_}
+use Prim.Native.Nat.{ℕ, suc, _-_, _<_}
 use mathlib.Core.Path.{_≡_, refl, sym, ap, subst, _∙_}
-use mathlib.Core.List.{List}
-use mathlib.Core.Bool.{Bool, true, false, cond, not, _&&_, _||_}
+use mathlib.Core.Bool.{Bool, true, false, cond, _&&_, _||_}
 use native.Mathlib.Omega.{arith}
-use lib.Dec.{leb, ltb, eqb}
+use lib.Dec.{ltb, eqb}
 use lib.ListN.{length}
-use borrow.Author.Tests.{leb-false, lt-leb, ne-eqb}
+use borrow.Author.Tests.{lt-leb, ne-eqb}
 use Rattle.board.specs.declared.State.{State}
 use Rattle.board.specs.declared.Condition.{Condition}
-use Rattle.board.specs.declared.Condition.the-variants.{Free, Waiting, Updating, Away}
+use Rattle.board.specs.declared.Condition.the-variants.{Free, Waiting, Updating}
 use Rattle.board.specs.declared.Store.{Store}
 use Rattle.board.specs.declared.Store.the-variants.{Backup, Mark, Record}
 use Rattle.board.specs.declared.Phase.the-variants.{Running}
@@ -20,16 +19,15 @@ use Rattle.board.specs.State.{conditionOf, isFree, isWaiting, isUpdating
 use Rattle.board.specs.Causes.{causes, badRecord, badRows, listFull}
 use Rattle.board.specs.Effects.{logged, firstStore, noted, afterLast, advance, advanceOf, effect}
 use Rattle.board.specs.Next.{Taken, next, valueOf, Performed}
-use Rattle.board.specs.Machine.{Machine, Unfinished, update, changed, countUnder, fewer, advanced, feed}
+use Rattle.board.specs.Machine.{Machine, Unfinished, update, changed, fewer, advanced, feed}
 use Rattle.board.specs.Sequence.{Run}
 use Rattle.board.specs.Statements.{Starts, updates, restarts, Advances, over, advances}
-use Rattle.board.proofs.Laws.Bools.{on, decide, or-none, and-off, and-off-right, and-both, not-on, not-off}
+use Rattle.board.proofs.Laws.Bools.{on, decide, or-none, and-off, not-on}
 use Rattle.board.proofs.Laws.Taken.{standsAt, passed, Clear, take, taken-next, performed-taken, performing, rows-fine, workers-in, afterTaken}
 use Rattle.board.proofs.Laws.Count.{changed-at, count-most, count-more}
 use Rattle.board.proofs.Laws.Reading.{running-record, read-taken, read-current}
 use Rattle.board.proofs.Laws.View.{view-mark}
-use Rattle.board.proofs.Invariant.{Inv, WorkerInv, RunningInv}
-use Rattle.board.proofs.Checkpoint.Run.{is-running, running-run}
+use Rattle.board.proofs.Invariant.{Inv, WorkerInv}
 use Rattle.board.proofs.Laws.Workers.{condition-at}
 use Rattle.board.proofs.Keeps.OneCell.{Ready, ready}
 use Rattle.board.proofs.Keeps.Update.{keeps-update, keeps-restart, marked-logged, update-cell, restart-cell}

@@ -4,7 +4,7 @@ use mathlib.Core.Path.{_≡_, ap, _∙_}
 use mathlib.Core.Bool.{true, false, cond, not, _&&_, _||_}
 use native.Mathlib.Omega.{arith}
 use lib.Dec.{ltb, eqb}
-use borrow.Author.Tests.{lt-ltb, le-ltb, eq-eqb, ne-eqb}
+use borrow.Author.Tests.{ltb-true, ltb-false, eqb-true, eqb-false, lt-ltb, le-ltb, eq-eqb, ne-eqb}
 use Rattle.board.specs.declared.Phase.{Phase}
 use Rattle.board.specs.declared.Phase.the-variants.{Running}
 use Rattle.board.specs.declared.Call.the-variants.{Step}
@@ -14,7 +14,7 @@ use Rattle.board.specs.Causes.{causes}
 use Rattle.board.specs.Effects.{Act, writeLine, storeEpoch, writeHeader, release, actAt, performAct, step, effect}
 use Rattle.board.specs.Machine.{Machine, markedCount, counted, completed, dropped, checkpointStep, stepped, beginning, finishesFormat, feed}
 use Rattle.board.specs.Sequence.{Run}
-use Rattle.board.proofs.Laws.Bools.{chosen, passedOver, or-left, or-right, and-not, and-off-right, not-off, not-on, none-under}
+use Rattle.board.proofs.Laws.Bools.{on, chosen, passedOver, or-left, or-right, and-not, and-off-right, not-off, not-on, none-under}
 use Rattle.board.proofs.Invariant.{AllQuiescent}
 use Rattle.board.proofs.Laws.Taken.{standsAt, passed, afterTaken}
 use Rattle.board.specs.Next.{Taken}
@@ -48,6 +48,15 @@ act-header n place e = act-after n place (omega arith) ∙ chosen (eqb place (n 
 pub act-release : (n place : ℕ) → place ≡ n + 2 → actAt n place ≡ release
 act-release n place e =
     act-after n place (omega arith) ∙ passedOver (eqb place (n + 1)) writeHeader release (ne-eqb place (n + 1) (λ q. omega arith))
+
+-- What holds of the act that comes at a place, by where the place is.
+pub act-cases : (P : Act → Type 0) (n place : ℕ) → (place < n → P writeLine) → (place ≡ n → P storeEpoch) → (place ≡ n + 1 → P writeHeader) → (n + 2 ≤ place → P release) → P (actAt n place)
+unfolding actAt
+act-cases P n place line epoch header rest =
+    on P (ltb place n) writeLine _ (λ t. line (ltb-true place n t))
+    (λ f. on P (eqb place n) storeEpoch _ (λ t. epoch (eqb-true place n t))
+    (λ g. on P (eqb place (n + 1)) writeHeader release (λ t. header (eqb-true place (n + 1) t))
+    (λ h. rest (omega (arith, ltb-false place n f, eqb-false place n g, eqb-false place (n + 1) h)))))
 
 -- ---- the machine's step
 

@@ -5,11 +5,10 @@ use mathlib.Core.Logic.{_⊎_, inl, inr}
 use mathlib.Core.List.{List}
 use mathlib.Core.Bool.{Bool, true, false, not, _&&_, _||_, false≢true}
 use native.Mathlib.Omega.{arith}
-use native.Mathlib.Decide.{ℕ-discrete, decLt}
+use native.Mathlib.Decide.{decLt}
 use lib.Dec.{leb, ltb, eqb}
 use lib.ListN.{getD, set}
 use borrow.Author.Tests.{ltb-true, eqb-true, le-ltb, lt-leb, ne-eqb}
-use Rattle.line.specs.Cell.{cellLine}
 use Rattle.board.specs.declared.State.{State}
 use Rattle.board.specs.declared.Worker.{Worker}
 use Rattle.board.specs.declared.Condition.{Condition}
@@ -20,9 +19,9 @@ use Rattle.board.specs.declared.Call.the-variants.{Step}
 use Rattle.board.specs.Board.{Board, cells, workersOutside, epochOf, lastEpoch}
 use Rattle.board.specs.State.{conditionOf, isOff, isRunning, quiescent, updates, anyWorker, placed, released}
 use Rattle.board.specs.Causes.{causes, placePast, badRows, checkpointing, badEntry, epochSpent}
-use Rattle.board.specs.Effects.{writtenBack, stated, Act, writeLine, storeEpoch, writeHeader, release, actAt, performAct}
+use Rattle.board.specs.Effects.{writtenBack, stated, Act, release, actAt, listedLine, performAct}
 use Rattle.board.specs.Next.{next, Taken}
-use Rattle.board.specs.Machine.{Machine, countUnder}
+use Rattle.board.specs.Machine.{Machine}
 use Rattle.board.specs.Sequence.{Run}
 use Rattle.board.specs.Statements.{AllWaitOrAway, KeepsAway, stepsFrom, AllTaken, EndsIn}
 use Rattle.board.proofs.Laws.Bools.{or-none, and-right, and-off-right, and-if, not-on}
@@ -35,7 +34,7 @@ use Rattle.board.proofs.Laws.Workers.{released-away}
 use Rattle.board.proofs.Laws.Idle.{ends-more}
 use Rattle.board.proofs.Laws.Reading.{place-in}
 use Rattle.board.proofs.Checkpoint.Run.{is-running, running-run}
-use Rattle.board.proofs.Checkpoint.Acts.{act-line, act-epoch, act-header, act-release, effect-acts}
+use Rattle.board.proofs.Checkpoint.Acts.{act-cases, act-release, effect-acts}
 
 -- What a step of a requested checkpoint needs to be taken, and the next one after it.
 record Ready (l : ℕ) (b : Board) : Type 0 where
@@ -126,16 +125,11 @@ goes-on b y h memory cache zm zc room =
 ready-acts : {l : ℕ} (b : Board) → Ready l b → b .state .place < b .state .listed + 2 → Follows l b (performAct (actAt (b .state .listed) (b .state .place)) (b .state) b)
 unfolding performAct
 ready-acts {l} b y h =
-    elim (decLt place n) [
-      | yes p ↦
-          let c = getD (b .entries) place 0 in
-          does writeLine (act-line n place p) (goes-on b y h (writtenBack (cellLine c) b) (b .cache) (sized-back (b .memory) (b .cache) (z .memory) (z .cache) (cellLine c) (cell-line l c (y .entries place p))) (z .cache) (λ q. y .epoch (omega arith)))
-      | no o ↦
-          elim (ℕ-discrete place n) [
-            | yes p ↦ does storeEpoch (act-epoch n place p) (goes-on b y h (b .memory) (set (b .cache) 0 (epochOf (b .cache) + 1)) (z .memory) (sized-set (b .cache) (epochOf (b .cache) + 1) (z .cache)) (λ q. absurd (omega arith)))
-            | no k ↦ does writeHeader (act-header n place (omega arith)) (goes-on b y h (writtenBack 0 b) (b .cache) (sized-back (b .memory) (b .cache) (z .memory) (z .cache) 0 (omega arith)) (z .cache) (λ q. absurd (omega arith)))
-          ]
-    ]
+    act-cases (λ (a : Act). Follows l b (performAct a (b .state) b)) n place
+    (λ p. goes-on b y h (writtenBack (listedLine place (b .entries)) b) (b .cache) (sized-back (b .memory) (b .cache) (z .memory) (z .cache) (listedLine place (b .entries)) (cell-line l (getD (b .entries) place 0) (y .entries place p))) (z .cache) (λ q. y .epoch (omega arith)))
+    (λ p. goes-on b y h (b .memory) (set (b .cache) 0 (epochOf (b .cache) + 1)) (z .memory) (sized-set (b .cache) (epochOf (b .cache) + 1) (z .cache)) (λ q. absurd (omega arith)))
+    (λ p. goes-on b y h (writtenBack 0 b) (b .cache) (sized-back (b .memory) (b .cache) (z .memory) (z .cache) 0 (omega arith)) (z .cache) (λ q. absurd (omega arith)))
+    (λ p. absurd (omega arith))
   where
     n : ℕ
     n = b .state .listed
@@ -145,9 +139,6 @@ ready-acts {l} b y h =
 
     z : Sizes l b
     z = y .sizes
-
-    does : (act : Act) → actAt n place ≡ act → Follows l b (performAct act (b .state) b) → Follows l b (performAct (actAt n place) (b .state) b)
-    does act e f = subst (λ (a : Act). Follows l b (performAct a (b .state) b)) (sym e) f
 
 -- The steps from board `b` end, and leave those away that were.
 abbrev Ends : ℕ → Board → Type 0

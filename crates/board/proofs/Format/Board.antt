@@ -22,7 +22,7 @@ use Rattle.board.specs.Statements.{Spare}
 use Rattle.board.proofs.Laws.Bools.{chosen, passedOver, or-left, or-right, not-off, clash}
 use Rattle.board.proofs.Laws.View.{View, view, Sized}
 use Rattle.board.proofs.Invariant.{Header, SameSizes, Kept, Zeroed, Sizes, Undoes, FormatInv, WorkerInv, Touches, progress, early, RunningInv}
-use Rattle.board.proofs.Laws.Taken.{standsAt, passed, workers-in}
+use Rattle.board.proofs.Laws.Taken.{standsAt, passed}
 use Rattle.board.proofs.Laws.Workers.{free-condition}
 use Rattle.board.proofs.Laws.Count.{count-none}
 use Rattle.board.proofs.Format.Rows.{zeros, zeroed-none, sized-erased, spare-erase, zeroed-erase, epoch-erase, word-header, sized-fresh, epoch-fresh, header-fresh, view-fresh, spare-fresh, undoes-fresh, kept-fresh}

@@ -13,7 +13,6 @@ use Rattle.board.specs.declared.Condition.{Condition}
 use Rattle.board.specs.declared.Condition.the-variants.{Free, Away}
 use Rattle.board.specs.declared.Phase.the-variants.{Running}
 use Rattle.board.specs.declared.Call.the-variants.{GoAway, ComeBack}
-use Rattle.board.specs.Board.{Board}
 use Rattle.board.specs.State.{conditionOf, conditioned, isFree, isAway, isRunning, quiescent}
 use Rattle.board.specs.Causes.{causes, notRunning, noWorker}
 use Rattle.board.specs.Effects.{stated, effect}

@@ -1,9 +1,8 @@
 -- A taken step of a requested checkpoint keeps the invariant, act by act.
-use Prim.Native.Nat.{ℕ, zero, suc, _+_, _≤_, _<_}
+use Prim.Native.Nat.{ℕ, _+_, _≤_, _<_}
 use mathlib.Core.Path.{_≡_, refl, sym, ap, subst, _∙_}
-use mathlib.Core.Logic.{inl}
 use mathlib.Core.List.{List}
-use mathlib.Core.Bool.{Bool, true, false, _&&_, false≢true}
+use mathlib.Core.Bool.{true, false, _&&_, false≢true}
 use native.Mathlib.Omega.{arith}
 use native.Mathlib.Decide.{ℕ-discrete, decLt}
 use lib.ListN.{getD, set}
@@ -16,9 +15,9 @@ use Rattle.board.specs.declared.Call.the-variants.{Step}
 use Rattle.board.specs.Board.{Board, cells, epochOf}
 use Rattle.board.specs.State.{conditionOf, quiescent, afterRelease, placed, released}
 use Rattle.board.specs.Effects.{writtenBack, cached, stated, Act, writeLine, storeEpoch, writeHeader, release, actAt, performAct}
-use Rattle.board.specs.Machine.{Unfinished, none, update, Machine, countUnder, counted, completed, dropped, checkpointStep}
+use Rattle.board.specs.Machine.{Unfinished, none, update, Machine, counted, completed, dropped, checkpointStep}
 use Rattle.board.specs.Sequence.{Run}
-use Rattle.board.proofs.Laws.Bools.{chosen, passedOver}
+use Rattle.board.proofs.Laws.Bools.{chosen}
 use Rattle.board.proofs.Laws.View.{View, view, Sized, cell-line, view-backed, view-header}
 use Rattle.board.proofs.Invariant.{AllQuiescent, Undo, WorkerInv, Touches, SameRecords, Early, Late, Stage, early, gap, late, RunningInv, Inv}
 use Rattle.board.proofs.Laws.Rows.{epoch-set, sized-set, header-set, spare-set, own-same, sizes-same, sizes-set}

@@ -1,8 +1,5 @@
 -- Whatever happens keeps the invariant and does to the last checkpoint what is claimed of it.
-use Prim.Native.Nat.{ℕ}
 use mathlib.Core.Path.{_≡_, refl, sym, ap, subst, _∙_}
-use mathlib.Core.Logic.{inl}
-use mathlib.Core.List.{List}
 use mathlib.Core.Bool.{Bool, true, false, cond, _&&_, true≢false, false≢true}
 use native.Mathlib.Omega.{arith}
 use lib.Dec.{eqb}
@@ -15,9 +12,9 @@ use Rattle.board.specs.Board.{Board}
 use Rattle.board.specs.State.{isOff, isFormatting}
 use Rattle.board.specs.Effects.{effect}
 use Rattle.board.specs.Next.{Taken, taken, kind, isStart, isStep}
-use Rattle.board.specs.Causes.{causes, cause}
+use Rattle.board.specs.Causes.{causes}
 use Rattle.board.specs.Machine.{feed}
-use Rattle.board.specs.Sequence.{Run, takenCall, unfed, called, Happens, performs, pages, cuts, History, begun, further}
+use Rattle.board.specs.Sequence.{Run, takenCall, unfed, Happens, performs, pages, cuts, History, begun, further}
 use Rattle.board.specs.Statements.{formatStepIn}
 use Rattle.board.proofs.Laws.Bools.{split, clash, decide}
 use Rattle.board.proofs.Invariant.{Inv}

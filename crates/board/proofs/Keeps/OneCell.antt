@@ -15,13 +15,12 @@ use Rattle.line.specs.Line.{lineStart}
 use Rattle.line.specs.Cell.{withField}
 use Rattle.line.proofs.Laws.{length-withField, header-withField, spare-withField}
 use Rattle.board.specs.declared.State.{State}
-use Rattle.board.specs.declared.Worker.{Worker}
 use Rattle.board.specs.declared.Condition.{Condition}
 use Rattle.board.specs.declared.Condition.the-variants.{Free, Waiting, Updating, Away}
 use Rattle.board.specs.declared.Phase.{Phase}
 use Rattle.board.specs.declared.Phase.the-variants.{Off, Formatting, Recovering, Running}
 use Rattle.board.specs.Board.{Board, cells, listWords, epochOf}
-use Rattle.board.specs.State.{freeWorker, conditionOf, conditioned, relisted, quiescent, isRunning}
+use Rattle.board.specs.State.{conditionOf, conditioned, relisted, quiescent, isRunning}
 use Rattle.board.specs.Causes.{noWorker, notRunning}
 use Rattle.board.specs.Machine.{Unfinished, Machine, changed, countUnder}
 use Rattle.board.specs.Sequence.{Run}

@@ -1,8 +1,8 @@
 -- A call that changes neither rows nor what the machine knows, and of the state record at most the workers' conditions: one law for all of them.
-use Prim.Native.Nat.{ℕ, _+_, _<_}
-use mathlib.Core.Path.{_≡_, refl, subst, sym, _∙_}
+use Prim.Native.Nat.{ℕ, _<_}
+use mathlib.Core.Path.{_≡_, refl, _∙_}
 use mathlib.Core.List.{List}
-use mathlib.Core.Bool.{Bool, true, false, not}
+use mathlib.Core.Bool.{Bool, false}
 use native.Mathlib.Omega.{arith}
 use lib.ListN.{length, getD}
 use Rattle.board.specs.declared.State.{State}
@@ -19,7 +19,7 @@ use Rattle.board.specs.Machine.{Machine, Unfinished, feed}
 use Rattle.board.specs.Sequence.{Run}
 use Rattle.board.proofs.Laws.Bools.{chosen, not-off}
 use Rattle.board.proofs.Laws.Taken.{standsAt, passed, afterTaken}
-use Rattle.board.proofs.Invariant.{AllQuiescent, WorkerInv, Touches, progress, Early, Stage, early, gap, late, RunningInv, Inv}
+use Rattle.board.proofs.Invariant.{AllQuiescent, WorkerInv, Touches, progress, Stage, early, gap, late, RunningInv, Inv}
 use Rattle.board.proofs.Checkpoint.Run.{Carried, quietly, is-running, running-run, inv-running}
 
 -- The record with other workers.

@@ -1,11 +1,10 @@
 -- A running board takes every read, and gives the machine's current value.
 use Prim.Native.Nat.{ℕ, _+_, _≤_, _<_}
 use mathlib.Core.Path.{_≡_, refl, sym, ap, subst, _∙_}
-use mathlib.Core.Bool.{Bool, true, false, cond, not, _&&_}
+use mathlib.Core.Bool.{true, false}
 use native.Mathlib.Omega.{arith}
 use lib.Dec.{leb, ltb}
-use lib.ListN.{length}
-use borrow.Author.Tests.{eq-eqb, le-ltb, lt-leb, leb-false}
+use borrow.Author.Tests.{eq-eqb, le-ltb, lt-leb}
 use Rattle.line.specs.Cell.{fieldOf}
 use Rattle.line.specs.declared.Field.{Field}
 use Rattle.board.specs.declared.State.{State}

@@ -1,25 +1,24 @@
 -- A taken call: no test of its rows of the cause table stands, each read by its number; and the other way round.
-use Prim.Native.Nat.{ℕ, zero, suc, _+_, _*_, _≤_, _<_}
+use Prim.Native.Nat.{ℕ, _≤_, _<_}
 use mathlib.Core.Path.{_≡_, refl, sym, ap, subst, _∙_}
 use mathlib.Core.List.{List, [], _∷_}
 use mathlib.Core.Bool.{Bool, true, false, cond, not, _&&_, _||_}
 use native.Mathlib.Omega.{arith}
 use lib.Dec.{leb, ltb, eqb}
 use lib.ListN.{length}
-use borrow.Author.Tests.{ltb-true, leb-true, leb-false, eqb-true, eq-eqb, ne-eqb, le-leb, lt-ltb, le-ltb, lt-leb}
+use borrow.Author.Tests.{ltb-true, leb-true, eq-eqb, ne-eqb, le-ltb}
 use Rattle.board.specs.declared.State.{State}
 use Rattle.board.specs.declared.Condition.{Condition}
 use Rattle.board.specs.declared.Call.{Call}
 use Rattle.board.specs.declared.Call.the-variants.{FormatStart, RecoveryStart, Step, Update, RestartPoint, Advance, Request, WriteBack, Read, GoAway, ComeBack}
 use Rattle.board.specs.Board.{Board, cells, rowWords, listWords, linesOutside, workersOutside, outside}
-use Rattle.board.specs.State.{conditionOf, updates, anyUnder, anyWorker}
+use Rattle.board.specs.State.{conditionOf, updates, anyWorker}
 use Rattle.board.specs.Causes.{Cause, causes, firstStanding, cause, badRecord, badRows, placePast, notOn, notRecoveringOrRunning, notRunning}
 use Rattle.board.specs.Effects.{effect}
 use Rattle.board.specs.Page.{PageOutcome, PagePerformed}
 use Rattle.board.specs.Sequence.{Run, takenCall}
 use Rattle.board.specs.Next.{Taken, taken, next, Kind, startsFormat, startsRecovery, stepping, writing, other, reading, kind, valueOf, Outcome, Performed}
-use Rattle.board.proofs.Laws.Bools.{split, chosen, passedOver, or-left, or-right, or-none, and-left, and-right, and-both, and-if, not-off, not-on, under-none}
-use Rattle.board.proofs.Laws.View.{Sized}
+use Rattle.board.proofs.Laws.Bools.{split, chosen, passedOver, or-left, or-right, or-none, and-left, and-right, and-if, not-off, not-on, under-none}
 use Rattle.board.proofs.Invariant.{Sizes}
 
 -- ---- a call's causes

@@ -1,15 +1,13 @@
 -- A recovery's step by cases, and what every state record of a recovery has.
-use Prim.Native.Nat.{ℕ, zero, suc, _+_, _-_, _/_, _%_, _≤_, _<_}
-use mathlib.Core.Path.{_≡_, refl, sym, ap, subst, _∙_}
-use mathlib.Core.List.{List}
+use Prim.Native.Nat.{ℕ, _+_, _-_, _/_, _%_, _≤_, _<_}
+use mathlib.Core.Path.{_≡_, refl, sym, subst}
 use mathlib.Core.Bool.{true, false, not, _&&_, _||_}
 use native.Mathlib.Omega.{arith}
 use lib.Dec.{leb, ltb, eqb}
-use lib.ListN.{length, getD, replicate}
+use lib.ListN.{length}
 use borrow.Author.Tests.{ltb-true, ltb-false, leb-true, eqb-true, eqb-false, le-leb}
 use Rattle.line.specs.Cell.{cellLine}
 use Rattle.board.specs.declared.State.{State}
-use Rattle.board.specs.declared.Worker.{Worker}
 use Rattle.board.specs.declared.Condition.the-variants.{Free}
 use Rattle.board.specs.declared.UndoStep.{UndoStep}
 use Rattle.board.specs.declared.UndoStep.the-variants.{Restore, Unmark, WriteLine}
@@ -17,7 +15,7 @@ use Rattle.board.specs.declared.Phase.{Phase}
 use Rattle.board.specs.declared.Phase.the-variants.{Recovering}
 use Rattle.board.specs.declared.Call.the-variants.{RecoveryStart, Step}
 use Rattle.board.specs.Board.{Board, cells, rowWords, listWords, linesOutside, workersOutside, epochOf, linesOf, workersOf, restNotZero}
-use Rattle.board.specs.State.{freeWorker, allFree, conditionOf, placed, opened}
+use Rattle.board.specs.State.{allFree, conditionOf, placed, opened}
 use Rattle.board.specs.Effects.{cached, stated, backed, logged, restored, unmarked, pastCell, recoveryStep, step, effect}
 use Rattle.board.specs.Causes.{causes}
 use Rattle.board.proofs.Laws.Bools.{on, or-left, or-right, and-left, and-right, and-both, not-off, not-on}

@@ -1,5 +1,5 @@
 -- What a request leaves, and the end of a format or recovery.
-use Prim.Native.Nat.{ℕ, _+_}
+use Prim.Native.Nat.{ℕ}
 use mathlib.Core.Path.{_≡_, refl, sym, ap, subst, _∙_}
 use native.Mathlib.Omega.{arith}
 use lib.Dec.{leb}
@@ -7,7 +7,7 @@ use lib.ListN.{length}
 use borrow.Author.Tests.{lt-leb}
 use Rattle.board.specs.declared.State.{State}
 use Rattle.board.specs.declared.Phase.{Phase}
-use Rattle.board.specs.declared.Phase.the-variants.{Formatting, Recovering}
+use Rattle.board.specs.declared.Phase.the-variants.{Recovering}
 use Rattle.board.specs.declared.Call.the-variants.{Request, Step}
 use Rattle.board.specs.Board.{Board}
 use Rattle.board.specs.State.{opened}

@@ -1,9 +1,8 @@
 -- A call of a running board leaves every worker that it does not name in its condition.
 use Prim.Native.Nat.{ℕ, _+_, _≤_}
 use mathlib.Core.Path.{_≡_, refl, sym, ap, subst, _∙_}
-use mathlib.Core.Bool.{true, false, _&&_, true≢false}
+use mathlib.Core.Bool.{false, true≢false}
 use native.Mathlib.Omega.{arith}
-use native.Mathlib.Decide.{ℕ-discrete, decLt}
 use lib.Dec.{ltb, eqb}
 use borrow.Author.Tests.{ltb-false, eqb-false}
 use Rattle.board.specs.declared.State.{State}
@@ -18,13 +17,13 @@ use Rattle.board.specs.declared.Call.the-variants.{FormatStart, Recovery
 use Rattle.board.specs.Board.{Board}
 use Rattle.board.specs.State.{conditionOf}
 use Rattle.board.specs.Causes.{causes, placePast}
-use Rattle.board.specs.Effects.{Act, writeLine, storeEpoch, writeHeader, actAt, performAct, firstStore, afterLast, advance, advanceOf, effect}
+use Rattle.board.specs.Effects.{Act, performAct, firstStore, afterLast, advance, advanceOf, effect}
 use Rattle.board.specs.Next.{Taken, kind, isStart}
 use Rattle.board.specs.Steps.{names, OthersStay}
 use Rattle.board.proofs.Laws.Bools.{and-not}
 use Rattle.board.proofs.Laws.Taken.{standsAt, passed, taken-next, workers-in, record-within}
 use Rattle.board.proofs.Laws.Workers.{condition-other}
-use Rattle.board.proofs.Checkpoint.Acts.{act-line, act-epoch, act-header, effect-acts, step-ready}
+use Rattle.board.proofs.Checkpoint.Acts.{act-cases, effect-acts, step-ready}
 
 -- ---- a checkpoint's step
 
@@ -42,23 +41,8 @@ step-keeps : (b : Board) → b .state .phase ≡ Running → Taken Step b → (b
 unfolding performAct
 step-keeps b e t o i =
     ap (λ (d : Board). conditionOf (d .state) i) (effect-acts b e)
-    ∙ elim (decLt place n) [
-      | yes h ↦ does writeLine (act-line n place h) refl
-      | no k ↦
-          elim (ℕ-discrete place n) [
-            | yes h ↦ does storeEpoch (act-epoch n place h) refl
-            | no l ↦ does writeHeader (act-header n place (omega (arith, step-within b e t))) refl
-          ]
-    ]
-  where
-    n : ℕ
-    n = b .state .listed
-
-    place : ℕ
-    place = b .state .place
-
-    does : (act : Act) → actAt n place ≡ act → conditionOf (performAct act (b .state) b .state) i ≡ conditionOf (b .state) i → conditionOf (performAct (actAt n place) (b .state) b .state) i ≡ conditionOf (b .state) i
-    does act p q = ap (λ (a : Act). conditionOf (performAct a (b .state) b .state) i) p ∙ q
+    ∙ act-cases (λ (a : Act). conditionOf (performAct a (b .state) b .state) i ≡ conditionOf (b .state) i) (b .state .listed) (b .state .place)
+    (λ h. refl) (λ h. refl) (λ h. refl) (λ h. absurd (o (omega (arith, step-within b e t))))
 
 -- ---- calls of a worker
 

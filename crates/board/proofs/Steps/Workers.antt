@@ -2,7 +2,7 @@
 use Prim.Native.Nat.{ℕ, _+_, _<_}
 use mathlib.Core.Path.{_≡_, refl, sym, ap, subst, _∙_}
 use mathlib.Core.Logic.{_↔_}
-use mathlib.Core.Bool.{true, false, _&&_, false≢true}
+use mathlib.Core.Bool.{true, _&&_, false≢true}
 use native.Mathlib.Omega.{arith}
 use lib.Dec.{ltb}
 use lib.ListN.{length, length-set}
@@ -13,7 +13,7 @@ use Rattle.board.specs.declared.Store.{Store}
 use Rattle.board.specs.declared.Phase.the-variants.{Running}
 use Rattle.board.specs.declared.Call.the-variants.{Step, Advance, GoAway, ComeBack}
 use Rattle.board.specs.Board.{Board}
-use Rattle.board.specs.State.{released, conditioned, conditionOf, isFree, isAway, isWaiting}
+use Rattle.board.specs.State.{released, conditioned, conditionOf, isAway, isWaiting}
 use Rattle.board.specs.Causes.{causes}
 use Rattle.board.specs.Effects.{Act, performAct, stated, afterLast, advance, advanceOf, effect}
 use Rattle.board.specs.Next.{next, Taken}
