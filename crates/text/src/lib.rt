@@ -1,6 +1,7 @@
 // Text written into a lent row of bytes: bytes, texts, and numbers in decimal. A row is written from `at` on and keeps all
 // other bytes.
 mod number;
+mod table;
 
 ghost use mathlib.Core.Path.{_≡_};
 ghost use mathlib.Core.List.{[], _∷_};
@@ -10,6 +11,7 @@ ghost use Rattle.text.specs.Ascii.{blank};
 ghost use Rattle.text.specs.Writing.{put, Put};
 pub use number::put_column;
 pub use number::put_number;
+pub use table::powers;
 
 // One byte, written at `at`. Gives where it ends.
 pub fn put_byte(out: &mut [u8], at: usize, byte: u8) -> usize

@@ -1,0 +1,11 @@
+-- Document 02, ticket 3, "a table of the powers of ten, 1 to 10^19".
+use Prim.Native.Nat.{ℕ, suc, _*_, _<_}
+use mathlib.Core.Path.{_≡_}
+use mathlib.Core.List.{List}
+use lib.ListN.{length, getD}
+
+-- "each entry .. ten times the one before": twenty entries, the first of them 1.
+pub record PowersOfTen (table : List ℕ) : Type 0 where
+  pub size : length table ≡ 20
+  pub first : getD table 0 0 ≡ 1
+  pub next : (k : ℕ) → suc k < length table → getD table (suc k) 0 ≡ 10 * getD table k 0
