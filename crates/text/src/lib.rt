@@ -5,11 +5,10 @@ mod table;
 
 ghost use mathlib.Core.Path.{_≡_};
 ghost use mathlib.Core.List.{[], _∷_};
-ghost use Prim.Native.Nat.{_+_, _-_, _<_, _≤_};
-ghost use lib.ListN.{length, replicate};
-ghost use Rattle.text.specs.Ascii.{blank};
+ghost use Prim.Native.Nat.{_+_, _<_, _≤_};
+ghost use lib.ListN.{length};
 ghost use Rattle.text.specs.Writing.{put, Put};
-pub use number::put_column;
+pub use number::put_digits;
 pub use number::put_number;
 pub use table::powers;
 
@@ -30,18 +29,6 @@ pub fn put_text(out: &mut [u8], at: usize, text: &[u8])
     let mut i = 0;
     while i < text.len() {
         out[at + i] = text[i];
-        i += 1;
-    }
-}
-
-// Blanks, written from `at` up to `end`.
-pub fn put_blanks(out: &mut [u8], at: usize, end: usize)
-    requires { ⌜ (at ≤ end) × (end ≤ length (now out)) ⌝ }
-    ensures { λ _. ⌜ now (out .exit) ≡ put (now (out .entry)) at (replicate (end - at) blank) ⌝ }
-{
-    let mut i = at;
-    while i < end {
-        out[i] = b' ';
         i += 1;
     }
 }

@@ -3,14 +3,15 @@ ghost use mathlib.Core.Path.{_≡_};
 ghost use Prim.Native.Nat.{_+_, _≤_};
 ghost use lib.ListN.{length};
 ghost use Rattle.text.specs.Numbers.{numberText};
-ghost use Rattle.text.specs.Writing.{Put, aligned};
-use crate::put_blanks;
+ghost use Rattle.text.specs.Powers.{PowersOfTen};
+ghost use Rattle.text.specs.Writing.{Put};
 use crate::put_byte;
 use crate::put_text;
+use crate::table::powers;
 
 // A number's digits, written so that the last stands before `end`. Gives where they begin.
-fn put_digits(out: &mut [u8], end: usize, n: u64) -> usize
-    requires { ⌜ (length (numberText n) ≤ end) × (end ≤ length (now out)) ⌝ }
+pub fn put_digits(powers: &[u64; 20], out: &mut [u8], end: usize, n: u64) -> usize
+    requires { ⌜ PowersOfTen (now powers) × (length (numberText n) ≤ end) × (end ≤ length (now out)) ⌝ }
     ensures { λ r. ⌜ Put (now (out .entry)) r (numberText n) (now (out .exit)) end ⌝ }
 {
     let mut at = end;
@@ -25,17 +26,6 @@ fn put_digits(out: &mut [u8], end: usize, n: u64) -> usize
     at
 }
 
-// A number's text, right-aligned in a column of `width` bytes, written from `at` on. Gives where the column ends.
-pub fn put_column(out: &mut [u8], at: usize, width: usize, n: u64) -> usize
-    requires { ⌜ (length (numberText n) ≤ width) × (at + width ≤ length (now out)) ⌝ }
-    ensures { λ r. ⌜ Put (now (out .entry)) at (aligned width (numberText n)) (now (out .exit)) r × (r ≡ at + width) ⌝ }
-{
-    let end = at + width;
-    let start = put_digits(out, end, n);
-    put_blanks(out, at, start);
-    end
-}
-
 // A number's text, written from `at` on; most answers are one digit. Gives where it ends.
 pub fn put_number(out: &mut [u8], at: usize, n: u64) -> usize
     requires { ⌜ at + 20 ≤ length (now out) ⌝ }
@@ -45,7 +35,8 @@ pub fn put_number(out: &mut [u8], at: usize, n: u64) -> usize
         return put_byte(out, at, b'0' + n as u8);
     }
     let mut text = [0u8; 20];
-    let start = put_digits(&mut text, 20, n);
+    let powers = powers();
+    let start = put_digits(&powers, &mut text, 20, n);
     put_text(out, at, &text[start..]);
     at + (20 - start)
 }

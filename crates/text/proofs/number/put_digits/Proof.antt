@@ -22,10 +22,10 @@ pub record Written (row whole : List ℕ) (end : ℕ) (out : List ℕ) (at : ℕ
   pub size : length out ≡ length row
 
 abbrev Inv-loop : tie.InvT-loop
-Inv-loop out₀ end n at₀ left₀ out at left = Written out₀ (numberText n) end out at (numberText left)
+Inv-loop powers out₀ end n at₀ left₀ out at left = Written out₀ (numberText n) end out at (numberText left)
 
 abbrev μ-loop : tie.MeasureT-loop
-μ-loop out₀ end n at₀ left₀ out at left = left
+μ-loop powers out₀ end n at₀ left₀ out at left = left
 
 -- The last digit of the rest, written before those that are.
 one-more : (row whole : List ℕ) (end : ℕ) (out : List ℕ) (at : ℕ) (rest : List ℕ) (digit : ℕ) → 0 < at → end ≤ length row →
@@ -51,10 +51,10 @@ loop-holds c =
     record { digits = []; ends = omega arith; holds = put-none (c .args .out .now) (c .args .end); all = sym (append-nil (numberText (c .args .n))); size = refl }
 
 sub-at : tie.Need-sub-at Inv-loop μ-loop
-sub-at c = room (c .before .loop .left) (c .before .loop .inv) (c .before .before .pre .0)
+sub-at c = room (c .before .loop .left) (c .before .loop .inv) (c .before .before .pre .1)
 
 slice-write-out : tie.Need-slice-write-out Inv-loop μ-loop
-slice-write-out c = omega (arith, room (c .before .loop .left) (c .before .loop .inv) (c .before .before .pre .0), c .before .loop .inv .ends, c .before .loop .inv .size)
+slice-write-out c = omega (arith, room (c .before .loop .left) (c .before .loop .inv) (c .before .before .pre .1), c .before .loop .inv .ends, c .before .loop .inv .size)
 
 loop-again : tie.Need-loop-again Inv-loop μ-loop
 loop-again c =
@@ -62,14 +62,14 @@ loop-again c =
     let l = c .before .loop in
     let digit = '0' + l .left % 10 in
     one-more (a .out .now) (numberText (a .n)) (a .end) (l .out) (l .at) (numberText (l .left / 10)) digit
-    (room (l .left) (l .inv) (c .before .before .pre .0)) (c .before .before .pre .1)
+    (room (l .left) (l .inv) (c .before .before .pre .1)) (c .before .before .pre .2)
     (subst (Written (a .out .now) (numberText (a .n)) (a .end) (l .out) (l .at)) (number-more (l .left) (omega arith)) (l .inv))
 
 sub-at-2 : tie.Need-sub-at-2 Inv-loop μ-loop
-sub-at-2 c = room (c .before .loop .left) (c .before .loop .inv) (c .before .before .pre .0)
+sub-at-2 c = room (c .before .loop .left) (c .before .loop .inv) (c .before .before .pre .1)
 
 slice-write-out-2 : tie.Need-slice-write-out-2 Inv-loop μ-loop
-slice-write-out-2 c = omega (arith, room (c .before .loop .left) (c .before .loop .inv) (c .before .before .pre .0), c .before .loop .inv .ends, c .before .loop .inv .size)
+slice-write-out-2 c = omega (arith, room (c .before .loop .left) (c .before .loop .inv) (c .before .before .pre .1), c .before .loop .inv .ends, c .before .loop .inv .size)
 
 same-length : tie.Need-same-length Inv-loop μ-loop
 same-length c = length-set (c .before .loop .out) (c .before .loop .at - 1) ('0' + c .before .loop .left) ∙ c .before .loop .inv .size
@@ -80,7 +80,7 @@ returns c =
     let l = c .before .loop in
     let done =
     one-more (a .out .now) (numberText (a .n)) (a .end) (l .out) (l .at) [] ('0' + l .left)
-    (room (l .left) (l .inv) (c .before .before .pre .0)) (c .before .before .pre .1)
+    (room (l .left) (l .inv) (c .before .before .pre .1)) (c .before .before .pre .2)
     (subst (Written (a .out .now) (numberText (a .n)) (a .end) (l .out) (l .at)) (number-one (l .left) (omega arith)) (l .inv)) in
     record { ends = sym (ap (λ (t : List ℕ). l .at - 1 + length t) (done .all) ∙ done .ends); holds = done .holds ∙ ap (put (a .out .now) (l .at - 1)) (sym (done .all)) }
 
