@@ -17,6 +17,11 @@ spelled (suc most) n =
 abbrev pub numberText : ℕ → List ℕ
 numberText n = spelled (suc n) n
 
+-- A number's last `k` digits, zeros and all.
+unfoldable pub lastDigits : ℕ → ℕ → List ℕ
+lastDigits zero n = []
+lastDigits (suc k) n = lastDigits k (n / 10) ++ (('0' + n % 10) ∷ [])
+
 -- "numbers decimal": digits alone.
 unfoldable pub allDigits : List ℕ → Bool
 allDigits [] = true

@@ -1,5 +1,5 @@
 -- Document 02, ticket 3, "a table of the powers of ten, 1 to 10^19".
-use Prim.Native.Nat.{ℕ, suc, _*_, _<_}
+use Prim.Native.Nat.{ℕ, suc, _*_, _%_, _^_, _≤_, _<_}
 use mathlib.Core.Path.{_≡_}
 use mathlib.Core.List.{List}
 use lib.ListN.{length, getD}
@@ -9,3 +9,13 @@ pub record PowersOfTen (table : List ℕ) : Type 0 where
   pub size : length table ≡ 20
   pub first : getD table 0 0 ≡ 1
   pub next : (k : ℕ) → suc k < length table → getD table (suc k) 0 ≡ 10 * getD table k 0
+
+-- A run of digits can be counted: its places are below those that a 64-bit number has no room to multiply, its last unit and the
+-- number are multiples of 16, and the number has no digit before the first place.
+pub record Runs (from to scale s : ℕ) : Type 0 where
+  pub last : to ≤ from
+  pub first : from ≤ 19
+  pub room : scale * 10 ^ from ≤ 10 ^ 19
+  pub unit : scale * 10 ^ to % 16 ≡ 0
+  pub number : s % 16 ≡ 0
+  pub under : s < scale * 10 ^ from
