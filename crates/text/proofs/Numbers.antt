@@ -2,14 +2,14 @@
 use Prim.Native.Nat.{ℕ, zero, suc, _+_, _*_, _-_, _/_, _%_, _^_, _≤_, _<_}
 use mathlib.Core.Path.{_≡_, refl, sym, ap, subst, _∙_}
 use mathlib.Core.Bool.{true, _&&_}
-use mathlib.Core.List.{List, [], _∷_, _++_}
+use mathlib.Core.List.{List, [], _∷_, _++_, append-assoc, append-nil}
 use native.Mathlib.Omega.{arith}
-use native.Mathlib.Nat.{pow-suc}
+use native.Mathlib.Nat.{pow-suc, pow-succ', mul-left-comm}
 use lib.Dec.{leb, ltb}
 use lib.ListN.{length, length-append, getD}
 use borrow.Author.Tests.{lt-ltb, le-ltb, ltb-true, ltb-false, le-leb}
 use Rattle.text.specs.Ascii.{'0', '9'}
-use Rattle.text.specs.Numbers.{spelled, numberText, allDigits, valueAfter, value}
+use Rattle.text.specs.Numbers.{spelled, numberText, lastDigits, allDigits, valueAfter, value}
 use Rattle.text.specs.Writing.{Put}
 use Rattle.text.proofs.Bools.{split, chosen, passedOver, and-left, and-right, and-both}
 
@@ -137,6 +137,50 @@ number-first n =
       omega (arith, length-append l (('0' + n % 10) ∷ [])),
       λ _. subst (λ (b : ℕ). '0' < b) (sym (first-of l ('0' + n % 10) (p .0))) (p .1 (omega arith)),
     )) n .1
+
+-- ---- the last digits
+
+-- One digit more behind others.
+pub last-more : (k q d : ℕ) → d < 10 → lastDigits (suc k) (10 * q + d) ≡ lastDigits k q ++ (('0' + d) ∷ [])
+unfolding lastDigits
+last-more k q d h =
+    let tenth : (10 * q + d) / 10 ≡ q = omega arith in
+    let digit : (10 * q + d) % 10 ≡ d = omega arith in
+    ap (λ (n : ℕ). lastDigits k n ++ (('0' + (10 * q + d) % 10) ∷ [])) tenth ∙ ap (λ (n : ℕ). lastDigits k q ++ (('0' + n) ∷ [])) digit
+
+-- There are as many as are asked for.
+pub last-length : (k n : ℕ) → length (lastDigits k n) ≡ k
+unfolding lastDigits
+last-length zero n = refl
+last-length (suc k) n = length-append (lastDigits k (n / 10)) (('0' + n % 10) ∷ []) ∙ omega (arith, last-length k (n / 10))
+
+-- Those of a number of two parts are those of each, one behind the other.
+pub last-join : (a b q r : ℕ) → r < 10 ^ b → lastDigits (a + b) (q * 10 ^ b + r) ≡ lastDigits a q ++ lastDigits b r
+unfolding lastDigits
+last-join a zero q r h =
+    let places : a + 0 ≡ a = omega arith in
+    let number : q * 10 ^ 0 + r ≡ q = omega arith in
+    ap (λ (k : ℕ). lastDigits k (q * 10 ^ 0 + r)) places ∙ ap (lastDigits a) number ∙ sym (append-nil (lastDigits a q))
+last-join a (suc b) q r h =
+    let n = q * 10 ^ b + r / 10 in
+    let digit = ('0' + r % 10) ∷ [] in
+    let places : a + suc b ≡ suc (a + b) = omega arith in
+    let shifted : q * 10 ^ suc b ≡ 10 * (q * 10 ^ b) = ap (λ (p : ℕ). q * p) (pow-succ' 10 b) ∙ mul-left-comm q 10 (10 ^ b) in
+    let number : q * 10 ^ suc b + r ≡ 10 * n + r % 10 = omega arith in
+    ap (λ (k : ℕ). lastDigits k (q * 10 ^ suc b + r)) places
+    ∙ ap (lastDigits (suc (a + b))) number
+    ∙ last-more (a + b) n (r % 10) (omega arith)
+    ∙ ap (λ (l : List ℕ). l ++ digit) (last-join a b q (r / 10) (omega (arith, pow-suc 10 b)))
+    ∙ append-assoc (lastDigits a q) (lastDigits b (r / 10)) digit
+
+-- A number's text is as many of its last digits as it has.
+pub number-last : (n : ℕ) → numberText n ≡ lastDigits (length (numberText n)) n
+unfolding lastDigits
+number-last =
+    by-tenths (λ n l. l ≡ lastDigits (length l) n) (λ n h. ap (λ (d : ℕ). ('0' + d) ∷ []) (omega arith))
+    (λ n l h p.
+    let size : length (l ++ (('0' + n % 10) ∷ [])) ≡ suc (length l) = length-append l (('0' + n % 10) ∷ []) ∙ omega arith in
+    ap (λ (t : List ℕ). t ++ (('0' + n % 10) ∷ [])) p ∙ sym (ap (λ (k : ℕ). lastDigits k n) size))
 
 -- ---- a digit written
 
