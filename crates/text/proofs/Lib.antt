@@ -2,6 +2,7 @@
 pub mod Bools
 pub mod Counting
 pub mod Numbers
+pub mod Places
 pub mod Running
 pub mod TenTimes
 pub mod Writing
