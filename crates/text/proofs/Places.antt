@@ -126,10 +126,27 @@ number-below n =
     (λ t. ltb-true n (10 ^ length (numberText n)) t)
     (λ t. absurd (omega (arith, number-long (length (numberText n)) n (ltb-false n (10 ^ length (numberText n)) t))))
 
--- A number from 10^19 on, of 64 bits, is a 1 and nineteen digits.
-pub twenty : (n : ℕ) → 10 ^ 19 ≤ n → n < 2 ^ 64 → numberText n ≡ (('0' + 1) ∷ []) ++ lastDigits 19 (n - 10 ^ 19)
+-- A number of 64 bits from 10^19 on has twenty digits.
+pub twenty : (n : ℕ) → 10 ^ 19 ≤ n → n < 2 ^ 64 → length (numberText n) ≡ 20
+twenty n high low = omega (arith, number-width 19 n (omega arith), number-long 19 n high)
+
+-- They are a 1 and nineteen more.
+one-nineteen : (n : ℕ) → 10 ^ 19 ≤ n → n < 2 ^ 64 → numberText n ≡ (('0' + 1) ∷ []) ++ lastDigits 19 (n - 10 ^ 19)
 unfolding lastDigits
-twenty n high low =
-    let size : length (numberText n) ≡ 20 = omega (arith, number-width 19 n (omega arith), number-long 19 n high) in
+one-nineteen n high low =
     let parts : n ≡ 1 * 10 ^ 19 + (n - 10 ^ 19) = omega arith in
-    number-last n ∙ ap (λ (k : ℕ). lastDigits k n) size ∙ ap (lastDigits 20) parts ∙ last-join 1 19 1 (n - 10 ^ 19) (omega arith)
+    number-last n ∙ ap (λ (k : ℕ). lastDigits k n) (twenty n high low) ∙ ap (lastDigits 20) parts ∙ last-join 1 19 1 (n - 10 ^ 19) (omega arith)
+
+-- Written so.
+pub twenty-written : {row after : List ℕ} {end : ℕ} (n p : ℕ) → p ≡ 10 ^ 19 → p ≤ n → n < 2 ^ 64 → 20 ≤ end → end ≤ length row →
+    Put (set row (end - 20) ('0' + 1)) (end - 19) (lastDigits 19 (n - p)) after end → Put row (end - 20) (numberText n) after end
+twenty-written {row} {after} {end} n p e high low fits room q =
+    let one : Put row (end - 20) (('0' + 1) ∷ []) (set row (end - 20) ('0' + 1)) (end - 19) =
+    record { ends = omega arith; holds = put-set row (end - 20) ('0' + 1) (omega arith) } in
+    let rest = subst (λ (m : ℕ). Put (set row (end - 20) ('0' + 1)) (end - 19) (lastDigits 19 (n - m)) after end) e q in
+    subst (λ (t : List ℕ). Put row (end - 20) t after end) (sym (one-nineteen n (omega arith) low)) (and-then one rest (omega arith))
+
+-- Any other is written as its last digits, as many as it has.
+pub number-written : {row after : List ℕ} {end : ℕ} (n d : ℕ) → d ≡ length (numberText n) → Put row (end - d) (lastDigits d n) after end → Put row (end - d) (numberText n) after end
+number-written {row} {after} {end} n d e q =
+    subst (λ (t : List ℕ). Put row (end - d) t after end) (ap (λ (k : ℕ). lastDigits k n) e ∙ sym (number-last n)) q

@@ -1,91 +1,93 @@
--- `text::number::put_digits` meets its contract. The invariant: what is written is the number's last digits, and those left are the rest.
-use Prim.Native.Nat.{ℕ, _+_, _-_, _/_, _%_, _≤_, _<_}
-use mathlib.Core.Path.{_≡_, refl, sym, ap, subst, _∙_}
-use mathlib.Core.List.{List, [], _∷_, _++_, append-assoc, append-nil}
+-- `text::number::put_digits` meets its contract: a 1 and nineteen digits, or as many digits as the number has.
+use Prim.Native.Nat.{ℕ, _+_, _-_, _^_, _≤_, _<_}
+use mathlib.Core.Path.{_≡_, sym, subst, _∙_}
+use mathlib.Core.List.{List}
 use native.Mathlib.Omega.{arith}
-use lib.ListN.{length, length-append, set, length-set}
+use lib.ListN.{length, getD, length-set}
 use borrow.Author.Needs.{needs}
 use Rattle.text.specs.Ascii.{'0'}
 use Rattle.text.specs.Numbers.{numberText}
-use Rattle.text.specs.Writing.{put}
-use Rattle.text.proofs.Numbers.{number-one, number-more, number-some}
-use Rattle.text.proofs.Writing.{put-none, put-set, put-before}
+use Rattle.text.specs.Powers.{PowersOfTen}
+use Rattle.text.proofs.Numbers.{number-some, number-width}
+use Rattle.text.proofs.Places.{number-below, twenty, twenty-written, number-written}
+use Rattle.text.proofs.TenTimes.{power-at}
 use Rattle.text.proofs.number.put_digits.Statement.{statement}
 use Rattle.text.proofs.number.put_digits.Tie as tie
 
--- What is written so far: the last digits of `whole`, `rest` being those before them.
-pub record Written (row whole : List ℕ) (end : ℕ) (out : List ℕ) (at : ℕ) (rest : List ℕ) : Type 0 where
-  pub digits : List ℕ
-  pub ends : at + length digits ≡ end
-  pub holds : out ≡ put row at digits
-  pub all : whole ≡ rest ++ digits
-  pub size : length out ≡ length row
+-- The table's last entry.
+last-power : {table : List ℕ} → PowersOfTen table → getD table 19 0 ≡ 10 ^ 19
+last-power table = power-at table 19 (omega arith)
 
-abbrev Inv-loop : tie.InvT-loop
-Inv-loop powers out₀ end n at₀ left₀ out at left = Written out₀ (numberText n) end out at (numberText left)
+-- Twenty digits have room.
+room : {table : List ℕ} (n end : ℕ) → PowersOfTen table → getD table 19 0 ≤ n → n < 2 ^ 64 → length (numberText n) ≤ end → 20 ≤ end
+room n end table high low fits = omega (arith, twenty n (omega (arith, last-power table)) low)
 
-abbrev μ-loop : tie.MeasureT-loop
-μ-loop powers out₀ end n at₀ left₀ out at left = left
+sub-out : tie.Need-sub-out
+sub-out c =
+    let s = c .before .before .before in
+    room (s .args .n) (s .args .end) (s .pre .0) (c .if1 .taken) (search needs) (s .pre .1)
 
--- The last digit of the rest, written before those that are.
-one-more : (row whole : List ℕ) (end : ℕ) (out : List ℕ) (at : ℕ) (rest : List ℕ) (digit : ℕ) → 0 < at → end ≤ length row →
-    Written row whole end out at (rest ++ (digit ∷ [])) → Written row whole end (set out (at - 1) digit) (at - 1) rest
-one-more row whole end out at rest digit low high w =
-    let here : at - 1 + length (digit ∷ []) ≡ at = omega arith in
-    record {
-      digits = digit ∷ w .digits;
-      ends = omega (arith, w .ends);
-      holds = put-set out (at - 1) digit (omega (arith, w .size, w .ends))
-          ∙ ap (λ (l : List ℕ). put l (at - 1) (digit ∷ [])) (w .holds ∙ ap (λ (k : ℕ). put row k (w .digits)) (sym here))
-          ∙ put-before row (at - 1) (digit ∷ []) (w .digits) (omega (arith, w .ends));
-      all = w .all ∙ append-assoc rest (digit ∷ []) (w .digits);
-      size = length-set out (at - 1) digit ∙ w .size;
-    }
+slice-write-out : tie.Need-slice-write-out
+slice-write-out c =
+    let s = c .before .before .before in
+    omega (arith, s .pre .2, room (s .args .n) (s .args .end) (s .pre .0) (c .if1 .taken) (search needs) (s .pre .1))
 
--- There is room before what is written.
-room : {row whole : List ℕ} {end : ℕ} {out : List ℕ} {at : ℕ} (left : ℕ) → Written row whole end out at (numberText left) → length whole ≤ end → 0 < at
-room left w h = omega (arith, w .ends, ap length (w .all), length-append (numberText left) (w .digits), number-some left)
+put-places-requires : tie.Need-put-places-requires
+put-places-requires c κs =
+    let s = c .before .before .before .before .before in
+    let a = s .args in
+    let low : a .n < 2 ^ 64 = search needs in (
+      s .pre .0,
+      omega arith,
+      omega arith,
+      omega (arith, last-power (s .pre .0)),
+      omega (arith, room (a .n) (a .end) (s .pre .0) (c .before .before .if1 .taken) low (s .pre .1)),
+      omega (arith, s .pre .2, length-set (a .out .now) (a .end - 20) ('0' + 1)),
+    )
 
-loop-holds : tie.Need-loop-holds Inv-loop μ-loop
-loop-holds c =
-    record { digits = []; ends = omega arith; holds = put-none (c .args .out .now) (c .args .end); all = sym (append-nil (numberText (c .args .n))); size = refl }
+sub-result : tie.Need-sub-result
+sub-result c =
+    let s = c .before .before .before .before .before .before .before .before in
+    room (s .args .n) (s .args .end) (s .pre .0) (c .before .before .before .before .before .if1 .taken) (search needs) (s .pre .1)
 
-sub-at : tie.Need-sub-at Inv-loop μ-loop
-sub-at c = room (c .before .loop .left) (c .before .loop .inv) (c .before .before .pre .1)
+same-length : tie.Need-same-length
+same-length c =
+    let a = c .before .before .before .before .before .before .before .before .args in
+    c .before .before .put-places .kept .1 .0 ∙ length-set (a .out .now) (a .end - 20) ('0' + 1)
 
-slice-write-out : tie.Need-slice-write-out Inv-loop μ-loop
-slice-write-out c = omega (arith, room (c .before .loop .left) (c .before .loop .inv) (c .before .before .pre .1), c .before .loop .inv .ends, c .before .loop .inv .size)
-
-loop-again : tie.Need-loop-again Inv-loop μ-loop
-loop-again c =
-    let a = c .before .before .args in
-    let l = c .before .loop in
-    let digit = '0' + l .left % 10 in
-    one-more (a .out .now) (numberText (a .n)) (a .end) (l .out) (l .at) (numberText (l .left / 10)) digit
-    (room (l .left) (l .inv) (c .before .before .pre .1)) (c .before .before .pre .2)
-    (subst (Written (a .out .now) (numberText (a .n)) (a .end) (l .out) (l .at)) (number-more (l .left) (omega arith)) (l .inv))
-
-sub-at-2 : tie.Need-sub-at-2 Inv-loop μ-loop
-sub-at-2 c = room (c .before .loop .left) (c .before .loop .inv) (c .before .before .pre .1)
-
-slice-write-out-2 : tie.Need-slice-write-out-2 Inv-loop μ-loop
-slice-write-out-2 c = omega (arith, room (c .before .loop .left) (c .before .loop .inv) (c .before .before .pre .1), c .before .loop .inv .ends, c .before .loop .inv .size)
-
-same-length : tie.Need-same-length Inv-loop μ-loop
-same-length c = length-set (c .before .loop .out) (c .before .loop .at - 1) ('0' + c .before .loop .left) ∙ c .before .loop .inv .size
-
-returns : tie.Need-returns Inv-loop μ-loop
+returns : tie.Need-returns
 returns c =
-    let a = c .before .before .args in
-    let l = c .before .loop in
-    let done =
-    one-more (a .out .now) (numberText (a .n)) (a .end) (l .out) (l .at) [] ('0' + l .left)
-    (room (l .left) (l .inv) (c .before .before .pre .1)) (c .before .before .pre .2)
-    (subst (Written (a .out .now) (numberText (a .n)) (a .end) (l .out) (l .at)) (number-one (l .left) (omega arith)) (l .inv)) in
-    record { ends = sym (ap (λ (t : List ℕ). l .at - 1 + length t) (done .all) ∙ done .ends); holds = done .holds ∙ ap (put (a .out .now) (l .at - 1)) (sym (done .all)) }
+    let s = c .before .before .before .before .before .before .before .before in
+    let high = c .before .before .before .before .before .if1 .taken in
+    twenty-written (s .args .n) _ (last-power (s .pre .0)) high (search needs)
+    (room (s .args .n) (s .args .end) (s .pre .0) high (search needs) (s .pre .1)) (s .pre .2) (c .before .before .put-places .ensures)
+
+digits-of-requires : tie.Need-digits-of-requires
+digits-of-requires c κs =
+    let s = c .before .before .before in
+    (s .pre .0, omega (arith, last-power (s .pre .0), c .if1 .left))
+
+put-places-requires-2 : tie.Need-put-places-requires-2
+put-places-requires-2 c κs =
+    let s = c .before .before .before .before .before in
+    let n = s .args .n in
+    let d = c .before .digits-of in
+    let low : n < 10 ^ 19 = omega (arith, last-power (s .pre .0), c .before .before .if1 .left) in (
+      s .pre .0,
+      omega (arith, d .ensures, number-some n),
+      omega (arith, d .ensures, number-width 18 n low),
+      subst (λ (k : ℕ). n < 10 ^ k) (sym (d .ensures)) (number-below n),
+      omega (arith, d .ensures, s .pre .1),
+      s .pre .2,
+    )
+
+returns-2 : tie.Need-returns-2
+returns-2 c =
+    let d = c .before .before .before .before .digits-of in
+    number-written (c .before .before .before .before .before .before .before .before .args .n) (d .result) (d .ensures) (c .before .before .put-places2 .ensures)
 
 pub put-digits-spec : {M : Type 1} → statement M
 put-digits-spec =
     tie.close
-    (tie.spec Inv-loop μ-loop loop-holds sub-at (search needs) (search needs) slice-write-out (search needs) loop-again sub-at-2 (search needs) (search needs)
-    slice-write-out-2 same-length returns)
+    (tie.spec (search needs) sub-out slice-write-out (search needs) (search needs) put-places-requires sub-result same-length returns digits-of-requires
+    put-places-requires-2 (search needs) (search needs) returns-2)

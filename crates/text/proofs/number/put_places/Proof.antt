@@ -13,8 +13,7 @@ put-run-requires c κs =
 put-last-requires : tie.Need-put-last-requires
 put-last-requires c κs =
     let s = c .before .before .before .before .before .before .before in
-    let run = c .before .before .before .put-run in
-    (
+    let run = c .before .before .before .put-run in (
       s .pre .0,
       omega arith,
       omega arith,
@@ -34,7 +33,10 @@ returns c =
     let run = c .before .before .before .before .before .before .put-run in
     places-written (s .args .n) (search needs) (s .pre .4) (s .pre .5) (run .ensures .0) (run .ensures .1) (c .before .before .put-last .ensures)
 
+returns-2 : tie.Need-returns-2
+returns-2 c = c .before .before .put-last2 .ensures
+
 pub put-places-spec : {M : Type 1} → statement M
 put-places-spec =
     tie.close
-    (tie.spec (search needs) put-run-requires (search needs) put-last-requires put-last-requires-2 (search needs) returns (search needs) (search needs))
+    (tie.spec (search needs) put-run-requires (search needs) put-last-requires put-last-requires-2 (search needs) returns (search needs) returns-2)
