@@ -1,25 +1,25 @@
 -- How a digit is counted: what is left and the count, kept in one number.
 use Prim.Native.Nat.{ℕ, suc, _+_, _*_, _-_, _/_, _%_, _^_, _≤_, _<_}
-use mathlib.Core.Path.{_≡_, refl, sym, ap, _∙_}
+use mathlib.Core.Path.{_≡_, sym, ap, subst, _∙_}
 use mathlib.Core.Bool.{cond}
 use native.Mathlib.Omega.{arith}
 use native.Mathlib.Nat.{add-mul, mul-left-comm, mul-add-div-right, div-eq-of-lt, div-add-mod'}
 use lib.Dec.{ltb}
 use borrow.Author.Tests.{lt-ltb, le-ltb, ltb-true, ltb-false}
-use Rattle.text.proofs.Bools.{split, chosen, passedOver}
+use Rattle.text.proofs.Bools.{on, chosen, passedOver}
 
 -- ---- a number taken off another
 
 -- A wrapped difference below 2^63 is a difference.
-pub taken-off : (s k rest : ℕ) → (rest + k) % 2 ^ 64 ≡ s → rest < 2 ^ 63 → k < 2 ^ 64 → k ≤ s + 2 ^ 63 → rest ≡ cond (ltb s k) s (s - k)
-taken-off s k rest wraps low hk near =
+pub taken-off : (s k other rest : ℕ) → (rest + k) % 2 ^ 64 ≡ s → rest < 2 ^ 63 → k < 2 ^ 64 → k ≤ s + 2 ^ 63 → rest ≡ cond (ltb s k) other (s - k)
+taken-off s k other rest wraps low hk near =
     let fits : k ≤ s = omega arith in
-    omega arith ∙ sym (passedOver (ltb s k) s (s - k) (le-ltb s k fits))
+    omega arith ∙ sym (passedOver (ltb s k) other (s - k) (le-ltb s k fits))
 
 -- Any other shows that it did not fit.
-pub left-alone : (s k rest : ℕ) → (rest + k) % 2 ^ 64 ≡ s → 2 ^ 63 ≤ rest → rest < 2 ^ 64 → k < 2 ^ 64 → s < k + 2 ^ 63 → s ≡ cond (ltb s k) s (s - k)
-left-alone s k rest wraps high hr hk near =
-    sym (chosen (ltb s k) s (s - k) (lt-ltb s k (omega arith)))
+pub left-alone : (s k other rest : ℕ) → (rest + k) % 2 ^ 64 ≡ s → 2 ^ 63 ≤ rest → rest < 2 ^ 64 → k < 2 ^ 64 → s < k + 2 ^ 63 → other ≡ cond (ltb s k) other (s - k)
+left-alone s k other rest wraps high hr hk near =
+    sym (chosen (ltb s k) other (s - k) (lt-ltb s k (omega arith)))
 
 -- ---- a count
 
@@ -32,32 +32,31 @@ pub record Counting (x u j s : ℕ) : Type 0 where
   pub under : left < j * u
   pub room : count + j ≤ 16
 
--- `j` units, taken off where they fit, leave less than `j`.
-pub halved : {x u s : ℕ} (j k s′ : ℕ) → Counting x u (j + j) s → 0 < j → k + j ≡ 16 * (j * u) → s′ ≡ cond (ltb s k) s (s - k) → Counting x u j s′
-halved {x} {u} {s} j k s′ c some unit e =
-    let twice : (j + j) * u ≡ j * u + j * u = add-mul j j u in
-    split (ltb s k)
-    (λ t.
-    let short : s < k = ltb-true s k t in
-    record {
-      count = c .count;
-      left = c .left;
-      holds = e ∙ chosen (ltb s k) s (s - k) t ∙ c .holds;
-      whole = c .whole;
-      under = omega (arith, c .holds);
-      room = omega (arith, c .room);
-    })
-    (λ t.
-    let long : k ≤ s = ltb-false s k t in
+-- Where `j` units do not fit, less than `j` are left.
+pub too-many : {x u i s : ℕ} (j k : ℕ) → Counting x u i s → j ≤ i → k + j ≡ 16 * (j * u) → s < k → Counting x u j s
+too-many j k c fewer unit short =
+    record { count = c .count; left = c .left; holds = c .holds; whole = c .whole; under = omega (arith, c .holds); room = omega (arith, c .room) }
+
+-- Where they fit, they are taken off and counted.
+pub so-many : {x u s : ℕ} (j m k : ℕ) → Counting x u (j + m) s → 0 < m → k + j ≡ 16 * (j * u) → k ≤ s → Counting x u m (s - k)
+so-many {x} {u} {s} j m k c some unit long =
+    let both : (j + m) * u ≡ j * u + m * u = add-mul j m u in
     let fits : j * u ≤ c .left = omega (arith, c .holds, c .room) in
     record {
       count = c .count + j;
       left = c .left - j * u;
-      holds = e ∙ passedOver (ltb s k) s (s - k) t ∙ omega (arith, c .holds);
+      holds = omega (arith, c .holds);
       whole = c .whole ∙ omega (arith, add-mul (c .count) j u);
-      under = omega (arith, c .under, twice);
+      under = omega (arith, c .under);
       room = omega (arith, c .room);
-    })
+    }
+
+-- So `j` of less than twice as many leave less than `j`.
+pub halved : {x u s r : ℕ} (j k : ℕ) → Counting x u (j + j) s → 0 < j → k + j ≡ 16 * (j * u) → r ≡ cond (ltb s k) s (s - k) → Counting x u j r
+halved {x} {u} {s} {r} j k c some unit e =
+    subst (Counting x u j) (sym e) (on (Counting x u j) (ltb s k) s (s - k)
+    (λ t. too-many j k c (omega arith) unit (ltb-true s k t))
+    (λ t. so-many j j k c some unit (ltb-false s k t)))
 
 -- ---- a count as a quotient
 

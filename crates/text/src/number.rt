@@ -11,27 +11,31 @@ use crate::put_byte;
 use crate::put_text;
 use crate::table::powers;
 
-// `s` less `k` where that fits, else `s`. The highest bit of the wrapped difference tells, so that the compiler makes no branch
-// of it: no processor could guess a digit.
-fn reduced(s: u64, k: u64) -> u64
+// `s` less `k` where that fits, else `otherwise`. The highest bit of the wrapped difference tells, so that the compiler makes no
+// branch of it: no processor could guess a digit.
+fn reduced(s: u64, k: u64, otherwise: u64) -> u64
     requires { ⌜ (s < k + 2 ^ 63) × (k ≤ s + 2 ^ 63) ⌝ }
-    ensures { λ r. ⌜ r ≡ cond (ltb s k) s (s - k) ⌝ }
+    ensures { λ r. ⌜ r ≡ cond (ltb s k) otherwise (s - k) ⌝ }
 {
     let rest = std::num::wrapping_sub_u64(s, k);
-    if rest < 9223372036854775808 { rest } else { s }
+    if rest < 9223372036854775808 {
+        rest
+    } else {
+        otherwise
+    }
 }
 
 // What is left of `s` when `unit` is taken off as often as it fits, and in its low four bits how often that was: to take off
 // `unit` less 1 is to take off the unit and to count one more. Both numbers are multiples of 16, which leaves those bits free.
+// Eight times and four never fit both, so neither waits for the other.
 fn counted(s: u64, unit: u64) -> u64
     requires { ⌜ (s % 16 ≡ 0) × (unit % 16 ≡ 0) × (s < 10 * unit) × (unit ≤ 10 ^ 18) ⌝ }
     ensures { λ r. ⌜ r ≡ s % unit + s / unit ⌝ }
 {
     let once = unit - 1;
-    let s = reduced(s, 8 * once);
-    let s = reduced(s, 4 * once);
-    let s = reduced(s, 2 * once);
-    reduced(s, once)
+    let s = reduced(s, 8 * once, reduced(s, 4 * once, s));
+    let s = reduced(s, 2 * once, s);
+    reduced(s, once, s)
 }
 
 // The digits of `s` at the places from `from` down to `to`, where a place's unit is `scale` times its power of ten; place 1

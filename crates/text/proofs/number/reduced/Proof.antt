@@ -8,12 +8,12 @@ use Rattle.text.proofs.number.reduced.Tie as tie
 returns : tie.Need-returns
 returns c =
     let a = c .before .before .args in
-    taken-off (a .s) (a .k) (c .before .wrapping-sub-u64 .result) (c .before .wrapping-sub-u64 .ensures) (search needs) (search needs) (search needs)
+    taken-off (a .s) (a .k) (a .otherwise) (c .before .wrapping-sub-u64 .result) (c .before .wrapping-sub-u64 .ensures) (search needs) (search needs) (search needs)
 
 returns-2 : tie.Need-returns-2
 returns-2 c =
     let a = c .before .before .args in
-    left-alone (a .s) (a .k) (c .before .wrapping-sub-u64 .result) (c .before .wrapping-sub-u64 .ensures) (search needs) (search needs) (search needs) (search needs)
+    left-alone (a .s) (a .k) (a .otherwise) (c .before .wrapping-sub-u64 .result) (c .before .wrapping-sub-u64 .ensures) (search needs) (search needs) (search needs) (search needs)
 
 pub reduced-spec : {M : Type 1} → statement M
 reduced-spec = tie.close (tie.spec (search needs) returns returns-2)
