@@ -1,10 +1,12 @@
--- Proves what is claimed of a number's text.
+-- Proves what is claimed of a number's text and of the table of the powers of ten.
 use Prim.Native.Nat.{ℕ, zero, suc, _-_, _^_, _≤_, _<_}
 use mathlib.Core.Path.{_≡_, refl}
 use native.Mathlib.Omega.{arith}
 use lib.ListN.{length}
 use Rattle.text.specs.Numbers.{spelled, numberText, NoLeadingZero, NumbersHold}
+use Rattle.text.specs.Powers.{PowersHold}
 use Rattle.text.proofs.Numbers.{number-value, number-digits, number-first, number-width, number-long}
+use Rattle.text.proofs.TenTimes.{power-at}
 
 below : (k n : ℕ) → 0 < k → n < 10 ^ k → length (numberText n) ≤ k
 below zero n h p = absurd (omega arith)
@@ -24,3 +26,6 @@ numbers-hold =
       zeros = none;
       widths = record { below = below; most = widest };
     }
+
+pub powers-hold : PowersHold
+powers-hold = record { entries = λ table p. power-at p }

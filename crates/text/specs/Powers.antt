@@ -10,6 +10,10 @@ pub record PowersOfTen (table : List ℕ) : Type 0 where
   pub first : getD table 0 0 ≡ 1
   pub next : (k : ℕ) → suc k < length table → getD table (suc k) 0 ≡ 10 * getD table k 0
 
+-- The rule leaves no choice: the entry at place `k` is 10^k.
+pub record PowersHold : Type 0 where
+  pub entries : (table : List ℕ) → PowersOfTen table → (k : ℕ) → k < 20 → getD table k 0 ≡ 10 ^ k
+
 -- A run of digits can be counted: its places are below those that a 64-bit number has no room to multiply, its last unit and the
 -- number are multiples of 16, and the number has no digit before the first place.
 pub record Runs (from to scale s : ℕ) : Type 0 where
