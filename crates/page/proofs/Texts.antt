@@ -1,16 +1,17 @@
 -- What is true of a page's lines.
-use Prim.Native.Nat.{ℕ, zero, suc, _+_, _*_, _-_, _≤_, _<_}
+use Prim.Native.Nat.{ℕ, zero, suc, _+_, _*_, _≤_, _<_}
 use mathlib.Core.Path.{_≡_, refl, sym, ap, _∙_}
 use mathlib.Core.List.{List, [], _∷_, _++_, map, map-append, flatten, append-nil, append-assoc}
 use native.Mathlib.Omega.{arith}
 use native.Mathlib.Nat.{add-comm, mul-zero, mul-suc}
 use native.Mathlib.Numerals.{add-one}
-use lib.ListN.{length, getD, take, drop, replicate, length-append, length-replicate}
+use lib.ListN.{length, getD, take, drop, length-append}
 use lib.Seq.{take-suc, take-at, drop-at, drop-drop}
 use Rattle.text.specs.Ascii.{blank, feed}
 use Rattle.text.specs.Numbers.{numberText}
-use Rattle.text.specs.Writing.{aligned}
+use Rattle.text.specs.Writing.{put, Put, aligned}
 use Rattle.text.proofs.Numbers.{number-width, word-width}
+use Rattle.text.proofs.Writing.{aligned-size, in-column}
 use Rattle.line.specs.declared.Field.{Field}
 use Rattle.line.specs.Cell.{fieldIndex, fieldOf}
 use Rattle.board.specs.Board.{cells}
@@ -37,8 +38,7 @@ lines-more f cells i h =
 -- A text that fits its column fills it with blanks, and one byte stands behind.
 field-size : (width : ℕ) (text : List ℕ) (behind : ℕ) → length text ≤ width → length (fieldText width text behind) ≡ width + 1
 field-size width text behind h =
-    length-append (aligned width text) (behind ∷ [])
-    ∙ omega (arith, length-append (replicate (width - length text) blank) text, length-replicate (width - length text) blank)
+    length-append (aligned width text) (behind ∷ []) ∙ omega (arith, aligned-size width text h)
 
 -- A line whose texts fit their columns has 68 bytes.
 line-size : (a b c d : List ℕ) → length a ≤ 4 → length b ≤ 20 → length c ≤ 20 → length d ≤ 20 → length (lineText a b c d) ≡ lineBytes
@@ -61,6 +61,27 @@ unfolding fieldOf
 cell-size cache words c h =
     line-size (numberText c) _ _ _ (number-width 3 c (omega arith))
     (word-width _ (words (fieldIndex c Field.Record))) (word-width _ (words (fieldIndex c Field.Backup))) (word-width _ (words (fieldIndex c Field.Mark)))
+
+-- ---- how one is written
+
+-- Four texts written into a blank line, each up to the end of its column, are the line of them.
+pub line-put : {row r0 r1 r2 r3 r4 a b c d : List ℕ} {at i j k l : ℕ} → at + 68 ≤ length row → length a ≤ 4 → length b ≤ 20 → length c ≤ 20 → length d ≤ 20 →
+    r0 ≡ put row at (lineText [] [] [] []) → Put r0 i a r1 (at + 4) → Put r1 j b r2 (at + 25) → Put r2 k c r3 (at + 46) → Put r3 l d r4 (at + 67) → Put row at (lineText a b c d) r4 (at + 68)
+unfolding lineText
+line-put {row} {r0} {a = a} {b = b} {c = c} {at = at} room ha hb hc hd p qa qb qc qd =
+    let x = fieldText 4 a blank in
+    let y = fieldText 20 b blank in
+    let z = fieldText 20 c blank in
+    let none = fieldText 20 [] blank in
+    let last = fieldText 20 [] feed in
+    let sx = field-size 4 a blank ha in
+    let sy = field-size 20 b blank hb in
+    let sz = field-size 20 c blank hc in
+    let p0 : Put row at (lineText [] [] [] []) r0 (at + 68) = record { ends = refl; holds = p } in
+    let p1 = in-column (λ t. lineText t [] [] []) [] ((blank ∷ []) ++ none ++ none ++ last) 4 (λ t. simp append-assoc) p0 qa ha (omega arith) room in
+    let p2 = in-column (λ t. lineText a t [] []) x ((blank ∷ []) ++ none ++ last) 20 (λ t. simp append-assoc) p1 qb hb (omega arith) room in
+    let p3 = in-column (λ t. lineText a b t []) (x ++ y) ((blank ∷ []) ++ last) 20 (λ t. simp append-assoc) p2 qc hc (omega (arith, length-append x y)) room in
+    in-column (λ t. lineText a b c t) (x ++ y ++ z) (feed ∷ []) 20 (λ t. simp append-assoc) p3 qd hd (omega (arith, length-append (x ++ y) z, length-append x y)) room
 
 -- ---- where they stand
 

@@ -1,11 +1,11 @@
 // The lines of a page, written into the text row.
 ghost use mathlib.Core.Path.{_≡_};
-ghost use mathlib.Core.List.{map, flatten};
+ghost use mathlib.Core.List.{[], map, flatten};
 ghost use lib.ListN.{length};
 ghost use Prim.Native.Nat.{_+_, _*_, _<_, _≤_};
 ghost use Rattle.text.specs.Numbers.{numberText};
 ghost use Rattle.text.specs.Writing.{put, Put};
-ghost use Rattle.board.specs.Page.{fieldText, lineText, headingText, cellText};
+ghost use Rattle.board.specs.Page.{lineText, headingText, cellText};
 ghost use Rattle.page.specs.Cells.{Held, AllHeld};
 use line::Field;
 
@@ -18,13 +18,13 @@ pub fn put_heading(text: &mut [u8])
     text::put_text(text, 0, &heading);
 }
 
-// A number in a column and the byte behind it, from `at` on. Gives where they end.
-fn put_field(text: &mut [u8], at: usize, width: usize, n: u64, behind: u8) -> usize
-    requires { ⌜ (length (numberText n) ≤ width) × (at + (width + 1) ≤ length (now text)) ⌝ }
-    ensures { λ r. ⌜ Put (now (text .entry)) at (fieldText width (numberText n) behind) (now (text .exit)) r × (r ≡ at + (width + 1)) ⌝ }
+// A line with nothing in its columns, 67 blanks and a line feed, from `at` on.
+fn put_blank_line(text: &mut [u8], at: usize)
+    requires { ⌜ at + 68 ≤ length (now text) ⌝ }
+    ensures { λ _. ⌜ now (text .exit) ≡ put (now (text .entry)) at (lineText [] [] [] []) ⌝ }
 {
-    let end = text::put_column(text, at, width, n);
-    text::put_byte(text, end, behind)
+    let blank = *b"                                                                   \n";
+    text::put_text(text, at, &blank);
 }
 
 // A line with a number in each column, from `at` on. Gives where it ends.
@@ -32,10 +32,13 @@ fn put_line(text: &mut [u8], at: usize, cell: u16, record: u64, backup: u64, mar
     requires { ⌜ (cell < 10000) × (at + 68 ≤ length (now text)) ⌝ }
     ensures { λ r. ⌜ Put (now (text .entry)) at (lineText (numberText cell) (numberText «record») (numberText backup) (numberText mark)) (now (text .exit)) r × (r ≡ at + 68) ⌝ }
 {
-    let end = put_field(text, at, 4, cell as u64, b' ');
-    let end = put_field(text, end, 20, record, b' ');
-    let end = put_field(text, end, 20, backup, b' ');
-    put_field(text, end, 20, mark, b'\n')
+    put_blank_line(text, at);
+    let powers = text::powers();
+    text::put_digits(&powers, text, at + 4, cell as u64);
+    text::put_digits(&powers, text, at + 25, record);
+    text::put_digits(&powers, text, at + 46, backup);
+    text::put_digits(&powers, text, at + 67, mark);
+    at + 68
 }
 
 // The line of a cell, from `at` on. Gives where it ends.

@@ -1,12 +1,13 @@
--- What is true of texts written one after the other.
-use Prim.Native.Nat.{ℕ, suc, _+_, _≤_, _<_}
+-- What is true of texts written one after the other, or one over another.
+use Prim.Native.Nat.{ℕ, suc, _+_, _-_, _≤_, _<_}
 use mathlib.Core.Path.{_≡_, sym, ap, _∙_}
 use mathlib.Core.List.{List, [], _∷_, _++_, append-assoc, append-nil}
 use native.Mathlib.Omega.{arith}
 use native.Mathlib.Numerals.{add-one}
-use lib.ListN.{length, take, drop, length-append, length-drop, set}
+use lib.ListN.{length, take, drop, replicate, length-append, length-drop, length-replicate, replicate-append-replicate, set}
 use lib.Seq.{paste, paste-zero, length-take-le, take-at, drop-at, drop-drop, drop-length, take-take, take-append-le, set-split, append-snoc, take-length}
-use Rattle.text.specs.Writing.{put, Put}
+use Rattle.text.specs.Ascii.{blank}
+use Rattle.text.specs.Writing.{put, Put, aligned}
 
 pub put-length : (row : List ℕ) (at : ℕ) (t : List ℕ) → at + length t ≤ length row → length (take at row ++ t) ≡ at + length t
 put-length row at t h =
@@ -97,3 +98,46 @@ put-back {row} {text} {after} {at} {end} p h =
     ap (drop at) (p .holds ∙ append-assoc (take at row) text (drop (at + length text) row))
     ∙ drop-at (take at row) (text ++ drop (at + length text) row) at here
     ∙ ap (λ (l : List ℕ). text ++ l) past ∙ append-nil text
+
+-- A text written over one of its length.
+put-over : (front old back : List ℕ) (at : ℕ) (t : List ℕ) → length front ≡ at → length old ≡ length t → put (front ++ old ++ back) at t ≡ front ++ t ++ back
+put-over front old back at t h g =
+    let here : take at (front ++ old ++ back) ≡ front =
+    ap (take at) (append-assoc front old back) ∙ take-at front (old ++ back) at h in
+    let there : drop (at + length t) (front ++ old ++ back) ≡ back =
+    drop-at (front ++ old) back (at + length t) (omega (arith, length-append front old)) in
+    ap (λ (l : List ℕ). l ++ t ++ drop (at + length t) (front ++ old ++ back)) here ∙ ap (λ (l : List ℕ). front ++ t ++ l) there
+
+-- A text in a column has the column's width.
+pub aligned-size : (width : ℕ) (t : List ℕ) → length t ≤ width → length (aligned width t) ≡ width
+aligned-size width t h =
+    length-append (replicate (width - length t) blank) t ∙ omega (arith, length-replicate (width - length t) blank)
+
+-- A text written up to the end of an empty column stands in it.
+put-aligned : (front back : List ℕ) (width at : ℕ) (t : List ℕ) → length t ≤ width → at + length t ≡ length front + width → put (front ++ aligned width [] ++ back) at t ≡ front ++ aligned width t ++ back
+put-aligned front back width at t h g =
+    let n = width - length t in
+    let pad = replicate n blank in
+    let old = replicate (length t) blank in
+    let whole : width - 0 ≡ n + length t = omega arith in
+    let empty : aligned width [] ≡ pad ++ old =
+    append-nil (replicate (width - 0) blank) ∙ ap (λ (k : ℕ). replicate k blank) whole ∙ sym (replicate-append-replicate n (length t) blank) in
+    ap (λ (l : List ℕ). put (l ++ back) at t) (ap (λ (l : List ℕ). front ++ l) empty ∙ sym (append-assoc front pad old))
+    ∙ put-over (front ++ pad) old back at t (omega (arith, length-append front pad, length-replicate n blank)) (length-replicate (length t) blank)
+    ∙ ap (λ (l : List ℕ). l ++ back) (append-assoc front pad t)
+
+-- The same of two calls, the first for a line whose column is empty, with `front` before the column and `back` behind it.
+pub in-column : {row t after last : List ℕ} {at end here there : ℕ} (line : List ℕ → List ℕ) (front back : List ℕ) (width : ℕ) → ((u : List ℕ) → line u ≡ front ++ aligned width u ++ back) →
+    Put row at (line []) after end → Put after here t last there → length t ≤ width → there ≡ at + length front + width → end ≤ length row → Put row at (line t) last end
+in-column {row} {t} {at = at} {end = end} {here = here} line front back width shape p q h g room =
+    let size : (u : List ℕ) → length u ≤ width → length (line u) ≡ length front + width + length back =
+    (λ u f. ap length (shape u) ∙ length-append (front ++ aligned width u) back ∙ omega (arith, length-append front (aligned width u), aligned-size width u f)) in
+    let ends : end ≡ at + length (line t) = omega (arith, p .ends, size [] (omega arith), size t h) in
+    let spread : (u : List ℕ) → end ≡ at + length (line u) → put row at (line u) ≡ take at row ++ front ++ aligned width u ++ (back ++ drop end row) =
+    (λ u e. ap (λ (k : ℕ). take at row ++ line u ++ drop k row) (sym e) ∙ ap (λ (l : List ℕ). take at row ++ l ++ drop end row) (shape u) ∙ simp append-assoc) in
+    record {
+      ends = ends;
+      holds = q .holds ∙ ap (λ (l : List ℕ). put l here t) (p .holds ∙ spread [] (p .ends))
+          ∙ put-aligned (take at row ++ front) (back ++ drop end row) width here t h (omega (arith, q .ends, length-append (take at row) front, length-take-le at row (omega (arith, p .ends))))
+          ∙ sym (spread t ends);
+    }

@@ -1,35 +1,40 @@
--- `page::lines::put_line` meets its contract: the parts of `lineText` are written one after the other.
+-- `page::lines::put_line` meets its contract: each number ends where its column of the blank line ends.
+use mathlib.Core.Path.{refl}
 use native.Mathlib.Omega.{arith}
+use native.Mathlib.Nat.{le-trans}
 use borrow.Author.Needs.{needs}
 use Rattle.text.proofs.Numbers.{number-width, word-width}
-use Rattle.text.proofs.Writing.{and-then}
-use Rattle.board.specs.Page.{lineText}
+use Rattle.page.proofs.Texts.{line-put}
 use Rattle.page.proofs.lines.put_line.Statement.{statement}
 use Rattle.page.proofs.lines.put_line.Tie as tie
 
-put-field-requires : tie.Need-put-field-requires
-put-field-requires c κs = (number-width 3 (c .before .before .args .cell) (omega arith), omega arith)
+put-digits-requires : tie.Need-put-digits-requires
+put-digits-requires c κs = (search needs, le-trans (number-width 3 _ (search needs)) (omega arith), search needs)
 
-put-field-requires-2 : tie.Need-put-field-requires-2
-put-field-requires-2 c κs = (word-width _ (search needs), omega arith)
+put-digits-requires-2 : tie.Need-put-digits-requires-2
+put-digits-requires-2 c κs = (search needs, le-trans (word-width _ (search needs)) (omega arith), search needs)
 
-put-field-requires-3 : tie.Need-put-field-requires-3
-put-field-requires-3 c κs = (word-width _ (search needs), omega arith)
+put-digits-requires-3 : tie.Need-put-digits-requires-3
+put-digits-requires-3 c κs = (search needs, le-trans (word-width _ (search needs)) (omega arith), search needs)
 
-put-field-requires-4 : tie.Need-put-field-requires-4
-put-field-requires-4 c κs = (word-width _ (search needs), omega arith)
+put-digits-requires-4 : tie.Need-put-digits-requires-4
+put-digits-requires-4 c κs = (search needs, le-trans (word-width _ (search needs)) (omega arith), search needs)
 
 returns : tie.Need-returns
-unfolding lineText
 returns c =
-    let c3 = c .before .before in
-    let c2 = c3 .before .before .before .before in
-    let c1 = c2 .before .before .before .before in
-    let c0 = c1 .before .before .before .before in
-    let t1 = and-then (c0 .put-field .ensures .0) (c1 .put-field2 .ensures .0) (omega arith) in
-    let t2 = and-then t1 (c2 .put-field3 .ensures .0) (omega arith) in
-    (and-then t2 (c3 .put-field4 .ensures .0) (omega arith), omega arith)
+    let d = c .before .before in
+    let d3 = d .before .before .before .before .before in
+    let d2 = d3 .before .before .before .before .before in
+    let d1 = d2 .before .before .before .before .before in
+    let blank = d1 .before .before .before .before .before .before in
+    let start = blank .before .before .before in (
+      line-put (start .pre .1) (number-width 3 (start .args .cell) (start .pre .0)) (word-width _ (search needs)) (word-width _ (search needs)) (word-width _ (search needs))
+          (blank .put-blank-line .ensures) (d1 .put-digits .ensures) (d2 .put-digits2 .ensures) (d3 .put-digits3 .ensures) (d .put-digits4 .ensures),
+      refl,
+    )
 
 pub put-line-spec : {M : Type 1} → statement M
 put-line-spec =
-    tie.close (tie.spec put-field-requires put-field-requires-2 put-field-requires-3 put-field-requires-4 (search needs) returns)
+    tie.close
+    (tie.spec (search needs) (search needs) (search needs) put-digits-requires (search needs) put-digits-requires-2 (search needs) put-digits-requires-3
+    (search needs) put-digits-requires-4 (search needs) (search needs) returns)
