@@ -148,12 +148,6 @@ last-more k q d h =
     let digit : (10 * q + d) % 10 ≡ d = omega arith in
     ap (λ (n : ℕ). lastDigits k n ++ (('0' + (10 * q + d) % 10) ∷ [])) tenth ∙ ap (λ (n : ℕ). lastDigits k q ++ (('0' + n) ∷ [])) digit
 
--- There are as many as are asked for.
-pub last-length : (k n : ℕ) → length (lastDigits k n) ≡ k
-unfolding lastDigits
-last-length zero n = refl
-last-length (suc k) n = length-append (lastDigits k (n / 10)) (('0' + n % 10) ∷ []) ∙ omega (arith, last-length k (n / 10))
-
 -- Those of a number of two parts are those of each, one behind the other.
 pub last-join : (a b q r : ℕ) → r < 10 ^ b → lastDigits (a + b) (q * 10 ^ b + r) ≡ lastDigits a q ++ lastDigits b r
 unfolding lastDigits

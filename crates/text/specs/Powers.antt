@@ -14,8 +14,8 @@ pub record PowersOfTen (table : List ℕ) : Type 0 where
 pub record PowersHold : Type 0 where
   pub entries : (table : List ℕ) → PowersOfTen table → (k : ℕ) → k < 20 → getD table k 0 ≡ 10 ^ k
 
--- A run of digits can be counted: its places are below those that a 64-bit number has no room to multiply, its last unit and the
--- number are multiples of 16, and the number has no digit before the first place.
+-- What a run of digits asks: at most nineteen places, units that 64 bits hold eight times, the last unit and the number multiples
+-- of 16, and no digit before the first place.
 pub record Runs (from to scale s : ℕ) : Type 0 where
   pub last : to ≤ from
   pub first : from ≤ 19

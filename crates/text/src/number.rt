@@ -38,8 +38,8 @@ fn counted(s: u64, unit: u64) -> u64
     reduced(s, once, s)
 }
 
-// The digits of `s` at the places from `from` down to `to`, where a place's unit is `scale` times its power of ten; place 1
-// stands before `end`. Gives what is left.
+// The digits of `s` at the places from `from` down to the one above `to`. Place k stands k bytes before `end`, and its unit is
+// `scale` times 10^(k - 1). Gives what is left.
 fn put_run(
     powers: &[u64; 20],
     out: &mut [u8],
@@ -64,7 +64,7 @@ fn put_run(
     left
 }
 
-// The last `from` digits of a number, at most four.
+// The last `from` digits of a number, at most four, up to `end`. The last of them is what the run leaves.
 fn put_last(powers: &[u64; 20], out: &mut [u8], end: usize, from: usize, n: u64)
     requires { ⌜ PowersOfTen (now powers) × (0 < from) × (from ≤ 4) × (n < 10 ^ from) × (from ≤ end) × (end ≤ length (now out)) ⌝ }
     ensures { λ _. ⌜ Put (now (out .entry)) (end - from) (lastDigits from n) (now (out .exit)) end ⌝ }
@@ -73,7 +73,8 @@ fn put_last(powers: &[u64; 20], out: &mut [u8], end: usize, from: usize, n: u64)
     out[end - 1] = b'0' + digit as u8;
 }
 
-// The last `from` digits of a number, at most nineteen. From 10^4 on a power of ten is a multiple of 16.
+// The last `from` digits of a number, at most nineteen, up to `end`. From 10^4 on a power of ten is a multiple of 16, so the
+// number's own low four bits are put aside; below, all is taken sixteen times.
 fn put_places(powers: &[u64; 20], out: &mut [u8], end: usize, from: usize, n: u64)
     requires { ⌜ PowersOfTen (now powers) × (0 < from) × (from ≤ 19) × (n < 10 ^ from) × (from ≤ end) × (end ≤ length (now out)) ⌝ }
     ensures { λ _. ⌜ Put (now (out .entry)) (end - from) (lastDigits from n) (now (out .exit)) end ⌝ }
@@ -87,7 +88,7 @@ fn put_places(powers: &[u64; 20], out: &mut [u8], end: usize, from: usize, n: u6
     }
 }
 
-// How many digits a number has.
+// How many digits a number below 10^19 has.
 fn digits_of(powers: &[u64; 20], n: u64) -> usize
     requires { ⌜ PowersOfTen (now powers) × (n < 10 ^ 19) ⌝ }
     ensures { λ r. ⌜ r ≡ length (numberText n) ⌝ }

@@ -1,5 +1,4 @@
 -- `text::number::reduced` meets its contract: the wrapped difference is below 2^63 exactly where `k` fits.
-use native.Mathlib.Omega.{arith}
 use borrow.Author.Needs.{needs}
 use Rattle.text.proofs.Counting.{taken-off, left-alone}
 use Rattle.text.proofs.number.reduced.Statement.{statement}

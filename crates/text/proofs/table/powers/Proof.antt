@@ -1,6 +1,5 @@
 -- `text::table::powers` meets its contract: the whole table passes the test.
 use mathlib.Core.Path.{refl}
-use borrow.Author.Needs.{needs}
 use Rattle.text.proofs.TenTimes.{tenfold, is-table}
 use Rattle.text.proofs.table.powers.Statement.{statement}
 use Rattle.text.proofs.table.powers.Tie as tie
