@@ -5,7 +5,7 @@ use mathlib.Core.List.{List, [], _∷_, _++_, append-assoc, append-nil}
 use native.Mathlib.Omega.{arith}
 use native.Mathlib.Numerals.{add-one}
 use lib.ListN.{length, take, drop, replicate, length-append, length-replicate, replicate-append-replicate, set}
-use lib.Seq.{paste, paste-zero, length-take-le, take-at, drop-at, drop-drop, drop-length, set-split, append-snoc, take-length}
+use lib.Seq.{paste, paste-zero, length-take-le, take-at, drop-at, drop-drop, drop-length, take-take, take-append-le, set-split, append-snoc, take-length}
 use Rattle.text.specs.Ascii.{blank}
 use Rattle.text.specs.Writing.{put, Put, aligned}
 
@@ -59,6 +59,24 @@ put-front {row} {text} {after} {at} {end} p h =
 -- Nothing written.
 pub put-none : (row : List ℕ) (at : ℕ) → row ≡ put row at []
 put-none row at = paste-zero row at []
+
+-- A text written before another, up to where that begins, is both written.
+pub put-before : (row : List ℕ) (at : ℕ) (t u : List ℕ) → at + length t + length u ≤ length row → put (put row (at + length t) u) at t ≡ put row at (t ++ u)
+put-before row at t u h =
+    let n = at + length t in
+    let front : take at (put row n u) ≡ take at row =
+    ap (take at) (append-assoc (take n row) u (drop (n + length u) row))
+    ∙ take-append-le at (take n row) (u ++ drop (n + length u) row) (omega (arith, length-take-le n row (omega arith)))
+    ∙ take-take at n row (omega arith) in
+    let back : drop n (put row n u) ≡ u ++ drop (n + length u) row =
+    ap (drop n) (append-assoc (take n row) u (drop (n + length u) row))
+    ∙ drop-at (take n row) (u ++ drop (n + length u) row) n (length-take-le n row (omega arith)) in
+    let far : n + length u ≡ at + length (t ++ u) = omega (arith, length-append t u) in
+    ap (λ (l : List ℕ). l ++ t ++ drop n (put row n u)) front
+    ∙ ap (λ (l : List ℕ). take at row ++ t ++ l) back
+    ∙ sym (append-assoc (take at row ++ t) u (drop (n + length u) row))
+    ∙ ap (λ (l : List ℕ). l ++ drop (n + length u) row) (append-assoc (take at row) t u)
+    ∙ ap (λ (k : ℕ). take at row ++ (t ++ u) ++ drop k row) far
 
 -- The row from a text on that ends it.
 pub put-back : {row text after : List ℕ} {at end : ℕ} → Put row at text after end → end ≡ length row → drop at after ≡ text

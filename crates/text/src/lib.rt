@@ -1,5 +1,6 @@
 // Text written into a lent row of bytes: bytes, texts, and numbers in decimal. A row is written from `at` on and keeps all
 // other bytes.
+mod digits;
 mod number;
 mod table;
 
@@ -8,7 +9,7 @@ ghost use mathlib.Core.List.{[], _∷_};
 ghost use Prim.Native.Nat.{_+_, _<_, _≤_};
 ghost use lib.ListN.{length};
 ghost use Rattle.text.specs.Writing.{put, Put};
-pub use number::put_digits;
+pub use digits::put_digits;
 pub use number::put_number;
 pub use table::powers;
 

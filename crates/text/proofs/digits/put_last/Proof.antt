@@ -1,4 +1,4 @@
--- `text::number::put_last` meets its contract: a run, and the digit that it leaves.
+-- `text::digits::put_last` meets its contract: a run, and the digit that it leaves.
 use Prim.Native.Nat.{_+_, _-_, _/_}
 use mathlib.Core.Path.{_∙_}
 use native.Mathlib.Omega.{arith}
@@ -6,8 +6,8 @@ use lib.ListN.{length-set}
 use borrow.Author.Needs.{needs}
 use Rattle.text.specs.Ascii.{'0'}
 use Rattle.text.proofs.Places.{last-runs, last-written}
-use Rattle.text.proofs.number.put_last.Statement.{statement}
-use Rattle.text.proofs.number.put_last.Tie as tie
+use Rattle.text.proofs.digits.put_last.Statement.{statement}
+use Rattle.text.proofs.digits.put_last.Tie as tie
 
 mul-put-run : tie.Need-mul-put-run
 mul-put-run c =

@@ -1,4 +1,4 @@
--- `text::number::digits_of` meets its contract: `n` reaches every power below the one where the loop ends.
+-- `text::digits::digits_of` meets its contract: `n` reaches every power below the one where the loop ends.
 use Prim.Native.Nat.{ℕ, suc, _+_, _-_, _^_, _≤_, _<_}
 use mathlib.Core.Path.{_≡_, subst}
 use native.Mathlib.Omega.{arith}
@@ -6,8 +6,8 @@ use lib.ListN.{length}
 use Rattle.text.specs.Numbers.{numberText}
 use Rattle.text.proofs.Numbers.{number-width, number-long, number-some}
 use Rattle.text.proofs.TenTimes.{power-at}
-use Rattle.text.proofs.number.digits_of.Statement.{statement}
-use Rattle.text.proofs.number.digits_of.Tie as tie
+use Rattle.text.proofs.digits.digits_of.Statement.{statement}
+use Rattle.text.proofs.digits.digits_of.Tie as tie
 
 abbrev Inv-loop : tie.InvT-loop
 Inv-loop powers n k₀ k = (0 < k) × (k ≤ 19) × (k ≤ length (numberText n))

@@ -1,4 +1,4 @@
--- `text::number::counted` meets its contract: the unit is taken off eight or four times, twice and once where that fits.
+-- `text::digits::counted` meets its contract: the unit is taken off eight or four times, twice and once where that fits.
 use Prim.Native.Nat.{ℕ, suc, _+_, _*_, _-_, _/_, _%_, _^_, _≤_, _<_}
 use mathlib.Core.Path.{_≡_, sym, ap, subst, _∙_}
 use mathlib.Core.Bool.{cond}
@@ -9,8 +9,8 @@ use borrow.Author.Needs.{needs}
 use borrow.Author.Tests.{ltb-true, ltb-false}
 use Rattle.text.proofs.Bools.{on}
 use Rattle.text.proofs.Counting.{Counting, too-many, so-many, halved, all-counted}
-use Rattle.text.proofs.number.counted.Statement.{statement}
-use Rattle.text.proofs.number.counted.Tie as tie
+use Rattle.text.proofs.digits.counted.Statement.{statement}
+use Rattle.text.proofs.digits.counted.Tie as tie
 
 module _ (s unit : ℕ) (p : (s % 16 ≡ 0) × (unit % 16 ≡ 0) × (s < 10 * unit) × (unit ≤ 10 ^ 18)) where
   -- The count stands with less than `j` units left.

@@ -1,9 +1,9 @@
--- `text::number::put_places` meets its contract: the run above the last four digits, and those four.
+-- `text::digits::put_places` meets its contract: the run above the last four digits, and those four.
 use native.Mathlib.Omega.{arith}
 use borrow.Author.Needs.{needs}
 use Rattle.text.proofs.Places.{upper-runs, left-under, places-written}
-use Rattle.text.proofs.number.put_places.Statement.{statement}
-use Rattle.text.proofs.number.put_places.Tie as tie
+use Rattle.text.proofs.digits.put_places.Statement.{statement}
+use Rattle.text.proofs.digits.put_places.Tie as tie
 
 put-run-requires : tie.Need-put-run-requires
 put-run-requires c κs =

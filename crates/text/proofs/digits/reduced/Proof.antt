@@ -1,8 +1,8 @@
--- `text::number::reduced` meets its contract: the wrapped difference is below 2^63 exactly where `k` fits.
+-- `text::digits::reduced` meets its contract: the wrapped difference is below 2^63 exactly where `k` fits.
 use borrow.Author.Needs.{needs}
 use Rattle.text.proofs.Counting.{taken-off, left-alone}
-use Rattle.text.proofs.number.reduced.Statement.{statement}
-use Rattle.text.proofs.number.reduced.Tie as tie
+use Rattle.text.proofs.digits.reduced.Statement.{statement}
+use Rattle.text.proofs.digits.reduced.Tie as tie
 
 returns : tie.Need-returns
 returns c =

@@ -1,4 +1,4 @@
--- `text::number::put_digits` meets its contract: a 1 and nineteen digits, or as many digits as the number has.
+-- `text::digits::put_digits` meets its contract: a 1 and nineteen digits, or as many digits as the number has.
 use Prim.Native.Nat.{ℕ, _+_, _-_, _^_, _≤_, _<_}
 use mathlib.Core.Path.{_≡_, sym, subst, _∙_}
 use mathlib.Core.List.{List}
@@ -11,8 +11,8 @@ use Rattle.text.specs.Powers.{PowersOfTen}
 use Rattle.text.proofs.Numbers.{number-some, number-width}
 use Rattle.text.proofs.Places.{number-below, twenty, twenty-written, number-written}
 use Rattle.text.proofs.TenTimes.{power-at}
-use Rattle.text.proofs.number.put_digits.Statement.{statement}
-use Rattle.text.proofs.number.put_digits.Tie as tie
+use Rattle.text.proofs.digits.put_digits.Statement.{statement}
+use Rattle.text.proofs.digits.put_digits.Tie as tie
 
 -- The table's last entry.
 last-power : {table : List ℕ} → PowersOfTen table → getD table 19 0 ≡ 10 ^ 19
