@@ -20,7 +20,7 @@ use Rattle.board.specs.Board.{Board, cells, listWords, linesOutside, wor
 use Rattle.board.specs.State.{allFree, conditionOf, quiescent}
 use Rattle.board.specs.Machine.{Unfinished, none, update, Machine, markedCount}
 use Rattle.board.specs.Sequence.{Run}
-use Rattle.board.specs.Statements.{Spare}
+use Rattle.board.specs.Statements.{SameSpare}
 use Rattle.board.proofs.Laws.View.{View, view, Sized}
 
 -- ---- rows
@@ -145,8 +145,8 @@ pub record RecoveryInv (l : ℕ) (xs : ℕ → ℕ) (b : Board) : Type 0 where
   pub epochs : epochOf (b .cache) ≡ epochOf (b .memory)
   -- undoing the cache too gives the values
   pub undoes : Undoes l (epochOf (b .memory)) xs (b .cache)
-  -- words 6 and 7 are 0 in the cache
-  pub spare : Spare l (b .cache)
+  -- words 6 and 7 are memory's
+  pub spare : SameSpare l (b .memory) (b .cache)
   -- cells passed are not logged in this epoch in the cache
   pub passedCache : (c : ℕ) → c < b .state .place → view (b .cache) c .mark ≡ epochOf (b .memory) → ⊥
   -- nor in memory
@@ -284,8 +284,8 @@ pub record RunningInv (l : ℕ) (b : Board) (m : Machine) : Type 0 where
   pub undoes : Undoes l (epochOf (b .memory)) (m .checkpointed) (b .cache)
   -- each record in the cache is the machine's current value
   pub current : (c : ℕ) → c < cells l → view (b .cache) c .value ≡ m .current c
-  -- words 6 and 7 are 0 in the cache
-  pub spare : Spare l (b .cache)
+  -- words 6 and 7 are memory's
+  pub spare : SameSpare l (b .memory) (b .cache)
   -- the list is as long as there are marked cells, and names cells
   pub count : b .state .listed ≡ markedCount m
   -- the list names cells
@@ -312,8 +312,6 @@ InPhase Running r = RunningInv (r .machine .lines) (r .board) (r .machine) × (r
 pub record Inv (r : Run) : Type 0 where
   -- the rows have their lengths
   pub sizes : Sizes (r .machine .lines) (r .board)
-  -- words 6 and 7 are 0 in memory
-  pub spare : Spare (r .machine .lines) (r .board .memory)
   -- in every phase memory gives the checkpointed values, or no format has finished since one began to erase it
   pub kept : r .erased ≡ false → Kept (r .machine .lines) (r .machine .checkpointed) (r .board .memory)
   -- a memory that is being erased says so

@@ -9,6 +9,7 @@ pub mod Recovery
 pub mod Checkpoint
 pub mod Keeps
 pub mod Stores
+pub mod Spare
 pub mod Updates
 pub mod Steps
 pub mod Theorems

@@ -13,9 +13,9 @@ use Rattle.board.specs.State.{isRunning, isFormatting}
 use Rattle.board.specs.Causes.{causes}
 use Rattle.board.specs.Next.{Taken, next, valueOf}
 use Rattle.board.specs.Machine.{Machine, beginning, formatSteps}
-use Rattle.board.specs.Sequence.{Begins, formatted, Run, cutRun, cuts, History, begun, further, rose, lastCheckpoint, recoverySteps}
+use Rattle.board.specs.Sequence.{Begins, formatted, recoveryStarted, Run, cutRun, cuts, History, begun, further, rose, lastCheckpoint, recoverySteps}
 use Rattle.board.specs.Statements
-use Rattle.board.specs.Statements.{Reads, ReadsCheckpointed, Recovery, CutAndRecovered, ReadAlike, Demand3, LastCheckpoint, RecoveredSizes, Completes, formatStepIn, Completion, stepsFrom, FormatEnds, RecoveryEnds, CheckpointEnds, AwayHoldsUpNone, GoesAndComes, RecoveryStarts, HistoryBegins, HasRecovery, UpdateEnds, SingleStores, Spare, SpareWords}
+use Rattle.board.specs.Statements.{Reads, ReadsCheckpointed, Recovery, CutAndRecovered, ReadAlike, Demand3, LastCheckpoint, RecoveredSizes, Completes, formatStepIn, Completion, stepsFrom, FormatEnds, RecoveryEnds, CheckpointEnds, AwayHoldsUpNone, GoesAndComes, RecoveryStarts, HistoryBegins, HasRecovery, UpdateEnds, SingleStores, SpareWords, FormatSpare}
 use Rattle.board.proofs.Laws.Bools.{on, not-off}
 use Rattle.board.proofs.Invariant.{Inv}
 use Rattle.board.proofs.Laws.Taken.{standsAt, passed, performed-number, performed-value, performed-taken, performing}
@@ -32,6 +32,7 @@ use Rattle.board.proofs.Recovery.Ends as RecoverySteps
 use Rattle.board.proofs.Checkpoint.Ends as CheckpointSteps
 use Rattle.board.proofs.Updates
 use Rattle.board.proofs.Stores
+use Rattle.board.proofs.Spare as SparePart
 
 -- ---- 1. reads
 
@@ -112,6 +113,7 @@ last-stays format r r′ xs done c h before = go format done
 -- A history begins with equal current and checkpointed values.
 begins-equal : (b : Board) (m : Machine) → Begins b m → (c : ℕ) → m .current c ≡ m .checkpointed c
 begins-equal b m (formatted l w value d d′ b′ p takes) c = refl
+begins-equal b m (recoveryStarted value d b′ p) c = refl
 
 -- The checkpointed values are the current ones where memory's epoch last rose.
 pub last-checkpoint : LastCheckpoint
@@ -194,10 +196,7 @@ pub single-stores : SingleStores
 single-stores = Stores.single-stores
 
 pub spare-words : SpareWords
-spare-words r h = (history-inv r h .spare, λ d f. spare-cache (r .board .state .phase) refl d f)
-  where
-    spare-cache : (p : Phase) → r .board .state .phase ≡ p → r .crashed ≡ false → isFormatting (r .board .state .phase) ≡ false → Spare (r .machine .lines) (r .board .cache)
-    spare-cache Off e d f = absurd (in-phase r (history-inv r h) d Off e)
-    spare-cache Formatting e d f = absurd (true≢false (sym (ap isFormatting e) ∙ f))
-    spare-cache Recovering e d f = in-phase r (history-inv r h) d Recovering e .0 .spare
-    spare-cache Running e d f = in-phase r (history-inv r h) d Running e .0 .spare
+spare-words = SparePart.spare-words
+
+pub format-spare : FormatSpare
+format-spare = SparePart.format-spare

@@ -1,4 +1,4 @@
--- Document 01, "Why a call is turned down", and document 02, ticket 2: the cause table, one test a row, and for each call its rows in the order tested.
+-- Document 01, "Why a call is turned down", and document 02, tickets 2 and 4: the cause table, one test a row, and for each call its rows in the order tested.
 use Prim.Native.Nat.{ℕ, _+_, _-_, _/_, _%_}
 use mathlib.Core.List.{List, [], _∷_}
 use mathlib.Core.Bool.{Bool, true, false, cond, not, _&&_, _||_}
@@ -9,9 +9,11 @@ use Rattle.board.specs.declared.Phase.{Phase}
 use Rattle.board.specs.declared.Phase.the-variants.{Off, Formatting, Recovering, Running}
 use Rattle.board.specs.declared.Call.{Call}
 use Rattle.board.specs.declared.Call.the-variants.{FormatStart, RecoveryStart, Step, Update, RestartPoint, Advance, Request, WriteBack, Read, GoAway, ComeBack}
+use Rattle.line.specs.declared.Field.{Field}
+use Rattle.line.specs.Cell.{fieldOf}
 use Rattle.board.specs.Board
 use Rattle.board.specs.Board.{Board, cells, rowWords, listWords, outside, workersOutside, epochOf, linesOf, workersOf, restNotZero, lastEpoch}
-use Rattle.board.specs.State.{conditionOf, isFree, isUpdating, isAway, quiescent, updates, mustList, anyWorker, othersUpdate, isOff, isFormatting, isRunning}
+use Rattle.board.specs.State.{conditionOf, isFree, isUpdating, isAway, quiescent, updates, mustList, anyUnder, anyWorker, othersUpdate, isOff, isFormatting, isRunning}
 
 -- A row of the table: the cause's number, and whether it stands.
 pub record Cause : Type 0 where
@@ -90,6 +92,12 @@ badHeader row =
     || workersOutside (linesOf row) (workersOf row)
     || restNotZero row
 
+-- ---- cause 14, "after 5"
+
+-- 02: "any mark greater than its epoch": the mark of some cell of the row is greater than the given epoch.
+abbrev pub laterMark : ℕ → List ℕ → Bool
+laterMark epoch row = anyUnder (cells (linesOf row)) (λ c. ltb epoch (fieldOf row c Field.Mark))
+
 -- ---- causes 6 to 8
 
 -- "worker W or more".
@@ -146,7 +154,7 @@ storesSpentEpoch b = checkpointing (b .state) && eqb (b .state .place) (b .state
 abbrev pub row : ℕ → Bool → Cause
 row number stands = record { number = number; stands = stands }
 
--- "Checked in rising order of number", and 02's 13 "after 8": what can turn each call down.
+-- "Checked in rising order of number", and 02's 13 "after 8" and 14 "after 5": what can turn each call down.
 unfoldable pub causes : Call → Board → List Cause
 causes (FormatStart l w) b =
     row 1 (outside l w)
@@ -155,6 +163,7 @@ causes (FormatStart l w) b =
 causes RecoveryStart b =
     row 4 (badRecoveryRows b)
     ∷ row 5 (badHeader (b .memory))
+    ∷ row 14 (laterMark (epochOf (b .memory)) (b .memory))
     ∷ []
 causes Step b =
     row 2 (notOn b)

@@ -1,4 +1,4 @@
--- Document 01, "Steps", and document 02, ticket 2: what a taken call does, store by store.
+-- Document 01, "Steps", and document 02, tickets 2 and 4: what a taken call does, store by store.
 use Prim.Native.Nat.{ℕ, _+_}
 use mathlib.Core.List.{List}
 use mathlib.Core.Bool.{Bool, true, false, cond, not, _&&_}
@@ -49,6 +49,10 @@ stated s b = record { state = s; memory = b .memory; cache = b .cache; entries =
 -- "a cell whose mark equals the epoch": the cell has its old value logged in this epoch.
 abbrev pub logged : List ℕ → ℕ → Bool
 logged row c = eqb (fieldOf row c Field.Mark) (epochOf row)
+
+-- 02, ticket 4, a memory's "own undo": for each cell the backup where its mark is the epoch, else the record.
+abbrev pub undone : List ℕ → ℕ → ℕ
+undone row c = cond (logged row c) (fieldOf row c Field.Backup) (fieldOf row c Field.Record)
 
 -- "record := backup": the old value put back.
 abbrev pub restored : List ℕ → ℕ → List ℕ

@@ -1,4 +1,4 @@
--- Document 01, "The simple machine": what demand 2 compares the board with. It never sees the board.
+-- Document 01, "The simple machine", and document 02, ticket 4: what demand 2 compares the board with. It never sees the board.
 use Prim.Native.Nat.{ℕ, zero, suc, _+_, _-_}
 use mathlib.Core.Bool.{Bool, true, false, cond, not, _&&_, _||_}
 use lib.Dec.{leb, eqb}
@@ -12,7 +12,7 @@ pub data Unfinished : Type 0 where
   update : ℕ → ℕ → ℕ → Unfinished
 
 -- "It holds for each cell a current and a checkpointed value and whether it is marked; ..; whether a request stands; the steps since the last start or request."
--- Beside 01's list: whether the last start was a format's, and the L of the last format.
+-- Beside 01's list: whether the last start was a format's, and L.
 pub record Machine : Type 0 where
   pub current : ℕ → ℕ
   pub checkpointed : ℕ → ℕ
@@ -31,6 +31,11 @@ formatSteps l = l + 2
 abbrev pub beginning : ℕ → Machine
 beginning l =
     record { current = λ c. 0; checkpointed = λ c. 0; marked = λ c. false; unfinished = λ w. none; requested = false; steps = formatSteps l; formatting = true; lines = l }
+
+-- 02, ticket 4: at a recovery's start that takes a memory, "its own undo standing as the first checkpoint": both values of each cell are the given ones, with no marks, updates or request.
+abbrev pub recoveryBeginning : ℕ → (ℕ → ℕ) → Machine
+recoveryBeginning l values =
+    record { current = values; checkpointed = values; marked = λ c. false; unfinished = λ w. none; requested = false; steps = 0; formatting = false; lines = l }
 
 -- A function changed at one place.
 unfoldable pub changed {ℓ} : {A : Type ℓ} → (ℕ → A) → ℕ → A → ℕ → A

@@ -1,4 +1,4 @@
--- Document 01, "The simple machine": histories of calls and power cuts, the board beside the machine. A call is known by its contract alone (`Performed`).
+-- Document 01, "The simple machine", and document 02, ticket 4: histories of calls and power cuts, the board beside the machine. A call is known by its contract alone (`Performed`).
 use Prim.Native.Nat.{ℕ, zero, suc, _+_}
 use mathlib.Core.Path.{_≡_}
 use mathlib.Core.List.{List}
@@ -7,12 +7,12 @@ use lib.Dec.{eqb}
 use lib.ListN.{length}
 use Rattle.board.specs.declared.State.{State}
 use Rattle.board.specs.declared.Call.{Call}
-use Rattle.board.specs.declared.Call.the-variants.{FormatStart, Step}
+use Rattle.board.specs.declared.Call.the-variants.{FormatStart, RecoveryStart, Step}
 use Rattle.board.specs.Board.{Board, cells, epochOf, linesOf}
-use Rattle.board.specs.Effects.{logged}
+use Rattle.board.specs.Effects.{logged, undone}
 use Rattle.board.specs.Next.{kind, isStart, isStep, Performed}
 use Rattle.board.specs.Page.{PagePerformed}
-use Rattle.board.specs.Machine.{Machine, beginning, feed, formatSteps, finishesFormat}
+use Rattle.board.specs.Machine.{Machine, beginning, recoveryBeginning, feed, formatSteps, finishesFormat}
 
 -- ---- where a history begins
 
@@ -23,9 +23,11 @@ pub data Takes : ℕ → Board → Board → Type 0 where
   between : {n number value : ℕ} (k : Call) {b d b′ : Board} → Performed k b number value d → (number ≡ 0 → isStart (kind k) || isStep (kind k) ≡ false) → Takes (suc n) d b′ → Takes (suc n) b b′
   paged : {n number : ℕ} (text left : List ℕ) {b d b′ : Board} → PagePerformed b text number d left → Takes (suc n) d b′ → Takes (suc n) b b′
 
--- "A sequence begins with state and rows as a finished format left them, whatever they were before its start."
+-- "A sequence begins with state and rows as a finished format left them, whatever they were before its start"; 02, ticket 4: or as a recovery's start left them that took the memory,
+-- whatever memory, state, cache and list were: there the machine begins with the undo of that memory.
 pub data Begins : Board → Machine → Type 0 where
   formatted : (l w value : ℕ) (b d b′ : Board) → Performed (FormatStart l w) b 0 value d → Takes (formatSteps l) d b′ → Begins b′ (beginning l)
+  recoveryStarted : (value : ℕ) (b b′ : Board) → Performed RecoveryStart b 0 value b′ → Begins b′ (recoveryBeginning (linesOf (b .memory)) (undone (b .memory)))
 
 -- ---- what can happen
 
@@ -76,7 +78,7 @@ pub data Happens : Run → Run → Type 0 where
   pages : {r : Run} (text left : List ℕ) (number : ℕ) (b : Board) → PagePerformed (r .board) text number b left → Happens r (unfed b r)
   cuts : {r : Run} (s : State) (cache entries : List ℕ) → KeepsLengths cache entries (r .board) → Happens r (cutRun s cache entries r)
 
--- `History r`: from a finished format on, one thing after the other led to run `r`, "each call getting what the last one left and nobody else writing it".
+-- `History r`: from one of the two beginnings on, one thing after the other led to run `r`, "each call getting what the last one left and nobody else writing it".
 pub data History : Run → Type 0 where
   begun : {b : Board} {m : Machine} → Begins b m → History (opening b m)
   further : {r r′ : Run} → History r → Happens r r′ → History r′

@@ -1,5 +1,5 @@
 -- What is claimed of the board over whole histories, each claim as a type. `proofs/Theorems.antt` proves every one. DEMAND 3 is `Demand3`.
-use Prim.Native.Nat.{ℕ, zero, suc, _+_, _≤_, _<_}
+use Prim.Native.Nat.{ℕ, zero, suc, _+_, _/_, _≤_, _<_}
 use mathlib.Core.Path.{_≡_}
 use mathlib.Core.Logic.{_⊎_, _↔_}
 use mathlib.Core.List.{List}
@@ -17,7 +17,7 @@ use Rattle.board.specs.State.{conditionOf, isFree, isWaiting, isFormatti
 use Rattle.board.specs.Effects.{writtenBack}
 use Rattle.board.specs.Next.{Taken, next, Kind, startsFormat, startsRecovery, stepping, writing, other, reading, kind, isStep, Performed}
 use Rattle.board.specs.Machine.{Machine, formatSteps}
-use Rattle.board.specs.Sequence.{Takes, Begins, Run, called, cutRun, KeepsLengths, Happens, performs, pages, cuts, History, lastCheckpoint, recoverySteps}
+use Rattle.board.specs.Sequence.{Takes, Begins, Run, called, cutRun, KeepsLengths, Happens, performs, pages, cuts, History, begun, further, lastCheckpoint, recoverySteps}
 
 -- ---- 1. reads
 
@@ -94,10 +94,19 @@ formatStepIn (performs {r = r} k number value b p a) = eqb number 0 && isStep (k
 formatStepIn (pages text left number b p) = false
 formatStepIn (cuts s cache entries p) = false
 
--- The board keeps its size: L, and every header word in memory but the epoch.
+-- Words 6 and 7 of every cell line of a row are the given ones.
+abbrev pub Spare : ℕ → (ℕ → ℕ) → List ℕ → Type 0
+Spare lines given row = (l k : ℕ) → 1 ≤ l → l ≤ lines → 6 ≤ k → k < 8 → getD row (lineStart l + k) 0 ≡ given (lineStart l + k)
+
+-- They are the same in two rows.
+abbrev pub SameSpare : ℕ → List ℕ → List ℕ → Type 0
+SameSpare lines row row′ = Spare lines (λ i. getD row i 0) row′
+
+-- The board keeps its size, L and every header word in memory but the epoch, and words 6 and 7 of memory's cell lines.
 pub record SameBoard (r r′ : Run) : Type 0 where
   pub lines : r′ .machine .lines ≡ r .machine .lines
   pub header : (k : ℕ) → 0 < k → k < 8 → getD (r′ .board .memory) k 0 ≡ getD (r .board .memory) k 0
+  pub spare : SameSpare (r .machine .lines) (r .board .memory) (r′ .board .memory)
 
 -- Neither memory's epoch nor any checkpointed value has changed.
 pub record Unchanged (r r′ : Run) : Type 0 where
@@ -112,11 +121,16 @@ pub record Completed (r r′ : Run) : Type 0 where
   pub values : (c : ℕ) → c < cells (r .machine .lines) → r′ .machine .checkpointed c ≡ r .machine .current c
   pub current : (c : ℕ) → c < cells (r .machine .lines) → r′ .machine .current c ≡ r .machine .current c
 
+-- A format's step leaves words 6 and 7 of memory's cell lines, but that those of the line at its place become 0.
+abbrev pub ErasedSpare : Run → Run → Type 0
+ErasedSpare r r′ = Spare (r .machine .lines) (λ i. cond (eqb (i / 8) (r .board .state .place)) 0 (getD (r .board .memory) i 0)) (r′ .board .memory)
+
 -- A format's step that is not its last: memory's epoch is 0 from then on, and the machine keeps its values.
 pub record Erasing (r r′ : Run) : Type 0 where
   pub lines : r′ .machine .lines ≡ r .machine .lines
   pub epoch : epochOf (r′ .board .memory) ≡ 0
   pub values : (c : ℕ) → c < cells (r .machine .lines) → r′ .machine .checkpointed c ≡ r .machine .checkpointed c
+  pub spare : ErasedSpare r r′
 
 -- A format's last step: memory's epoch is 1, and all values are 0.
 pub record Formatted (r r′ : Run) : Type 0 where
@@ -125,6 +139,7 @@ pub record Formatted (r r′ : Run) : Type 0 where
   pub epoch : epochOf (r′ .board .memory) ≡ 1
   pub values : (c : ℕ) → r′ .machine .checkpointed c ≡ 0
   pub current : (c : ℕ) → r′ .machine .current c ≡ 0
+  pub spare : ErasedSpare r r′
 
 -- What becomes of the last checkpoint, by whether a format's step happens.
 abbrev pub Completes : Bool → Run → Run → Type 0
@@ -238,12 +253,18 @@ several (reading c) phase = false
 abbrev pub SingleStores : Type 0
 SingleStores = (k : Call) (b : Board) → Taken k b → several (kind k) (b .state .phase) ≡ false → OneStore b (next k b)
 
--- Words 6 and 7 of every cell line of a row are 0.
-abbrev pub Spare : ℕ → List ℕ → Type 0
-Spare lines row = (l k : ℕ) → 1 ≤ l → l ≤ lines → 6 ≤ k → k < 8 → getD row (lineStart l + k) 0 ≡ 0
+-- Word `i` of memory as the history found it at its beginning, but 0 from a format's step of its line on.
+unfoldable pub asBegun : {r : Run} → History r → ℕ → ℕ
+asBegun (begun {b = b} h) i = getD (b .memory) i 0
+asBegun (further {r = r} h e) i = cond (formatStepIn e && eqb (i / 8) (r .board .state .place)) 0 (asBegun h i)
 
--- "Words 6 and 7 are never changed after format": in memory always, in the cache while recovering or running.
+-- "Words 6 and 7 are never changed": in memory always, in the cache while recovering or running.
 abbrev pub SpareWords : Type 0
 SpareWords =
-    (r : Run) → History r → Spare (r .machine .lines) (r .board .memory) ×
-    (r .crashed ≡ false → isFormatting (r .board .state .phase) ≡ false → Spare (r .machine .lines) (r .board .cache))
+    (r : Run) (h : History r) → Spare (r .machine .lines) (asBegun h) (r .board .memory) ×
+    (r .crashed ≡ false → isFormatting (r .board .state .phase) ≡ false → Spare (r .machine .lines) (asBegun h) (r .board .cache))
+
+-- After a finished format they are 0.
+abbrev pub FormatSpare : Type 0
+FormatSpare =
+    (l w value : ℕ) (b d b′ : Board) → Performed (FormatStart l w) b 0 value d → Takes (formatSteps l) d b′ → Spare l (λ i. 0) (b′ .memory) × Spare l (λ i. 0) (b′ .cache)

@@ -7,10 +7,11 @@ use native.Mathlib.Omega.{arith}
 use Rattle.board.specs.Board.{cells, epochOf}
 use Rattle.board.specs.Effects.{writtenBack}
 use Rattle.board.specs.Sequence.{Run}
+use Rattle.board.specs.Statements.{SameSpare}
 use Rattle.board.proofs.Laws.Bools.{chosen}
 use Rattle.board.proofs.Laws.View.{sized-back}
 use Rattle.board.proofs.Invariant.{SameSizes, Undoes, Kept, Stage, early, gap, late, Inv}
-use Rattle.board.proofs.Laws.Rows.{epoch-back-header, spare-back, sizes-back}
+use Rattle.board.proofs.Laws.Rows.{epoch-back-header, spare-back, spare-backed, sizes-back}
 use Rattle.board.proofs.Checkpoint.Run.{Carried, RunningRun, inv-running}
 use Rattle.board.proofs.Checkpoint.Memory.{undoes-same, kept-same, epoch-back, kept-back, kept-next, undoes-next}
 use Rattle.board.proofs.Checkpoint.Stages.{moved, remade, running-moved, late-back}
@@ -25,15 +26,18 @@ module _ (r : Run) (s : RunningRun r) (place steps : ℕ) (agree : r .board .sta
   sizes : (i : ℕ) → i ≤ r .machine .lines → SameSizes (r .board .memory) (writtenBack i (r .board))
   sizes i h = sizes-back (r .board .memory) (r .board .cache) (s .inv .sizes .memory) (s .inv .sizes .cache) i h (s .running .own .header)
 
+  -- So do words 6 and 7.
+  spare : (i : ℕ) → i ≤ r .machine .lines → SameSpare (r .machine .lines) (r .board .memory) (writtenBack i (r .board))
+  spare i h = spare-back (r .board .memory) (r .board .cache) (s .inv .sizes .memory) (s .inv .sizes .cache) i h (s .running .spare)
+
   -- The invariant after a write-back, from what it leaves in memory and the stage it leads to.
   inv-back : (i : ℕ) → i ≤ r .machine .lines → (xs : ℕ → ℕ) → Kept (r .machine .lines) xs (writtenBack i (r .board)) → Undoes (r .machine .lines) (epochOf (writtenBack i (r .board))) xs (r .board .cache) → Stage (r .machine .lines) (moved (r .board) (writtenBack i (r .board)) place) (remade (r .machine) xs steps) → Inv (backRun r i place xs steps crashed)
   inv-back i h xs k u stage =
       let z = s .inv .sizes in
       inv-running (backRun r i place xs steps crashed) (s .on) (s .phase)
       (record { limits = z .limits; memory = sized-back (r .board .memory) (r .board .cache) (z .memory) (z .cache) i h; cache = z .cache; entries = z .entries })
-      (spare-back (r .board .memory) (r .board .cache) (z .memory) (z .cache) i h (s .inv .spare) (s .running .spare))
       k
-      (running-moved (s .running) (writtenBack i (r .board)) place xs steps (sizes i h) agree u stage)
+      (running-moved (s .running) (writtenBack i (r .board)) place xs steps (sizes i h) (spare-backed (r .board .memory) (r .board .cache) (z .memory) (z .cache) i h (s .running .spare)) agree u stage)
 
   -- A write-back that leaves memory's epoch: recovery gives what it gave.
   pub quiet-back : (i : ℕ) → i ≤ r .machine .lines → (i ≡ 0 → epochOf (r .board .cache) ≡ epochOf (r .board .memory)) → (xs : ℕ → ℕ) → ((c : ℕ) → c < cells (r .machine .lines) → r .machine .checkpointed c ≡ xs c) → Stage (r .machine .lines) (moved (r .board) (writtenBack i (r .board)) place) (remade (r .machine) xs steps) → Carried false r (backRun r i place xs steps crashed)
@@ -48,7 +52,7 @@ module _ (r : Run) (s : RunningRun r) (place steps : ℕ) (agree : r .board .sta
             (subst (λ (n : ℕ). Undoes (r .machine .lines) n xs (r .board .cache)) (sym epoch)
             (undoes-same (r .machine .lines) (r .machine .checkpointed) xs (r .board .cache) same (s .running .undoes)))
             stage;
-        completion = inl (record { board = record { lines = refl; header = sizes i h }; epoch = epoch; values = λ c p. sym (same c p) });
+        completion = inl (record { board = record { lines = refl; header = sizes i h; spare = spare i h }; epoch = epoch; values = λ c p. sym (same c p) });
       }
 
   -- Line 0's write-back after the epoch's store completes the checkpoint, and done again changes nothing.
@@ -66,7 +70,7 @@ module _ (r : Run) (s : RunningRun r) (place steps : ℕ) (agree : r .board .sta
             (undoes-next (r .board .memory) (r .board .cache) (z .memory) (z .cache) (r .machine .checkpointed) (r .machine .current) (g .epochs) (v .undoes) (v .current))
             (late (late-back (r .board) z 0 (omega arith) (r .machine) place (r .machine .current) steps on low high epoch (g .same) (g .waiting) (λ c p. refl)
             (λ c p q. omega (arith, v .undoes c p .bounded, q, g .epochs))));
-        completion = inr (record { board = record { lines = refl; header = sizes 0 (omega arith) }; epoch = epoch ∙ g .epochs; values = λ c p. refl; current = λ c p. refl });
+        completion = inr (record { board = record { lines = refl; header = sizes 0 (omega arith); spare = spare 0 (omega arith) }; epoch = epoch ∙ g .epochs; values = λ c p. refl; current = λ c p. refl });
       }
   header-back on past low high (late e) =
       let z = s .inv .sizes in

@@ -1,16 +1,17 @@
 -- A run whose board is running: the invariant taken apart and put together, and what a call leaves of it.
-use Prim.Native.Nat.{ℕ}
+use Prim.Native.Nat.{ℕ, _+_}
 use mathlib.Core.Path.{_≡_, refl, sym, ap, subst}
 use mathlib.Core.Logic.{inl}
 use mathlib.Core.List.{List}
 use lib.ListN.{getD}
 use mathlib.Core.Bool.{Bool, true, false, true≢false}
+use Rattle.line.specs.Line.{lineStart}
 use Rattle.board.specs.declared.Phase.{Phase}
 use Rattle.board.specs.declared.Phase.the-variants.{Off, Formatting, Recovering, Running}
 use Rattle.board.specs.Board.{epochOf}
 use Rattle.board.specs.State.{isRunning}
 use Rattle.board.specs.Sequence.{Run}
-use Rattle.board.specs.Statements.{Spare, Unchanged, Completes}
+use Rattle.board.specs.Statements.{Unchanged, Completes}
 use Rattle.board.proofs.Laws.Bools.{clash}
 use Rattle.board.proofs.Invariant.{Kept, Sizes, RunningInv, InPhase, Inv}
 
@@ -23,10 +24,13 @@ pub record Carried (format : Bool) (r r′ : Run) : Type 0 where
 pub quiet : (r r′ : Run) → r′ .board .memory ≡ r .board .memory → r′ .machine .lines ≡ r .machine .lines → ((c : ℕ) → r′ .machine .checkpointed c ≡ r .machine .checkpointed c) → Unchanged r r′
 quiet r r′ m l v =
     record {
-      board = record { lines = l; header = λ k p q. ap (λ (row : List ℕ). getD row k 0) m };
+      board = record { lines = l; header = λ k p q. word k; spare = λ i k a b p q. word (lineStart i + k) };
       epoch = ap epochOf m;
       values = λ c h. v c;
     }
+  where
+    word : (k : ℕ) → getD (r′ .board .memory) k 0 ≡ getD (r .board .memory) k 0
+    word k = ap (λ (row : List ℕ). getD row k 0) m
 
 -- The invariant is kept, and nothing of the last checkpoint changes.
 pub quietly : {r r′ : Run} → Inv r′ → r′ .board .memory ≡ r .board .memory → r′ .machine .lines ≡ r .machine .lines → ((c : ℕ) → r′ .machine .checkpointed c ≡ r .machine .checkpointed c) → Carried false r r′
@@ -53,11 +57,10 @@ running-run r inv d e =
     record { inv = inv; running = v .0; on = v .1; phase = e }
 
 -- The invariant of a running board from its parts.
-pub inv-running : (r : Run) → r .erased ≡ false → r .board .state .phase ≡ Running → Sizes (r .machine .lines) (r .board) → Spare (r .machine .lines) (r .board .memory) → Kept (r .machine .lines) (r .machine .checkpointed) (r .board .memory) → RunningInv (r .machine .lines) (r .board) (r .machine) → Inv r
-inv-running r off e z s k v =
+pub inv-running : (r : Run) → r .erased ≡ false → r .board .state .phase ≡ Running → Sizes (r .machine .lines) (r .board) → Kept (r .machine .lines) (r .machine .checkpointed) (r .board .memory) → RunningInv (r .machine .lines) (r .board) (r .machine) → Inv r
+inv-running r off e z k v =
     record {
       sizes = z;
-      spare = s;
       kept = λ q. k;
       lost = λ q. absurd (clash q off);
       phase = λ d. subst (λ (p : Phase). InPhase p r) (sym e) (v, off);

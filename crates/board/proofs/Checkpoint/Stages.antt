@@ -11,6 +11,7 @@ use Rattle.board.specs.Board.{Board, cells, epochOf}
 use Rattle.board.specs.State.{placed}
 use Rattle.board.specs.Effects.{writtenBack}
 use Rattle.board.specs.Machine.{Machine}
+use Rattle.board.specs.Statements.{SameSpare}
 use Rattle.board.proofs.Laws.Bools.{chosen}
 use Rattle.board.proofs.Laws.View.{view}
 use Rattle.board.proofs.Invariant.{AllQuiescent, Sizes, SameSizes, Undoes, progress, SameRecords, Early, Gap, Late, Stage, early, gap, late, RunningInv}
@@ -34,8 +35,8 @@ place-high on (gap g) = omega (arith, g .place)
 place-high on (late e) = e .high
 
 -- A running board whose memory, place and checkpointed values change.
-pub running-moved : {l : ℕ} {b : Board} {m : Machine} → RunningInv l b m → (memory : List ℕ) (place : ℕ) (xs : ℕ → ℕ) (steps : ℕ) → SameSizes (b .memory) memory → (b .state .requested ≡ true → steps ≡ place) → Undoes l (epochOf memory) xs (b .cache) → Stage l (moved b memory place) (remade m xs steps) → RunningInv l (moved b memory place) (remade m xs steps)
-running-moved {b = b} v memory place xs steps sizes agree undoes stage =
+pub running-moved : {l : ℕ} {b : Board} {m : Machine} → RunningInv l b m → (memory : List ℕ) (place : ℕ) (xs : ℕ → ℕ) (steps : ℕ) → SameSizes (b .memory) memory → SameSpare l memory (b .cache) → (b .state .requested ≡ true → steps ≡ place) → Undoes l (epochOf memory) xs (b .cache) → Stage l (moved b memory place) (remade m xs steps) → RunningInv l (moved b memory place) (remade m xs steps)
+running-moved {b = b} v memory place xs steps sizes spare agree undoes stage =
     record {
       lines = v .lines;
       workers = v .workers;
@@ -45,7 +46,7 @@ running-moved {b = b} v memory place xs steps sizes agree undoes stage =
       header = v .header;
       undoes = undoes;
       current = v .current;
-      spare = v .spare;
+      spare = spare;
       count = v .count;
       listed = v .listed;
       steps = agree;

@@ -8,18 +8,20 @@ use native.Mathlib.Decide.{decLe}
 use Rattle.board.specs.declared.Phase.{Phase}
 use Rattle.board.specs.declared.Phase.the-variants.{Formatting}
 use Rattle.board.specs.declared.Call.{Call}
-use Rattle.board.specs.declared.Call.the-variants.{FormatStart, Step}
-use Rattle.board.specs.Board.{Board}
+use Rattle.board.specs.declared.Call.the-variants.{FormatStart, RecoveryStart, Step}
+use Rattle.board.specs.Board.{Board, linesOf}
 use Rattle.board.specs.State.{isOff, isFormatting, isRunning}
-use Rattle.board.specs.Next.{Taken, Kind, startsFormat, startsRecovery, stepping, writing, other, reading, kind, isStart, isStep}
-use Rattle.board.specs.Machine.{Machine, formatSteps}
-use Rattle.board.specs.Sequence.{Takes, finished, steps, between, paged, Begins, formatted, opening}
+use Rattle.board.specs.Next.{Taken, Kind, startsFormat, startsRecovery, stepping, writing, other, reading, kind, isStart, isStep, Performed}
+use Rattle.board.specs.Effects.{undone}
+use Rattle.board.specs.Machine.{Machine, recoveryBeginning, formatSteps}
+use Rattle.board.specs.Sequence.{Takes, finished, steps, between, paged, Begins, formatted, recoveryStarted, opening}
 use Rattle.board.proofs.Laws.Bools.{clash}
 use Rattle.board.proofs.Laws.Takes.{takes-none}
 use Rattle.board.proofs.Invariant.{Inv}
 use Rattle.board.proofs.Laws.Taken.{phaseBars, phase-passed, performed-taken, performed-refused, page-board}
 use Rattle.board.proofs.Format.Board.{Formats, Fresh, format-begins, erasing-step, format-erases, finishing-step, format-finishes}
 use Rattle.board.proofs.Keeps.FormatStep.{fresh-inv}
+use Rattle.board.proofs.Keeps.RecoveryStart.{recovery-begins}
 
 -- ---- calls refused in a format
 
@@ -65,11 +67,17 @@ format-taken l (paged {n = n} text left {b = b} p rest) f e =
     let same = page-board b text p in
     format-taken l rest (subst (λ (d : Board). Formats l d) (sym same) f) (ap (λ (d : Board). d .state .place + suc n) same ∙ e)
 
+-- A started format and its steps leave a fresh board.
+pub format-fresh : (l w : ℕ) (b : Board) {value : ℕ} {d b′ : Board} → Performed (FormatStart l w) b 0 value d → Takes (formatSteps l) d b′ → Fresh l b′
+format-fresh l w b p takes =
+    let (t, same) = performed-taken (FormatStart l w) b p refl in
+    let begun = format-begins l w b t in
+    format-taken l takes (subst (λ (x : Board). Formats l x) (sym same) (begun .0))
+    (ap (λ (x : Board). x .state .place + formatSteps l) same ∙ omega (arith, begun .1))
+
 -- The invariant holds where a history begins.
 pub begins-inv : (b : Board) (m : Machine) → Begins b m → Inv (opening b m)
-begins-inv b m (formatted l w value d d′ b′ p takes) =
-    let (t, same) = performed-taken (FormatStart l w) d p refl in
-    let begun = format-begins l w d t in
-    fresh-inv l b′ false
-    (format-taken l takes (subst (λ (x : Board). Formats l x) (sym same) (begun .0))
-    (ap (λ (x : Board). x .state .place + formatSteps l) same ∙ omega (arith, begun .1)))
+begins-inv b m (formatted l w value d d′ b′ p takes) = fresh-inv l b′ false (format-fresh l w d p takes)
+begins-inv b m (recoveryStarted value d b′ p) =
+    let (t, same) = performed-taken RecoveryStart d p refl in
+    subst (λ (x : Board). Inv (opening x (recoveryBeginning (linesOf (d .memory)) (undone (d .memory))))) (sym same) (recovery-begins d t)

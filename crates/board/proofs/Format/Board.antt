@@ -1,11 +1,11 @@
 -- What a format's start and steps leave, on any board: nothing is known of what its rows held.
-use Prim.Native.Nat.{ℕ, _+_, _≤_, _<_}
+use Prim.Native.Nat.{ℕ, _+_, _/_, _≤_, _<_}
 use mathlib.Core.Path.{_≡_, refl, sym, ap, subst, _∙_}
 use mathlib.Core.List.{List}
 use mathlib.Core.Bool.{false, cond, not, _||_}
 use native.Mathlib.Omega.{arith}
 use lib.Dec.{leb, ltb, eqb}
-use lib.ListN.{length}
+use lib.ListN.{length, getD}
 use borrow.Author.Tests.{eqb-true, ltb-false, le-leb, lt-leb, ne-eqb}
 use Rattle.line.specs.Line.{withLine}
 use Rattle.board.specs.declared.Condition.{Condition}
@@ -18,14 +18,14 @@ use Rattle.board.specs.State.{allFree, conditionOf, placed, opened}
 use Rattle.board.specs.Causes.{causes, badRows}
 use Rattle.board.specs.Effects.{effect, step, formatStep, inBoth}
 use Rattle.board.specs.Machine.{none, beginning}
-use Rattle.board.specs.Statements.{Spare}
+use Rattle.board.specs.Statements.{Spare, SameSpare}
 use Rattle.board.proofs.Laws.Bools.{chosen, passedOver, or-left, or-right, not-off, clash}
 use Rattle.board.proofs.Laws.View.{View, view, Sized}
 use Rattle.board.proofs.Invariant.{Header, SameSizes, Kept, Zeroed, Sizes, Undoes, FormatInv, WorkerInv, Touches, progress, early, RunningInv}
 use Rattle.board.proofs.Laws.Taken.{standsAt, passed}
 use Rattle.board.proofs.Laws.Workers.{free-condition}
 use Rattle.board.proofs.Laws.Count.{count-none}
-use Rattle.board.proofs.Format.Rows.{zeros, zeroed-none, sized-erased, spare-erase, zeroed-erase, epoch-erase, word-header, sized-fresh, epoch-fresh, header-fresh, view-fresh, spare-fresh, undoes-fresh, kept-fresh}
+use Rattle.board.proofs.Format.Rows.{zeros, zeroed-none, sized-erased, word-erase, zeroed-erase, epoch-erase, word-header, sized-fresh, epoch-fresh, header-fresh, view-fresh, spare-fresh, undoes-fresh, kept-fresh}
 use Rattle.board.specs.Next.{Taken}
 
 -- A board in a format of `l` lines.
@@ -100,7 +100,7 @@ pub record Erased (l : ℕ) (b b′ : Board) : Type 0 where
   pub formats : Formats l b′
   pub place : b′ .state .place ≡ b .state .place + 1
   pub epoch : epochOf (b′ .memory) ≡ 0
-  pub spare : Spare l (b .memory) → Spare l (b′ .memory)
+  pub spare : Spare l (λ i. cond (eqb (i / 8) (b .state .place)) 0 (getD (b .memory) i 0)) (b′ .memory)
 
 -- Up to place L a format's step erases a line.
 pub erasing-step : (l : ℕ) (b : Board) → Formats l b → b .state .place ≤ l → effect Step b ≡ erasing b
@@ -138,7 +138,7 @@ format-erases l b f h =
           };
       place = refl;
       epoch = erased;
-      spare = spare-erase (b .memory) p zm h;
+      spare = λ i k a c q d. word-erase (b .memory) p zm h i k d;
     }
 
 -- ---- the last step
@@ -146,7 +146,7 @@ format-erases l b f h =
 -- A finished format of `l` lines.
 pub record Fresh (l : ℕ) (b : Board) : Type 0 where
   pub sizes : Sizes l b
-  pub spare : Spare l (b .memory)
+  pub spare : Spare l (λ i. 0) (b .memory)
   pub kept : Kept l (λ c. 0) (b .memory)
   pub epoch : epochOf (b .memory) ≡ 1
   pub running : RunningInv l b (beginning l)
@@ -164,7 +164,7 @@ pub record Opened (l : ℕ) (memory cache : List ℕ) : Type 0 where
   pub header : Header l cache
   pub sizes : SameSizes memory cache
   pub undoes : Undoes l 1 (λ c. 0) cache
-  pub spare : Spare l cache
+  pub spare : SameSpare l memory cache
   pub memoryZeros : (c : ℕ) → c < cells l → view memory c ≡ zeros
   pub cacheZeros : (c : ℕ) → c < cells l → view cache c ≡ zeros
 
@@ -216,7 +216,7 @@ opened-rows l w memory cache zm zc fm fc o =
       header = header-fresh cache w zc o;
       sizes = λ k p q. word-header cache w zc k q ∙ sym (word-header memory w zm k q);
       undoes = undoes-fresh cache w zc fc;
-      spare = spare-fresh cache w zc fc;
+      spare = λ i k a b c d. spare-fresh cache w zc fc i k a b c d ∙ sym (spare-fresh memory w zm fm i k a b c d);
       memoryZeros = view-fresh memory w zm fm;
       cacheZeros = view-fresh cache w zc fc;
     }

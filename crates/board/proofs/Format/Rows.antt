@@ -1,17 +1,19 @@
 -- What a format's steps do to one row: a line of zeros stored at the place, and the header stored at the end.
-use Prim.Native.Nat.{ℕ, _+_, _≤_, _<_}
+use Prim.Native.Nat.{ℕ, _+_, _/_, _≤_, _<_}
 use mathlib.Core.Path.{_≡_, refl, sym, subst, _∙_}
 use mathlib.Core.List.{List}
-use mathlib.Core.Bool.{false, not, _&&_}
+use mathlib.Core.Bool.{false, cond, not, _&&_}
 use native.Mathlib.Omega.{arith}
 use native.Mathlib.Decide.{ℕ-discrete}
 use lib.Dec.{eqb}
+use borrow.Author.Tests.{eqb-false, eq-eqb, ne-eqb}
 use lib.ListN.{getD, getD-replicate}
 use Rattle.line.specs.Line.{lineStart, withLine}
 use Rattle.line.specs.Cell.{cellLine}
 use Rattle.line.proofs.Laws.{getD-withLine-in, getD-withLine-out, header-withLine}
 use Rattle.board.specs.Board.{cells, workersOutside, epochOf, headerWords, zeroWords}
 use Rattle.board.specs.Statements.{Spare}
+use Rattle.board.proofs.Laws.Bools.{on, chosen, passedOver}
 use Rattle.board.proofs.Laws.View.{View, view, Sized, line-in, sized-line, view-line-out, view-erased}
 use Rattle.board.proofs.Invariant.{Undo, Undoes, Header, Kept, Zeroed}
 
@@ -34,17 +36,17 @@ module _ {l : ℕ} (row : List ℕ) (p : ℕ) (z : Sized l row) (h : p ≤ l) wh
   pub sized-erased : Sized l (withLine row p zeroWords)
   sized-erased = sized-line row p zeroWords z h refl
 
-  -- Words 6 and 7 of a line are zero where they were, and in the erased line.
-  spare-erased : (i k : ℕ) → 6 ≤ k → k < 8 → ((i ≡ p → ⊥) → getD row (lineStart i + k) 0 ≡ 0) → getD (withLine row p zeroWords) (lineStart i + k) 0 ≡ 0
-  spare-erased i k a b old =
+  -- A word of another line stays, one of the erased line is zero.
+  pub word-erase : (i k : ℕ) → k < 8 → getD (withLine row p zeroWords) (lineStart i + k) 0 ≡ cond (eqb ((lineStart i + k) / 8) p) 0 (getD row (lineStart i + k) 0)
+  word-erase i k b =
       elim (ℕ-discrete p i) [
-        | yes e ↦ subst (λ (j : ℕ). getD (withLine row p zeroWords) (lineStart j + k) 0 ≡ 0) e (word-erased k b)
-        | no o ↦ getD-withLine-out row p zeroWords (lineStart i + k) (line-in row p z h) refl (λ e. o (omega arith)) ∙ old (λ e. o (sym e))
+        | yes e ↦
+            subst (λ (j : ℕ). getD (withLine row p zeroWords) (lineStart j + k) 0 ≡ 0) e (word-erased k b)
+            ∙ sym (chosen (eqb ((lineStart i + k) / 8) p) 0 (getD row (lineStart i + k) 0) (eq-eqb ((lineStart i + k) / 8) p (omega arith)))
+        | no o ↦
+            getD-withLine-out row p zeroWords (lineStart i + k) (line-in row p z h) refl (λ e. o (omega arith))
+            ∙ sym (passedOver (eqb ((lineStart i + k) / 8) p) 0 (getD row (lineStart i + k) 0) (ne-eqb ((lineStart i + k) / 8) p (λ e. o (omega arith))))
       ]
-
-  -- Words 6 and 7 stay zero.
-  pub spare-erase : Spare l row → Spare l (withLine row p zeroWords)
-  spare-erase s i k a b c d = spare-erased i k c d (λ o. s i k a b c d)
 
   -- One more line is zeros.
   pub zeroed-erase : Zeroed l p row → Zeroed l (p + 1) (withLine row p zeroWords)
@@ -54,7 +56,7 @@ module _ {l : ℕ} (row : List ℕ) (p : ℕ) (z : Sized l row) (h : p ≤ l) wh
           | yes e ↦ subst (λ (j : ℕ). view (withLine row j zeroWords) c ≡ zeros) e (view-erased row c z b)
           | no o ↦ view-line-out row p zeroWords c z h refl o ∙ f .cells c b (omega arith)
         ];
-        spare = λ i k a b c d. spare-erased i k c d (λ o. f .spare i k a (omega arith) c d);
+        spare = λ i k a b c d. word-erase i k d ∙ on (λ (x : ℕ). x ≡ 0) (eqb ((lineStart i + k) / 8) p) 0 (getD row (lineStart i + k) 0) (λ e. refl) (λ e. f .spare i k a (omega (arith, eqb-false ((lineStart i + k) / 8) p e)) c d);
       }
 
   -- Once line 0 is erased the epoch is 0.
@@ -83,6 +85,10 @@ module _ {l : ℕ} (row : List ℕ) (w : ℕ) (z : Sized l row) where
   pub epoch-fresh : epochOf (withLine row 0 (headerWords 1 l w)) ≡ 1
   epoch-fresh = word-header 0 (omega arith)
 
+  -- The words of the cell lines stay.
+  pub word-kept : (i k : ℕ) → 1 ≤ i → k < 8 → getD (withLine row 0 (headerWords 1 l w)) (lineStart i + k) 0 ≡ getD row (lineStart i + k) 0
+  word-kept i k a b = getD-withLine-out row 0 (headerWords 1 l w) (lineStart i + k) (line-in row 0 z (omega arith)) refl (λ e. omega arith)
+
   -- The header is one that recovery's start takes.
   pub header-fresh : workersOutside l w ≡ false → Header l (withLine row 0 (headerWords 1 l w))
   header-fresh o =
@@ -102,10 +108,8 @@ module _ {l : ℕ} (row : List ℕ) (w : ℕ) (z : Sized l row) where
     view-fresh c b = view-line-out row 0 (headerWords 1 l w) c z (omega arith) refl (λ e. omega arith) ∙ f .cells c b (omega arith)
 
     -- Words 6 and 7 are zero.
-    pub spare-fresh : Spare l (withLine row 0 (headerWords 1 l w))
-    spare-fresh i k a b c d =
-        getD-withLine-out row 0 (headerWords 1 l w) (lineStart i + k) (line-in row 0 z (omega arith)) refl (λ e. omega arith)
-        ∙ f .spare i k a (omega arith) c d
+    pub spare-fresh : Spare l (λ i. 0) (withLine row 0 (headerWords 1 l w))
+    spare-fresh i k a b c d = word-kept i k a d ∙ f .spare i k a (omega arith) c d
 
     -- Undoing any cell in epoch 1 gives 0.
     pub undoes-fresh : Undoes l 1 (λ c. 0) (withLine row 0 (headerWords 1 l w))

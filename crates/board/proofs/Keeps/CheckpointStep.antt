@@ -71,7 +71,7 @@ running-epoch {l} b m z on end wait e v =
       header = header-set (b .cache) (epochOf (b .cache) + 1) z (omega arith) (v .header);
       undoes = λ c h. subst (Undo (epochOf (b .memory)) (m .checkpointed c)) (sym (same c)) (v .undoes c h);
       current = λ c h. ap (λ (k : View). k .value) (same c) ∙ v .current c h;
-      spare = spare-set (b .cache) (epochOf (b .cache) + 1) (v .spare);
+      spare = spare-set (b .memory) (b .cache) (epochOf (b .cache) + 1) (v .spare);
       count = v .count;
       listed = v .listed;
       steps = λ q. ap (λ (n : ℕ). n + 1) (v .steps q);
@@ -162,7 +162,7 @@ module _ (r : Run) (s : RunningRun r) (on : r .board .state .requested ≡ true)
       let z = s .inv .sizes in
       quietly (inv-running (acted r storeEpoch (counted (r .machine))) (s .on) (s .phase)
       (record { limits = z .limits; memory = z .memory; cache = sized-set (b .cache) (epochOf (b .cache) + 1) (z .cache); entries = z .entries })
-      (s .inv .spare) (s .inv .kept (s .on)) (running-epoch b (r .machine) (z .cache) on end wait e (s .running))) refl refl (λ c. refl)
+      (s .inv .kept (s .on)) (running-epoch b (r .machine) (z .cache) on end wait e (s .running))) refl refl (λ c. refl)
 
   -- Line 0 written back.
   header-carried : r .board .state .place ≡ r .board .state .listed + 1 → Carried false r (acted r writeHeader (completed (counted (r .machine))))
@@ -177,7 +177,7 @@ module _ (r : Run) (s : RunningRun r) (on : r .board .state .requested ≡ true)
       let z = s .inv .sizes in
       quietly (inv-running (acted r release (dropped (counted (r .machine)))) (s .on) (s .phase)
       (record { limits = z .limits; memory = z .memory; cache = z .cache; entries = z .entries })
-      (s .inv .spare) (s .inv .kept (s .on)) (running-release (r .board) (r .machine) e (s .running))) refl refl (λ c. refl)
+      (s .inv .kept (s .on)) (running-release (r .board) (r .machine) e (s .running))) refl refl (λ c. refl)
 
   -- A step at line 0's write-back.
   header-step : r .board .state .place ≡ r .board .state .listed + 1 → Carried false r (afterTaken Step r)

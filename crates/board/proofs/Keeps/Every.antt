@@ -90,7 +90,6 @@ carried i (cuts {r = r} s cache entries p) =
         cache = record { size = p .0 ∙ i .sizes .cache .size };
         entries = omega (arith, i .sizes .entries);
       };
-      spare = i .spare;
       kept = i .kept;
       lost = i .lost;
       phase = λ d. absurd (true≢false d);

@@ -8,7 +8,6 @@ use Rattle.board.specs.Board.{Board}
 use Rattle.board.specs.Effects.{effect}
 use Rattle.board.specs.Machine.{feed}
 use Rattle.board.specs.Sequence.{Run}
-use Rattle.board.specs.Statements.{Spare}
 use Rattle.board.proofs.Invariant.{Kept, Sizes, Inv}
 use Rattle.board.proofs.Laws.Taken.{afterTaken}
 use Rattle.board.proofs.Checkpoint.Run.{Carried, quietly}
@@ -27,7 +26,6 @@ keeps-format-start r l w inv t =
     let begun = format-begins l w (r .board) t .0 in
     record {
       sizes = begun .sizes;
-      spare = subst (λ (k : ℕ). Spare k (r .board .memory)) same (inv .spare);
       kept = λ e. subst (λ (k : ℕ). Kept k (r .machine .checkpointed) (r .board .memory)) same (inv .kept e);
       lost = inv .lost;
       phase = λ d. (begun .format, record { formatting = refl; request = refl; steps = refl; erased = λ h. absurd (omega arith) });

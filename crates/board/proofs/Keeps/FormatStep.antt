@@ -1,11 +1,12 @@
 -- A format's step keeps the invariant: it erases a line, or it stores the header and the machine begins anew.
-use Prim.Native.Nat.{ℕ, _+_, _≤_}
+use Prim.Native.Nat.{ℕ, _+_, _/_, _≤_, _<_}
 use mathlib.Core.Path.{_≡_, refl, sym, ap, subst, subst₃, _∙_}
 use mathlib.Core.Logic.{inl, inr}
 use mathlib.Core.Bool.{Bool, true, false, cond, not, _&&_, true≢false, false≢true}
 use native.Mathlib.Omega.{arith}
 use native.Mathlib.Decide.{decLe}
 use lib.Dec.{eqb}
+use lib.ListN.{getD}
 use borrow.Author.Tests.{eq-eqb, ne-eqb}
 use Rattle.board.specs.declared.Phase.{Phase}
 use Rattle.board.specs.declared.Phase.the-variants.{Formatting}
@@ -14,7 +15,10 @@ use Rattle.board.specs.Board.{Board}
 use Rattle.board.specs.Effects.{effect}
 use Rattle.board.specs.Machine.{Machine, beginning, counted, formatSteps, finishesFormat, checkpointStep, stepped, feed}
 use Rattle.board.specs.Sequence.{Run, erasedBy}
-use Rattle.board.specs.Statements.{Spare}
+use Rattle.board.specs.Statements.{ErasedSpare}
+use Rattle.line.specs.Line.{lineStart}
+use Rattle.board.proofs.Laws.View.{Sized}
+use Rattle.board.proofs.Format.Rows.{word-kept}
 use Rattle.board.proofs.Laws.Bools.{chosen, passedOver, and-both, and-off-right}
 use Rattle.board.proofs.Invariant.{FormatMachine, InPhase, Inv}
 use Rattle.board.proofs.Laws.Taken.{afterTaken}
@@ -47,18 +51,16 @@ pub fresh-inv : (l : ℕ) (b : Board) (d : Bool) → Fresh l b → Inv (record {
 fresh-inv l b d f =
     record {
       sizes = f .sizes;
-      spare = f .spare;
       kept = λ e. f .kept;
       lost = λ e. absurd (false≢true e);
       phase = λ e. subst (λ (k : Phase). InPhase k (record { board = b; machine = beginning l; crashed = d; erased = false })) (sym (f .phase)) (f .running, refl);
     }
 
 -- A format with one more line erased beside a machine that counts the step.
-erased-inv : (b b′ : Board) (m : Machine) (d : Bool) → Erased (m .lines) b b′ → Spare (m .lines) (b .memory) → m .formatting ≡ true → m .requested ≡ false → m .steps ≡ b .state .place → Inv (record { board = b′; machine = counted m; crashed = d; erased = true })
-erased-inv b b′ m d s spare f q n =
+erased-inv : (b b′ : Board) (m : Machine) (d : Bool) → Erased (m .lines) b b′ → m .formatting ≡ true → m .requested ≡ false → m .steps ≡ b .state .place → Inv (record { board = b′; machine = counted m; crashed = d; erased = true })
+erased-inv b b′ m d s f q n =
     record {
       sizes = s .formats .sizes;
-      spare = s .spare spare;
       kept = λ e. absurd (true≢false e);
       lost = λ e. s .epoch;
       phase = λ e. subst (λ (k : Phase). InPhase k (record { board = b′; machine = counted m; crashed = d; erased = true })) (sym (s .formats .phase))
@@ -98,9 +100,19 @@ carried-format-step r inv d p =
         (ne-eqb (r .machine .steps + 1) (formatSteps (r .machine .lines)) (λ e. omega (arith, beside .steps))))
         (erasing-step (r .machine .lines) (r .board) formats h)
         (record {
-          keeps = erased-inv (r .board) (erasing (r .board)) (r .machine) (r .crashed && true) after (inv .spare) (beside .formatting) (beside .request) (beside .steps);
-          completion = inl (record { lines = refl; epoch = after .epoch; values = λ c b. refl });
+          keeps = erased-inv (r .board) (erasing (r .board)) (r .machine) (r .crashed && true) after (beside .formatting) (beside .request) (beside .steps);
+          completion = inl (record { lines = refl; epoch = after .epoch; values = λ c b. refl; spare = after .spare });
         })
+
+    -- the last step stores to no cell line
+    kept : r .board .state .place ≡ r .machine .lines + 1 → ErasedSpare r (record { board = finishing (r .board); machine = beginning (r .machine .lines); crashed = r .crashed && true; erased = false })
+    kept e i k a b c d =
+        let at = lineStart i + k in
+        stored-last (formats .format .lines) i k a d
+        ∙ sym (passedOver (eqb (at / 8) (r .board .state .place)) 0 (getD (r .board .memory) at 0) (ne-eqb (at / 8) (r .board .state .place) (λ q. omega (arith, e))))
+      where
+        stored-last : r .board .state .lines ≡ r .machine .lines → (i k : ℕ) → 1 ≤ i → k < 8 → getD (finishing (r .board) .memory) (lineStart i + k) 0 ≡ getD (r .board .memory) (lineStart i + k) 0
+        stored-last q = word-kept (r .board .memory) (r .board .state .workers) (subst (λ (l : ℕ). Sized l (r .board .memory)) (sym q) (inv .sizes .memory))
 
     finished : r .board .state .place ≡ r .machine .lines + 1 → Carried true r (afterTaken Step r)
     finished e =
@@ -111,5 +123,5 @@ carried-format-step r inv d p =
         (finishing-step (r .machine .lines) (r .board) formats e)
         (record {
           keeps = fresh-inv (r .machine .lines) (finishing (r .board)) (r .crashed && true) after;
-          completion = inr (record { lines = refl; before = at .0 .epoch (omega arith); epoch = after .epoch; values = λ c. refl; current = λ c. refl });
+          completion = inr (record { lines = refl; before = at .0 .epoch (omega arith); epoch = after .epoch; values = λ c. refl; current = λ c. refl; spare = kept e });
         })

@@ -314,7 +314,6 @@ pub one-cell : (r : Run) (ch : Change) (crashed : Bool) → Inv r → Ready r (c
 one-cell r ch crashed inv now fits =
     record {
       sizes = record { limits = inv .sizes .limits; memory = inv .sizes .memory; cache = record { size = fits .only .size ∙ inv .sizes .cache .size }; entries = subst (λ (n : ℕ). listWords (r .machine .lines) ≤ n) (sym (fits .size)) (inv .sizes .entries) };
-      spare = inv .spare;
       kept = inv .kept;
       lost = inv .lost;
       phase = λ d. subst (λ (p : Phase). InPhase p (changedRun ch crashed r)) (sym (now .phase))

@@ -87,7 +87,7 @@ carried-workers r ws crashed inv d p alike =
     let s = running-run r inv d p in
     let z = inv .sizes in
     quietly
-    (inv-running _ (s .on) p (record { limits = z .limits; memory = z .memory; cache = z .cache; entries = z .entries }) (inv .spare) (inv .kept (s .on))
+    (inv-running _ (s .on) p (record { limits = z .limits; memory = z .memory; cache = z .cache; entries = z .entries }) (inv .kept (s .on))
     (running-manned (r .board) (r .machine) ws alike (s .running)))
     refl refl (λ c. refl)
 

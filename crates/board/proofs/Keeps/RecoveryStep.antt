@@ -28,7 +28,7 @@ use Rattle.board.proofs.Invariant.{Sizes, SameSizes, Own, AtPlace, Reco
 use Rattle.board.proofs.Laws.Taken.{afterTaken}
 use Rattle.board.proofs.Recovery.Board.{recovery-cases, past-cases, Underway, underway-placed, underway-opened, all-free}
 use Rattle.board.proofs.Laws.Count.{count-none}
-use Rattle.board.proofs.Laws.Rows.{epoch-back-other, own-same, sizes-same, sizes-store, sizes-back}
+use Rattle.board.proofs.Laws.Rows.{epoch-back-other, spare-back, own-same, sizes-same, sizes-store, sizes-back}
 use Rattle.board.specs.Statements.{Unchanged}
 use Rattle.board.proofs.Checkpoint.Run.{Carried, quiet}
 use Rattle.board.proofs.Recovery.Rows.{whole-epoch, whole-kept, Restoring, restoring-own, restoring-store, restoring-back, restoring-past}
@@ -74,7 +74,7 @@ recovering b u own k here =
       header = k .cache .header;
       epochs = k .cache .epoch;
       undoes = k .cache .undoes;
-      spare = k .cache .spare;
+      spare = k .spare;
       passedCache = k .marks .passedCache;
       passedMemory = k .marks .passedMemory;
       ahead = k .marks .ahead;
@@ -110,7 +110,7 @@ running {l} b m v u own k =
       header = k .cache .header;
       undoes = k .cache .undoes;
       current = λ c h. k .cache .undoes c h .plain (k .marks .passedCache c h) ∙ sym (v .current c);
-      spare = k .cache .spare;
+      spare = k .spare;
       count = u .listed ∙ sym (count-none _ (m .marked) (v .marked));
       listed = λ i h. absurd (omega (arith, u .listed));
       steps = λ t. absurd (clash t (u .request));
@@ -131,7 +131,6 @@ module _ (r : Run) (m : RecoveryMachine (r .machine)) (off : r .erased ≡ false
   every-phase s memory cache k p =
       record {
         sizes = record { limits = sizes .limits; memory = k .memory .sized; cache = k .cache .sized; entries = sizes .entries };
-        spare = k .memory .spare;
         kept = λ t. whole-kept (k .memory);
         lost = λ t. absurd (clash t off);
         phase = λ t. p;
@@ -208,9 +207,10 @@ rows-of : (r : Run) → Inv r → r .erased ≡ false → RecoveryInv (r .machin
     Restoring (r .machine .lines) (epochOf (r .board .memory)) (r .machine .checkpointed) (r .board .state .place) (r .board .memory) (r .board .cache)
 rows-of r inv off k =
     record {
-      memory = record { sized = inv .sizes .memory; header = inv .kept off .header; epoch = refl; undoes = inv .kept off .undoes; spare = inv .spare };
-      cache = record { sized = inv .sizes .cache; header = k .header; epoch = k .epochs; undoes = k .undoes; spare = k .spare };
+      memory = record { sized = inv .sizes .memory; header = inv .kept off .header; epoch = refl; undoes = inv .kept off .undoes };
+      cache = record { sized = inv .sizes .cache; header = k .header; epoch = k .epochs; undoes = k .undoes };
       marks = record { passedCache = k .passedCache; passedMemory = k .passedMemory; ahead = k .ahead };
+      spare = k .spare;
     }
 
 -- What is known of the cell at the place, by the step that is next.
@@ -255,7 +255,7 @@ recovery-unchanged r inv lit phase =
     (λ q y. quiet r (stepRun r _) refl refl (λ c. refl))
     (λ q. quiet r (stepRun r _) refl refl (λ c. refl))
     (λ q. record {
-      board = record { lines = refl; header = sizes-back (b .memory) (b .cache) (z .memory) (z .cache) (cellLine (b .state .place)) line (i .own .header) };
+      board = record { lines = refl; header = sizes-back (b .memory) (b .cache) (z .memory) (z .cache) (cellLine (b .state .place)) line (i .own .header); spare = spare-back (b .memory) (b .cache) (z .memory) (z .cache) (cellLine (b .state .place)) line (i .spare) };
       epoch = epoch-back-other (b .memory) (b .cache) (z .memory) (z .cache) (cellLine (b .state .place)) (omega arith) line;
       values = λ c h. refl;
     })

@@ -67,4 +67,4 @@ keeps-request r inv d t =
     let s = running-run r inv d run in
     inv-running (afterTaken Request r) (s .on) run
     (record { limits = inv .sizes .limits; memory = inv .sizes .memory; cache = inv .sizes .cache; entries = inv .sizes .entries })
-    (inv .spare) (inv .kept (s .on)) (running-request b (r .machine) off room (s .running))
+    (inv .kept (s .on)) (running-request b (r .machine) off room (s .running))

@@ -20,7 +20,7 @@ use Rattle.board.specs.Sequence.{Run}
 use Rattle.board.proofs.Laws.Bools.{on, passedOver, clash, and-left, and-right, and-both, and-off, and-off-right}
 use Rattle.board.proofs.Laws.View.{View, view, sized-back}
 use Rattle.board.proofs.Invariant.{Undoes, Sizes, AtPlace, RecoveryInv, Stage, early, gap, late, RunningInv, InPhase, Inv}
-use Rattle.board.proofs.Laws.Rows.{spare-back, own-same, sizes-same, sizes-back}
+use Rattle.board.proofs.Laws.Rows.{spare-back, spare-backed, own-same, sizes-same, sizes-back}
 use Rattle.board.proofs.Laws.Taken.{standsAt, passed, afterTaken}
 use Rattle.board.proofs.Checkpoint.Run.{Carried, RunningRun, running-run}
 use Rattle.board.proofs.Checkpoint.Memory.{both-back, epoch-back, kept-back}
@@ -51,7 +51,7 @@ recovery-back {l} {xs} b z i h v =
       header = v .header;
       epochs = v .epochs ∙ sym epoch;
       undoes = subst (λ (e : ℕ). Undoes l e xs (b .cache)) (sym epoch) (v .undoes);
-      spare = v .spare;
+      spare = spare-backed (b .memory) (b .cache) (z .memory) (z .cache) i h (v .spare);
       passedCache = λ c p q. v .passedCache c p (q ∙ epoch);
       passedMemory = λ c p q.
           both (λ (w : View). w .mark ≡ epochOf (b .memory) → ⊥) c (omega (arith, v .within)) (v .passedCache c p) (v .passedMemory c p) (q ∙ epoch);
@@ -103,13 +103,12 @@ carried-recovering r inv v e i h =
       keeps =
           record {
             sizes = record { limits = z .limits; memory = sized-back (b .memory) (b .cache) (z .memory) (z .cache) i h; cache = z .cache; entries = z .entries };
-            spare = spare-back (b .memory) (b .cache) (z .memory) (z .cache) i h (inv .spare) (v .0 .spare);
             kept = λ q. kept-back (b .memory) (b .cache) (z .memory) (z .cache) (r .machine .checkpointed) i h (λ k. v .0 .epochs) (v .0 .header) (v .0 .undoes) (inv .kept (v .2));
             lost = λ q. absurd (clash q (v .2));
             phase = λ d. subst (λ (p : Phase). InPhase p (after (r .machine))) (sym e) (recovery-back b z i h (v .0), v .1, v .2);
           };
       completion =
-          inl (record { board = record { lines = refl; header = sizes-back (b .memory) (b .cache) (z .memory) (z .cache) i h (v .0 .own .header) }; epoch = epoch-back (b .memory) (b .cache) (z .memory) (z .cache) i h (λ k. v .0 .epochs); values = λ c p. refl });
+          inl (record { board = record { lines = refl; header = sizes-back (b .memory) (b .cache) (z .memory) (z .cache) i h (v .0 .own .header); spare = spare-back (b .memory) (b .cache) (z .memory) (z .cache) i h (v .0 .spare) }; epoch = epoch-back (b .memory) (b .cache) (z .memory) (z .cache) i h (λ k. v .0 .epochs); values = λ c p. refl });
     })
 
 -- ---- running

@@ -14,7 +14,7 @@ use Rattle.line.specs.Line.{lineStart, lineOf, withLine}
 use Rattle.line.specs.Cell.{withField}
 use Rattle.line.proofs.Laws.{length-lineOf, getD-lineOf, getD-withLine-in, getD-withLine-out, header-withField, header-withLine, spare-withField}
 use Rattle.board.specs.Board.{Board, workersOutside, epochOf, linesOf, workersOf, restNotZero}
-use Rattle.board.specs.Statements.{Spare}
+use Rattle.board.specs.Statements.{SameSpare}
 use Rattle.board.proofs.Laws.View.{Sized, line-in}
 use Rattle.board.proofs.Invariant.{Header, SameSizes, Own}
 
@@ -85,15 +85,19 @@ module _ {l : ℕ} (memory cache : List ℕ) (zm : Sized l memory) (zc : Sized l
         | no o ↦ word-back-other i k (omega arith) h b
       ]
 
-  -- Words 6 and 7 after a write-back.
-  pub spare-back : (i : ℕ) → i ≤ l → Spare l memory → Spare l cache → Spare l (withLine memory i (lineOf cache i))
-  spare-back i h sm sc j k a b c d =
+  -- Words 6 and 7 in memory stay after a write-back, where the cache has them too.
+  pub spare-back : (i : ℕ) → i ≤ l → SameSpare l memory cache → SameSpare l memory (withLine memory i (lineOf cache i))
+  spare-back i h same j k a b c d =
       let n = length-lineOf cache i (line-in cache i zc h) in
       elim (ℕ-discrete i j) [
-        | yes e ↦ subst (λ (q : ℕ). getD (withLine memory i (lineOf cache i)) (lineStart q + k) 0 ≡ 0) e
-            (getD-withLine-in memory i (lineOf cache i) k (line-in memory i zm h) n d ∙ getD-lineOf cache i k d ∙ sc i k (omega arith) h c d)
-        | no o ↦ getD-withLine-out memory i (lineOf cache i) (lineStart j + k) (line-in memory i zm h) n (λ e. o (omega arith)) ∙ sm j k a b c d
+        | yes e ↦ subst (λ (q : ℕ). getD (withLine memory i (lineOf cache i)) (lineStart q + k) 0 ≡ getD memory (lineStart q + k) 0) e
+            (getD-withLine-in memory i (lineOf cache i) k (line-in memory i zm h) n d ∙ getD-lineOf cache i k d ∙ same i k (omega arith) h c d)
+        | no o ↦ getD-withLine-out memory i (lineOf cache i) (lineStart j + k) (line-in memory i zm h) n (λ e. o (omega arith))
       ]
+
+  -- They are still the cache's.
+  pub spare-backed : (i : ℕ) → i ≤ l → SameSpare l memory cache → SameSpare l (withLine memory i (lineOf cache i)) cache
+  spare-backed i h same j k a b c d = same j k a b c d ∙ sym (spare-back i h same j k a b c d)
 
 -- The sizes stay memory's where neither row's change and the record's W stays.
 pub own-same : (b b′ : Board) → b′ .state .workers ≡ b .state .workers → SameSizes (b .memory) (b′ .memory) → SameSizes (b .cache) (b′ .cache) → Own b → Own b′
@@ -115,8 +119,8 @@ pub sizes-set : (row : List ℕ) (e : ℕ) → SameSizes row (set row 0 e)
 sizes-set row e k p q = getD-set-other row 0 k e 0 (λ n. omega arith)
 
 -- A cell's store leaves words 6 and 7.
-pub spare-store : {l : ℕ} (row : List ℕ) (c : ℕ) (f : Field) (v : ℕ) → Spare l row → Spare l (withField row c f v)
-spare-store row c f v s i k a b p q = spare-withField row c f v i k p q ∙ s i k a b p q
+pub spare-store : {l : ℕ} (memory row : List ℕ) (c : ℕ) (f : Field) (v : ℕ) → SameSpare l memory row → SameSpare l memory (withField row c f v)
+spare-store memory row c f v s i k a b p q = spare-withField row c f v i k p q ∙ s i k a b p q
 
 -- ---- the epoch's store
 
@@ -131,5 +135,5 @@ pub header-set : {l : ℕ} (row : List ℕ) (e : ℕ) → Sized l row → 0 < e 
 header-set row e z p h =
     header-epoch row (set row 0 e) (sizes-set row e) (subst (λ (n : ℕ). 0 < n) (sym (epoch-set row e z)) p) h
 
-pub spare-set : {l : ℕ} (row : List ℕ) (e : ℕ) → Spare l row → Spare l (set row 0 e)
-spare-set row e s i k a b p q = getD-set-other row 0 (lineStart i + k) e 0 (λ n. omega arith) ∙ s i k a b p q
+pub spare-set : {l : ℕ} (memory row : List ℕ) (e : ℕ) → SameSpare l memory row → SameSpare l memory (set row 0 e)
+spare-set memory row e s i k a b p q = getD-set-other row 0 (lineStart i + k) e 0 (λ n. omega arith) ∙ s i k a b p q

@@ -83,7 +83,7 @@ some-cell l e = omega (arith, lines-in l e)
 
 -- What memory's header has where a recovery start is taken.
 pub started-header : (b : Board) → Taken RecoveryStart b →
-    (epochOf (b .memory) ≡ 0 → ⊥) × (linesOf (b .memory) ≡ length (b .memory) / 8 - 1) × (workersOutside (linesOf (b .memory)) (workersOf (b .memory)) ≡ false)
+    (epochOf (b .memory) ≡ 0 → ⊥) × (linesOf (b .memory) ≡ length (b .memory) / 8 - 1) × (workersOutside (linesOf (b .memory)) (workersOf (b .memory)) ≡ false) × (restNotZero (b .memory) ≡ false)
 unfolding standsAt causes
 started-header b t =
     let epoch = eqb (epochOf (b .memory)) 0 in
@@ -91,7 +91,7 @@ started-header b t =
     let workers = workersOutside (linesOf (b .memory)) (workersOf (b .memory)) in
     let upTo3 : epoch || not lines || workers ≡ false = or-left (epoch || not lines || workers) (restNotZero (b .memory)) (passed RecoveryStart b t 5) in
     let upTo2 : epoch || not lines ≡ false = or-left (epoch || not lines) workers upTo3 in
-    (eqb-false _ _ (or-left epoch (not lines) upTo2), eqb-true _ _ (not-off lines (or-right epoch (not lines) upTo2)), or-right (epoch || not lines) workers upTo3)
+    (eqb-false _ _ (or-left epoch (not lines) upTo2), eqb-true _ _ (not-off lines (or-right epoch (not lines) upTo2)), or-right (epoch || not lines) workers upTo3, or-right (epoch || not lines || workers) (restNotZero (b .memory)) (passed RecoveryStart b t 5))
 
 -- What the rows' lengths are where a recovery start is taken on memory of `l` lines.
 started-lengths : (m k n l : ℕ) → not (eqb (m % 8) 0 && leb 16 m && leb m 4096) || not (eqb k m) || ltb n (m / 4 - 2) ≡ false → l ≡ m / 8 - 1 →

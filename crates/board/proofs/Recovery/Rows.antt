@@ -9,10 +9,10 @@ use Rattle.line.specs.declared.Field.{Field}
 use Rattle.line.specs.Line.{lineOf, withLine}
 use Rattle.line.specs.Cell.{withField}
 use Rattle.board.specs.Board.{cells, epochOf}
-use Rattle.board.specs.Statements.{Spare}
+use Rattle.board.specs.Statements.{SameSpare}
 use Rattle.board.proofs.Laws.View.{View, view, put, Sized, view-store, view-other, sized-store, sized-back, view-back}
 use Rattle.board.proofs.Invariant.{Undo, Undoes, Header, Kept}
-use Rattle.board.proofs.Laws.Rows.{epoch-store, header-store, spare-store, epoch-back-other, header-back, spare-back}
+use Rattle.board.proofs.Laws.Rows.{epoch-store, header-store, spare-store, epoch-back-other, header-back, spare-backed}
 
 -- ---- one row
 
@@ -22,7 +22,6 @@ pub record Whole (l e : ℕ) (xs : ℕ → ℕ) (row : List ℕ) : Type 0 where
   pub header : Header l row
   pub epoch : epochOf row ≡ e
   pub undoes : Undoes l e xs row
-  pub spare : Spare l row
 
 -- Such a row has an epoch.
 pub whole-epoch : {l e : ℕ} {xs : ℕ → ℕ} {row : List ℕ} → Whole l e xs row → 0 < e
@@ -44,7 +43,6 @@ whole-store {l} {e} {xs} row c f v h u w =
         | yes q ↦ subst (λ (k : ℕ). Undo e (xs k) (view (withField row c f v) k)) q (subst (Undo e (xs c)) (sym (view-store row c v (w .sized) h f)) u)
         | no o ↦ subst (Undo e (xs d)) (sym (view-other row c f v d o)) (w .undoes d b)
       ];
-      spare = spare-store row c f v (w .spare);
     }
 
 -- A cell line's write-back between two whole rows leaves them whole.
@@ -58,7 +56,6 @@ whole-back {l} {e} {xs} memory cache i p h m k =
           (λ q. subst (Undo e (xs c)) (sym q) (k .undoes c b))
           (λ q. subst (Undo e (xs c)) (sym q) (m .undoes c b))
           (view-back memory cache (m .sized) (k .sized) i h c b);
-      spare = spare-back memory cache (m .sized) (k .sized) i h (m .spare) (k .spare);
     }
 
 -- ---- both rows
@@ -114,6 +111,7 @@ pub record Restoring (l e : ℕ) (xs : ℕ → ℕ) (place : ℕ) (row row′ : 
   pub memory : Whole l e xs row
   pub cache : Whole l e xs row′
   pub marks : Marks l e place row row′
+  pub spare : SameSpare l row row′
 
 module _ {l e place : ℕ} {xs : ℕ → ℕ} {memory cache : List ℕ} (k : Restoring l e xs place memory cache) where
   -- The epoch is memory's.
@@ -123,13 +121,13 @@ module _ {l e place : ℕ} {xs : ℕ → ℕ} {memory cache : List ℕ} (k : Res
   -- A store in the cell at the place keeps the rows where the cell still undoes to its value.
   pub restoring-store : (f : Field) (v : ℕ) → place < cells l → Undo e (xs place) (put f v (view cache place)) → Restoring l e xs place memory (withField cache place f v)
   restoring-store f v h u =
-      record { memory = k .memory; cache = whole-store cache place f v h u (k .cache); marks = marks-store memory cache place f v (k .marks) }
+      record { memory = k .memory; cache = whole-store cache place f v h u (k .cache); marks = marks-store memory cache place f v (k .marks); spare = spare-store memory cache place f v (k .spare) }
 
   -- A cell line's write-back keeps the rows.
   pub restoring-back : (i : ℕ) → 0 < i → i ≤ l → place < cells l → Restoring l e xs place (withLine memory i (lineOf cache i)) cache
   restoring-back i p h w =
-      record { memory = whole-back memory cache i p h (k .memory) (k .cache); cache = k .cache; marks = marks-back memory cache i h w (k .memory .sized) (k .cache .sized) (k .marks) }
+      record { memory = whole-back memory cache i p h (k .memory) (k .cache); cache = k .cache; marks = marks-back memory cache i h w (k .memory .sized) (k .cache .sized) (k .marks); spare = spare-backed memory cache (k .memory .sized) (k .cache .sized) i h (k .spare) }
 
   -- A cell that is logged in neither row is passed.
   pub restoring-past : (view cache place .mark ≡ e → ⊥) → (view memory place .mark ≡ e → ⊥) → Restoring l e xs (place + 1) memory cache
-  restoring-past oc om = record { memory = k .memory; cache = k .cache; marks = marks-past oc om (k .marks) }
+  restoring-past oc om = record { memory = k .memory; cache = k .cache; marks = marks-past oc om (k .marks); spare = k .spare }
