@@ -23,7 +23,7 @@ use Rattle.board.specs.Statements.{CutAndRecovered}
 use Rattle.board.specs.Bench.{blankFor, afterCalls}
 use Rattle.board.proofs.Laws.Taken.{performing}
 use Rattle.board.proofs.Laws.Playing.{made, madeAll, calls-history, byKind, takesTest, tested, cut-recovered}
-use Rattle.board.proofs.Theorems.{demand3}
+use Rattle.board.proofs.PlayedReads.{cutAndPlayed, PlayedRecovery, played-reads}
 
 -- The board as the format (2, 2) left it.
 fresh : Board
@@ -56,15 +56,12 @@ cutCache = replicate 24 77
 cutList : List ℕ
 cutList = 5 ∷ 6 ∷ 7 ∷ 8 ∷ []
 
--- The board after the cut, the recovery's calls, and the board after them.
-cutOff : Board
-cutOff = cutBoard garbage cutCache cutList (run .board)
-
+-- The recovery's calls, and the board after them.
 recoveryCalls : List Call
 recoveryCalls = replicate 6 Step
 
 pub recoveredBoard : Board
-recoveredBoard = afterCalls recoveryCalls (next RecoveryStart cutOff)
+recoveredBoard = cutAndPlayed run garbage cutCache cutList recoveryCalls
 
 begins-fresh : Begins fresh (beginning 2)
 unfolding fresh afterCalls takesTest byKind next cause causes firstStanding badRecord anyUnder effect step formatStep withLine
@@ -90,23 +87,17 @@ pub run-seen : (conditionOf (run .board .state) 0 ≡ Away) × (conditionOf (run
 unfolding run midway first second fresh made madeAll afterCalls next cause causes firstStanding badRecord anyUnder effect step formatStep actAt performAct advance advanceOf lineOf withLine fieldIndex fieldOf withField feed changed countUnder fewer advanced checkpointStep stepped
 run-seen = (refl, refl, refl)
 
--- The rows keep their lengths; the recovery's start is taken, and then six steps.
-run-takes : (length (run .board .cache) ≡ 24) × (length (run .board .entries) ≡ 4) × (taken RecoveryStart cutOff && takesTest 6 recoveryCalls (next RecoveryStart cutOff) ≡ true) × (recoverySteps (run .board .memory) ≡ 6)
-unfolding cutOff takesTest byKind undoSteps recoveryCalls run midway first second garbage cutCache cutList fresh made madeAll afterCalls next cause causes firstStanding badRecord anyUnder effect step formatStep recoveryStep actAt performAct advance advanceOf lineOf withLine fieldIndex fieldOf withField feed changed countUnder fewer advanced checkpointStep stepped
-run-takes = (refl, refl, refl, refl)
-
--- One more cut, and a finished recovery.
-pub run-recovered : CutAndRecovered run recoveredBoard
-unfolding recoveredBoard cutOff cutCache cutList
-run-recovered = cut-recovered run garbage cutCache cutList recoveryCalls 6 (sym (run-takes .0), sym (run-takes .1)) (run-takes .2) (run-takes .3)
+-- The recovery's start is taken, and then six steps.
+run-takes : PlayedRecovery run garbage cutCache cutList recoveryCalls 6
+unfolding takesTest byKind undoSteps recoveryCalls run midway first second garbage cutCache cutList fresh made madeAll afterCalls next cause causes firstStanding badRecord anyUnder effect step formatStep recoveryStep actAt performAct advance advanceOf lineOf withLine fieldIndex fieldOf withField feed changed countUnder fewer advanced checkpointStep stepped
+run-takes = record { lengths = (refl, refl); test = refl; count = refl }
 
 -- What the machine held at the last completed checkpoint: 7 in cell 2.
 run-values : (recoveredBoard .state .lines ≡ 2) × (run .machine .checkpointed 2 ≡ 7)
-unfolding recoveredBoard cutOff recoveryCalls run midway first second garbage cutCache cutList fresh made madeAll afterCalls next cause causes firstStanding badRecord anyUnder effect step formatStep recoveryStep actAt performAct advance advanceOf lineOf withLine fieldIndex fieldOf withField feed changed countUnder fewer advanced checkpointStep stepped
+unfolding recoveredBoard recoveryCalls run midway first second garbage cutCache cutList fresh made madeAll afterCalls next cause causes firstStanding badRecord anyUnder effect step formatStep recoveryStep actAt performAct advance advanceOf lineOf withLine fieldIndex fieldOf withField feed changed countUnder fewer advanced checkpointStep stepped
 run-values = (refl, refl)
 
--- "What a cut brings back is still the last checkpoint, whoever was away": by the theorem a read of cell 2 returns 0 and gives 7.
+-- "What a cut brings back is still the last checkpoint, whoever was away": a read of cell 2 returns 0 and gives 7.
 pub reads-seven : (number value : ℕ) (b : Board) → Performed (Read 2) recoveredBoard number value b → (number ≡ 0) × (value ≡ 7)
-reads-seven number value b p =
-    let read = demand3 run run run-history run-history recoveredBoard recoveredBoard run-recovered run-recovered .0 2 (subst (λ (l : ℕ). 2 < cells l) (sym (run-values .0)) (omega arith)) number value b p in
-    (read .0, read .1 ∙ run-values .1)
+unfolding recoveredBoard
+reads-seven = played-reads run run-history garbage cutCache cutList recoveryCalls 6 run-takes 2 7 (omega (arith, run-values .0)) (run-values .1)

@@ -23,7 +23,7 @@ use Rattle.board.specs.Statements.{CutAndRecovered}
 use Rattle.board.specs.Bench.{blankFor, afterCalls}
 use Rattle.board.proofs.Laws.Taken.{performing}
 use Rattle.board.proofs.Laws.Playing.{made, madeAll, calls-history, byKind, takesTest, tested, cut-recovered}
-use Rattle.board.proofs.Theorems.{demand3}
+use Rattle.board.proofs.PlayedReads.{cutAndPlayed, PlayedRecovery, played-reads}
 
 -- ---- the history
 
@@ -53,17 +53,13 @@ cutCache = replicate 16 77
 cutList : List ℕ
 cutList = 5 ∷ 6 ∷ []
 
--- The board after the cut.
-cutOff : Board
-cutOff = cutBoard garbage cutCache cutList (run .board)
-
 -- The recovery's calls: line 1 is written back in the middle of the first cell's undo, and a read is refused.
 recoveryCalls : List Call
 recoveryCalls = Step ∷ WriteBack 1 ∷ Step ∷ Read 1 ∷ Step ∷ Step ∷ Step ∷ WriteBack 0 ∷ Step ∷ []
 
 -- The board after it.
 pub recoveredBoard : Board
-recoveredBoard = afterCalls recoveryCalls (next RecoveryStart cutOff)
+recoveredBoard = cutAndPlayed run garbage cutCache cutList recoveryCalls
 
 -- ---- the history is one, and the recovery is finished
 
@@ -86,23 +82,17 @@ pub paged : (pageCause (run .board) (replicate 204 170) ≡ 0) × (pageCause (ru
 unfolding run calls fresh made madeAll afterCalls next cause causes firstStanding badRecord anyUnder effect step formatStep recoveryStep actAt performAct advance advanceOf lineOf withLine fieldIndex fieldOf withField feed changed countUnder fewer advanced checkpointStep stepped writeBackSeen pageCause pageCauses
 paged = (refl, refl)
 
--- The rows keep their lengths; the recovery's start is taken, and then six steps, with two taken write-backs and a refused read among them.
-run-takes : (length (run .board .cache) ≡ 16) × (length (run .board .entries) ≡ 2) × (taken RecoveryStart cutOff && takesTest 6 recoveryCalls (next RecoveryStart cutOff) ≡ true) × (recoverySteps (run .board .memory) ≡ 6)
-unfolding cutOff takesTest byKind undoSteps recoveryCalls run calls garbage cutCache cutList fresh made madeAll afterCalls next cause causes firstStanding badRecord anyUnder effect step formatStep recoveryStep actAt performAct advance advanceOf lineOf withLine fieldIndex fieldOf withField feed changed countUnder fewer advanced checkpointStep stepped writeBackSeen
-run-takes = (refl, refl, refl, refl)
-
--- One more cut, and a finished recovery.
-pub run-recovered : CutAndRecovered run recoveredBoard
-unfolding recoveredBoard cutOff cutCache cutList
-run-recovered = cut-recovered run garbage cutCache cutList recoveryCalls 6 (sym (run-takes .0), sym (run-takes .1)) (run-takes .2) (run-takes .3)
+-- The recovery's start is taken, and then six steps, with two taken write-backs and a refused read among them.
+run-takes : PlayedRecovery run garbage cutCache cutList recoveryCalls 6
+unfolding takesTest byKind undoSteps recoveryCalls run calls garbage cutCache cutList fresh made madeAll afterCalls next cause causes firstStanding badRecord anyUnder effect step formatStep recoveryStep actAt performAct advance advanceOf lineOf withLine fieldIndex fieldOf withField feed changed countUnder fewer advanced checkpointStep stepped writeBackSeen
+run-takes = record { lengths = (refl, refl); test = refl; count = refl }
 
 -- What the machine held at the last completed checkpoint: 7 in cell 1, on a board of one line.
 run-values : (recoveredBoard .state .lines ≡ 1) × (run .machine .checkpointed 1 ≡ 7)
-unfolding recoveredBoard cutOff recoveryCalls run calls garbage cutCache cutList fresh made madeAll afterCalls next cause causes firstStanding badRecord anyUnder effect step formatStep recoveryStep actAt performAct advance advanceOf lineOf withLine fieldIndex fieldOf withField feed changed countUnder fewer advanced checkpointStep stepped writeBackSeen
+unfolding recoveredBoard recoveryCalls run calls garbage cutCache cutList fresh made madeAll afterCalls next cause causes firstStanding badRecord anyUnder effect step formatStep recoveryStep actAt performAct advance advanceOf lineOf withLine fieldIndex fieldOf withField feed changed countUnder fewer advanced checkpointStep stepped writeBackSeen
 run-values = (refl, refl)
 
--- By the theorem, and not by running it, a read of cell 1 then returns 0 and gives 7.
+-- A read of cell 1 then returns 0 and gives 7.
 pub reads-seven : (number value : ℕ) (b : Board) → Performed (Read 1) recoveredBoard number value b → (number ≡ 0) × (value ≡ 7)
-reads-seven number value b p =
-    let read = demand3 run run run-history run-history recoveredBoard recoveredBoard run-recovered run-recovered .0 1 (subst (λ (l : ℕ). 1 < cells l) (sym (run-values .0)) (omega arith)) number value b p in
-    (read .0, read .1 ∙ run-values .1)
+unfolding recoveredBoard
+reads-seven = played-reads run run-history garbage cutCache cutList recoveryCalls 6 run-takes 1 7 (omega (arith, run-values .0)) (run-values .1)

@@ -13,5 +13,8 @@ pub mod Spare
 pub mod Updates
 pub mod Steps
 pub mod Theorems
+pub mod PlayedReads
 pub mod Example
 pub mod AwayExample
+pub mod ForeignExample
+pub mod LaterMark

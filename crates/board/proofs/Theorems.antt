@@ -15,7 +15,7 @@ use Rattle.board.specs.Next.{Taken, next, valueOf}
 use Rattle.board.specs.Machine.{Machine, beginning, formatSteps}
 use Rattle.board.specs.Sequence.{Begins, formatted, recoveryStarted, Run, cutRun, cuts, History, begun, further, rose, lastCheckpoint, recoverySteps}
 use Rattle.board.specs.Statements
-use Rattle.board.specs.Statements.{Reads, ReadsCheckpointed, Recovery, CutAndRecovered, ReadAlike, Demand3, LastCheckpoint, RecoveredSizes, Completes, formatStepIn, Completion, stepsFrom, FormatEnds, RecoveryEnds, CheckpointEnds, AwayHoldsUpNone, GoesAndComes, RecoveryStarts, HistoryBegins, HasRecovery, UpdateEnds, SingleStores, SpareWords, FormatSpare}
+use Rattle.board.specs.Statements.{Reads, ReadsCheckpointed, Recovery, CutAndRecovered, ReadAlike, Demand3, LastCheckpoint, RecoveredSizes, Completes, formatStepIn, Completion, stepsFrom, FormatEnds, RecoveryEnds, CheckpointEnds, AwayHoldsUpNone, GoesAndComes, RecoveryStarts, OwnMemory, HistoryBegins, HasRecovery, UpdateEnds, SingleStores, SpareWords, FormatSpare}
 use Rattle.board.proofs.Laws.Bools.{on, not-off}
 use Rattle.board.proofs.Invariant.{Inv}
 use Rattle.board.proofs.Laws.Taken.{standsAt, passed, performed-number, performed-value, performed-taken, performing}
@@ -26,7 +26,7 @@ use Rattle.board.proofs.Keeps.Every.{carried, history-inv}
 use Rattle.board.proofs.Keeps.Away
 use Rattle.board.proofs.Recovery.Finishes.{Done, recovers}
 use Rattle.board.proofs.Keeps.RecoveryStart.{recovery-kept}
-use Rattle.board.proofs.Recovery.Starts.{start-taken}
+use Rattle.board.proofs.Recovery.Starts.{start-taken, start-answer}
 use Rattle.board.proofs.Format.Ends as FormatSteps
 use Rattle.board.proofs.Recovery.Ends as RecoverySteps
 use Rattle.board.proofs.Checkpoint.Ends as CheckpointSteps
@@ -173,14 +173,20 @@ goes-and-comes r h = Away.goes-and-comes r (history-inv r h)
 pub recovery-starts : RecoveryStarts
 recovery-starts r h e = start-taken r (history-inv r h) e
 
+pub own-memory : OwnMemory
+own-memory r h number value b p = performed-number RecoveryStart (r .board) p ∙ start-answer r (history-inv r h)
+
 pub update-ends : UpdateEnds
 update-ends r h = Updates.update-ends r (history-inv r h)
 
 -- So there are histories, and finished recoveries.
 pub history-begins : HistoryBegins
-history-begins l w b t =
-    let start = next (FormatStart l w) b in
-    (stepsFrom (formatSteps l) start, (beginning l, formatted l w _ b start _ (performing (FormatStart l w) b t refl refl) (all-takes (formatSteps l) start (format-ends l w b t .0))))
+history-begins = (by-format, λ b t. recoveryStarted _ b _ (performing RecoveryStart b t refl refl))
+  where
+    by-format : (l w : ℕ) (b : Board) → Taken (FormatStart l w) b → (b′ : Board) × Begins b′ (beginning l)
+    by-format l w b t =
+        let start = next (FormatStart l w) b in
+        (stepsFrom (formatSteps l) start, formatted l w _ b start _ (performing (FormatStart l w) b t refl refl) (all-takes (formatSteps l) start (format-ends l w b t .0)))
 
 pub has-recovery : HasRecovery
 has-recovery r h e =

@@ -1,4 +1,4 @@
--- Document 01, "Why a call is turned down", and document 02, ticket 2: the cause table tried at every part of each of its sentences. For every call and every number that can turn it
+-- Document 01, "Why a call is turned down", and document 02, tickets 2 and 4: the cause table tried at every part of each of its sentences. For every call and every number that can turn it
 -- down there is a board where it does, with every later cause standing too where that can be; and boards where the call is just taken.
 pub mod Boards
 pub mod Starts
@@ -6,7 +6,7 @@ pub mod Calls
 pub mod Away
 use mathlib.Core.List.{List, [], _∷_, flatten}
 use Rattle.board.specs.Bench.{Case, Each}
-use Rattle.board.specs.Refusals.Starts.{formatLimits, formatRows, formatTaken, recoveryRows, recoveryHeader, recoveryTaken, stepPhase, stepRecord, stepRecordInFormat, stepRecordInRecovery, stepRecordTaken, stepPlaceOfPhase, stepRows, stepEntry, stepEntryTaken, stepReady, stepReadyTaken, stepEpoch, stepEpochTaken}
+use Rattle.board.specs.Refusals.Starts.{formatLimits, formatRows, formatTaken, recoveryRows, recoveryHeader, recoveryTaken, recoveryBeforeMarks, recoveryMarks, recoveryMarksTaken, stepPhase, stepRecord, stepRecordInFormat, stepRecordInRecovery, stepRecordTaken, stepPlaceOfPhase, stepRows, stepEntry, stepEntryTaken, stepReady, stepReadyTaken, stepEpoch, stepEpochTaken}
 use Rattle.board.specs.Refusals.Calls.{updateFirst, updateWorker, updateCell, updateBusy, updateShared, updateTaken, restartFirst, restartWorker, restartBusy, restartShared, restartTaken, advanceFirst, advanceFull, advanceWorker, advanceIdle, advanceTaken, requestFirst, requestLast, requestTaken, backPhase, backRecord, backRows, backLine, backTaken, readFirst, readCell, readValue, readTaken}
 use Rattle.board.specs.Refusals.Away.{goFirst, goWorker, goBusy, goTaken, comeFirst, comeWorker, comeNotAway, comeBegun, comeTaken, awayBusy, awaySteps, awayBeside, awayLeft}
 
@@ -14,7 +14,7 @@ use Rattle.board.specs.Refusals.Away.{goFirst, goWorker, goBusy, goTaken
 abbrev pub groups : List (List Case)
 groups =
     formatLimits ∷ formatRows ∷ formatTaken
-    ∷ recoveryRows ∷ recoveryHeader ∷ recoveryTaken
+    ∷ recoveryRows ∷ recoveryHeader ∷ recoveryTaken ∷ recoveryBeforeMarks ∷ recoveryMarks ∷ recoveryMarksTaken
     ∷ stepPhase ∷ stepRecord ∷ stepRecordInFormat ∷ stepRecordInRecovery ∷ stepRecordTaken ∷ stepPlaceOfPhase ∷ stepRows ∷ stepEntry ∷ stepEntryTaken ∷ stepReady ∷ stepReadyTaken ∷ stepEpoch ∷ stepEpochTaken
     ∷ updateFirst ∷ updateWorker ∷ updateCell ∷ updateBusy ∷ updateShared ∷ updateTaken
     ∷ restartFirst ∷ restartWorker ∷ restartBusy ∷ restartShared ∷ restartTaken

@@ -14,14 +14,14 @@ use Rattle.board.specs.declared.Call.the-variants.{FormatStart, Recovery
 use Rattle.board.specs.declared.Phase.{Phase}
 use Rattle.board.specs.Board.{Board, cells, epochOf, linesOf, workersOf}
 use Rattle.board.specs.State.{conditionOf, isFree, isWaiting, isFormatting, isRunning}
-use Rattle.board.specs.Effects.{writtenBack}
+use Rattle.board.specs.Effects.{undone, writtenBack}
 use Rattle.board.specs.Next.{Taken, next, Kind, startsFormat, startsRecovery, stepping, writing, other, reading, kind, isStep, Performed}
-use Rattle.board.specs.Machine.{Machine, formatSteps}
+use Rattle.board.specs.Machine.{Machine, beginning, recoveryBeginning, formatSteps}
 use Rattle.board.specs.Sequence.{Takes, Begins, Run, called, cutRun, KeepsLengths, Happens, performs, pages, cuts, History, begun, further, lastCheckpoint, recoverySteps}
 
 -- ---- 1. reads
 
--- DEMAND 2: "from a finished format on, a read agrees with the simple machine": a read that returns 0, with no cut since the last taken start, gives the machine's current value.
+-- DEMAND 2: "from a finished format on, a read agrees with the simple machine", and (02, ticket 4) from a recovery's start that took the memory: a read that returns 0, with no cut since the last taken start, gives the machine's current value.
 abbrev pub Reads : Type 0
 Reads =
     (r : Run) → History r → r .crashed ≡ false →
@@ -60,7 +60,7 @@ ReadAlike m b n d =
     (c : ℕ) → c < cells (b .state .lines) →
     (p q v u : ℕ) (b′ d′ : Board) → Performed (Read c) b p v b′ → Performed (Read c) d q u d′ → (v ≡ u) ↔ (m .checkpointed c ≡ n .checkpointed c)
 
--- DEMAND 3: two boards, each given a finished format, any history of calls and cuts, one more cut and a finished recovery. Then every cell reads what
+-- DEMAND 3: two boards, each begun by a finished format or by a recovery's start that took its memory, with any history of calls and cuts, one more cut and a finished recovery. Then every cell reads what
 -- the simple machine held at the last completed checkpoint; and where the boards are of one size, a cell reads alike exactly when those values are equal.
 abbrev pub Demand3 : Type 0
 Demand3 =
@@ -207,9 +207,15 @@ GoesAndComes =
 abbrev pub RecoveryStarts : Type 0
 RecoveryStarts = (r : Run) → History r → r .erased ≡ false → Taken RecoveryStart (r .board)
 
--- Where a format's start is taken there is a finished format, so a history begins there.
+-- 02, ticket 4: a board's own memory is never turned down by 14: after any history a recovery's start returns 0, or 5 where a format took its first step and none has finished since.
+abbrev pub OwnMemory : Type 0
+OwnMemory = (r : Run) → History r → (number value : ℕ) (b : Board) → Performed RecoveryStart (r .board) number value b → number ≡ cond (r .erased) 5 0
+
+-- There are both beginnings: where a format's start is taken there is a finished format, and where a recovery's is taken a history begins at once.
 abbrev pub HistoryBegins : Type 0
-HistoryBegins = (l w : ℕ) (b : Board) → Taken (FormatStart l w) b → (b′ : Board) × ((m : Machine) × Begins b′ m)
+HistoryBegins =
+    ((l w : ℕ) (b : Board) → Taken (FormatStart l w) b → (b′ : Board) × Begins b′ (beginning l))
+    × ((b : Board) → Taken RecoveryStart b → Begins (next RecoveryStart b) (recoveryBeginning (linesOf (b .memory)) (undone (b .memory))))
 
 -- After any history there is a finished recovery, unless a format took its first step and none has finished since.
 abbrev pub HasRecovery : Type 0

@@ -1,5 +1,5 @@
 -- What is claimed of single calls on any board, each claim as a type: what a step writes, and when a call is taken. `proofs/Steps/Theorems.antt` proves every one.
-use Prim.Native.Nat.{ℕ, suc, _+_, _*_, _/_, _≤_, _<_}
+use Prim.Native.Nat.{ℕ, suc, _+_, _*_, _/_, _%_, _≤_, _<_}
 use mathlib.Core.Path.{_≡_}
 use mathlib.Core.Logic.{_⊎_, _↔_}
 use mathlib.Core.List.{List, _∷_, _++_, List·Memᴰ}
@@ -156,6 +156,28 @@ FormatBegins = (l w : ℕ) (b : Board) → Taken (FormatStart l w) b → Begun F
 abbrev pub RecoveryBegins : Type 0
 RecoveryBegins =
     (b : Board) → Taken RecoveryStart b → Begun Recovering (getD (b .memory) 1 0) (getD (b .memory) 2 0) (b .memory) b (next RecoveryStart b)
+
+-- Where cell `c` has its mark: "Cell c .. stands in line 1 + (c div 2), from word 3×(c mod 2): record, backup, mark".
+abbrev pub markWord : ℕ → ℕ
+markWord c = 8 * (1 + c / 2) + 3 * (c % 2) + 2
+
+-- A board of `l` lines and `w` workers that can be recovered: rows of 8×(L+1) words, room for every cell in the list, epoch, L and W in the header and zeros after them; 02, ticket 4:
+-- no cell's mark in memory greater than memory's epoch. Nothing is asked of the state record, of what cache and list hold, or of the other words of the cell lines.
+pub record Recoverable (l w : ℕ) (b : Board) : Type 0 where
+  pub linesWithin : (1 ≤ l) × (l ≤ 511)
+  pub workersWithin : (1 ≤ w) × (w ≤ 8) × (w < 2 * l)
+  pub memory : length (b .memory) ≡ 8 * (l + 1)
+  pub cache : length (b .cache) ≡ 8 * (l + 1)
+  pub entries : 2 * l ≤ length (b .entries)
+  pub epoch : 0 < getD (b .memory) 0 0
+  pub lines : getD (b .memory) 1 0 ≡ l
+  pub workers : getD (b .memory) 2 0 ≡ w
+  pub rest : (k : ℕ) → 3 ≤ k → k < 8 → getD (b .memory) k 0 ≡ 0
+  pub marks : (c : ℕ) → c < 2 * l → getD (b .memory) (markWord c) 0 ≤ getD (b .memory) 0 0
+
+-- Recovery's start takes those boards and no other.
+abbrev pub RecoveryTakes : Type 0
+RecoveryTakes = (b : Board) → Taken RecoveryStart b ↔ Recoverable (getD (b .memory) 1 0) (getD (b .memory) 2 0) b
 
 -- ---- 7. a request, and the end of a format or recovery
 

@@ -78,11 +78,11 @@ keeps-recovery-start r inv t =
 -- ---- where a history begins
 
 -- No mark of a memory that recovery's start takes is ahead of its epoch.
-started-marks : (b : Board) → Taken RecoveryStart b → (c : ℕ) → c < cells (linesOf (b .memory)) → fieldOf (b .memory) c Mark ≤ epochOf (b .memory)
+pub started-marks : (b : Board) → Taken RecoveryStart b → (c : ℕ) → c < cells (linesOf (b .memory)) → fieldOf (b .memory) c Mark ≤ epochOf (b .memory)
 unfolding standsAt causes
 started-marks b t c h =
-    ltb-false (epochOf (b .memory)) (fieldOf (b .memory) c Mark)
-    (none-under (cells (linesOf (b .memory))) (λ k. ltb (epochOf (b .memory)) (fieldOf (b .memory) k Mark)) (passed RecoveryStart b t 14) c h)
+    let row = b .memory in
+    ltb-false (epochOf row) (fieldOf row c Mark) (none-under (cells (linesOf row)) (λ k. ltb (epochOf row) (fieldOf row k Mark)) (passed RecoveryStart b t 14) c h)
 
 -- Undoing a cell gives what `undone` says of it.
 undoes-own : (row : List ℕ) (c : ℕ) → fieldOf row c Mark ≤ epochOf row → Undo (epochOf row) (undone row c) (view row c)

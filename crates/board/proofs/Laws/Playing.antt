@@ -11,8 +11,8 @@ use Rattle.board.specs.declared.Call.the-variants.{RecoveryStart, Step}
 use Rattle.board.specs.Board.{Board}
 use Rattle.board.specs.Causes.{cause}
 use Rattle.board.specs.Next.{Taken, taken, next, Kind, startsFormat, startsRecovery, stepping, writing, other, reading, kind, isStart, isStep, valueOf, Performed}
-use Rattle.board.specs.Sequence.{Takes, finished, steps, between, Run, takenCall, unfed, called, cutBoard, KeepsLengths, performs, History, further, recoverySteps}
-use Rattle.board.specs.Statements.{CutAndRecovered}
+use Rattle.board.specs.Sequence.{Takes, finished, steps, between, Run, takenCall, unfed, called, cutBoard, cutRun, KeepsLengths, Happens, performs, History, further, recoverySteps}
+use Rattle.board.specs.Statements.{Recovered, CutAndRecovered}
 use Rattle.board.specs.Bench.{afterCalls}
 use Rattle.board.proofs.Laws.Bools.{on, split, chosen, passedOver, and-off, and-left, and-right}
 use Rattle.board.proofs.Laws.Taken.{of-kind, performing}
@@ -34,13 +34,17 @@ unfolding made
 stays-up k r d =
     on (λ (x : Run). x .crashed ≡ false) (eqb (cause k (r .board)) 0) (takenCall k (next k (r .board)) r) (unfed (next k (r .board)) r) (λ t. and-off (r .crashed) (not (isStart (kind k))) d) (λ t. d)
 
--- Calls alone carry a history on.
-pub calls-history : (ks : List Call) (r : Run) → r .crashed ≡ false → History r → History (madeAll ks r)
+-- What everything that happens carries on, calls alone carry on.
+pub calls-carry : (P : Run → Type 0) → ((q q′ : Run) → P q → Happens q q′ → P q′) → (ks : List Call) (r : Run) → r .crashed ≡ false → P r → P (madeAll ks r)
 unfolding made madeAll
-calls-history [] r d h = h
-calls-history (k ∷ ks) r d h =
-    calls-history ks (made k r) (stays-up k r d)
-    (further h (performs k (cause k (r .board)) (valueOf k (r .board)) (next k (r .board)) refl (λ c z. absurd (false≢true (sym d ∙ c)))))
+calls-carry P carry [] r d h = h
+calls-carry P carry (k ∷ ks) r d h =
+    calls-carry P carry ks (made k r) (stays-up k r d)
+    (carry r (made k r) h (performs k (cause k (r .board)) (valueOf k (r .board)) (next k (r .board)) refl (λ c z. absurd (false≢true (sym d ∙ c)))))
+
+-- So they carry a history on.
+pub calls-history : (ks : List Call) (r : Run) → r .crashed ≡ false → History r → History (madeAll ks r)
+calls-history = calls-carry History (λ q q′ h e. further h e)
 
 -- ---- taken steps, by a computed test
 
@@ -94,25 +98,23 @@ tested (suc n) (k ∷ ks) b e =
 
 -- ---- one more cut and a finished recovery
 
--- The recovery that is played after a cut is finished.
-pub cut-recovered : (r : Run) (s : State) (cache entries : List ℕ) (ks : List Call) (n : ℕ) → KeepsLengths cache entries (r .board) →
-    taken RecoveryStart (cutBoard s cache entries (r .board)) && takesTest n ks (next RecoveryStart (cutBoard s cache entries (r .board))) ≡ true →
-    recoverySteps (r .board .memory) ≡ n → CutAndRecovered r (afterCalls ks (next RecoveryStart (cutBoard s cache entries (r .board))))
-cut-recovered r s cache entries ks n lengths test count =
-    let b = cutBoard s cache entries (r .board) in
+-- The recovery that is played is finished.
+pub played-recovered : (r : Run) (ks : List Call) (n : ℕ) → taken RecoveryStart (r .board) && takesTest n ks (next RecoveryStart (r .board)) ≡ true → recoverySteps (r .board .memory) ≡ n → Recovered r (afterCalls ks (next RecoveryStart (r .board)))
+played-recovered r ks n test count =
+    let b = r .board in
     let start = next RecoveryStart b in
     let t = taken RecoveryStart b in
     let u = takesTest n ks start in
     record {
-      state = s;
-      cache = cache;
-      entries = entries;
-      lengths = lengths;
-      recovered =
-          record {
-            value = valueOf RecoveryStart b;
-            start = start;
-            begun = performing RecoveryStart b (eqb-true (cause RecoveryStart b) 0 (and-left t u test)) refl refl;
-            ended = subst (λ (k : ℕ). Takes k start (afterCalls ks start)) (sym count) (tested n ks start (and-right t u test));
-          };
+      value = valueOf RecoveryStart b;
+      start = start;
+      begun = performing RecoveryStart b (eqb-true (cause RecoveryStart b) 0 (and-left t u test)) refl refl;
+      ended = subst (λ (k : ℕ). Takes k start (afterCalls ks start)) (sym count) (tested n ks start (and-right t u test));
     }
+
+-- So is one after a cut.
+pub cut-recovered : (r : Run) (s : State) (cache entries : List ℕ) (ks : List Call) (n : ℕ) → KeepsLengths cache entries (r .board) →
+    taken RecoveryStart (cutBoard s cache entries (r .board)) && takesTest n ks (next RecoveryStart (cutBoard s cache entries (r .board))) ≡ true →
+    recoverySteps (r .board .memory) ≡ n → CutAndRecovered r (afterCalls ks (next RecoveryStart (cutBoard s cache entries (r .board))))
+cut-recovered r s cache entries ks n lengths test count =
+    record { state = s; cache = cache; entries = entries; lengths = lengths; recovered = played-recovered (cutRun s cache entries r) ks n test count }

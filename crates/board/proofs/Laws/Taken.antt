@@ -6,7 +6,7 @@ use mathlib.Core.Bool.{Bool, true, false, cond, not, _&&_, _||_}
 use native.Mathlib.Omega.{arith}
 use lib.Dec.{leb, ltb, eqb}
 use lib.ListN.{length}
-use borrow.Author.Tests.{ltb-true, leb-true, eq-eqb, ne-eqb, le-ltb}
+use borrow.Author.Tests.{ltb-true, leb-true, eq-eqb, ne-eqb, le-leb, lt-ltb, le-ltb}
 use Rattle.board.specs.declared.State.{State}
 use Rattle.board.specs.declared.Condition.{Condition}
 use Rattle.board.specs.declared.Call.{Call}
@@ -18,7 +18,7 @@ use Rattle.board.specs.Effects.{effect}
 use Rattle.board.specs.Page.{PageOutcome, PagePerformed}
 use Rattle.board.specs.Sequence.{Run, takenCall}
 use Rattle.board.specs.Next.{Taken, taken, next, Kind, startsFormat, startsRecovery, stepping, writing, other, reading, kind, valueOf, Outcome, Performed}
-use Rattle.board.proofs.Laws.Bools.{split, chosen, passedOver, or-left, or-right, or-none, and-left, and-right, and-if, not-off, not-on, under-none}
+use Rattle.board.proofs.Laws.Bools.{split, chosen, passedOver, or-left, or-right, or-none, and-left, and-right, and-both, and-if, not-off, not-on, under-none}
 use Rattle.board.proofs.Invariant.{Sizes}
 
 -- ---- a call's causes
@@ -187,6 +187,15 @@ workers-in l w e =
     let t = not-off (leb 1 w && leb w 8 && ltb w (cells l)) e in
     let u = and-left (leb 1 w && leb w 8) (ltb w (cells l)) t in
     (leb-true 1 w (and-left (leb 1 w) (leb w 8) u), leb-true w 8 (and-right (leb 1 w) (leb w 8) u), ltb-true w (cells l) (and-right (leb 1 w && leb w 8) (ltb w (cells l)) t))
+
+-- And back.
+pub in-lines : (l : ℕ) → (1 ≤ l) × (l ≤ 511) → linesOutside l ≡ false
+in-lines l h = not-on (leb 1 l && leb l 511) (and-both (leb 1 l) (leb l 511) (le-leb 1 l (h .0)) (le-leb l 511 (h .1)))
+
+pub in-workers : (l w : ℕ) → (1 ≤ w) × (w ≤ 8) × (w < cells l) → workersOutside l w ≡ false
+in-workers l w h =
+    not-on (leb 1 w && leb w 8 && ltb w (cells l))
+    (and-both (leb 1 w && leb w 8) (ltb w (cells l)) (and-both (leb 1 w) (leb w 8) (le-leb 1 w (h .0)) (le-leb w 8 (h .1))) (lt-ltb w (cells l) (h .2)))
 
 -- Rows of the right lengths pass.
 pub rows-fine : (l : ℕ) (b : Board) → Sizes l b → badRows l b ≡ false

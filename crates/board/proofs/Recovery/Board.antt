@@ -21,7 +21,7 @@ use Rattle.board.specs.Causes.{causes}
 use Rattle.board.proofs.Laws.Bools.{on, or-left, or-right, and-left, and-right, and-both, not-off, not-on}
 use Rattle.board.proofs.Invariant.{Sizes}
 use Rattle.board.proofs.Laws.Workers.{free-condition}
-use Rattle.board.proofs.Laws.Taken.{standsAt, passed, lines-in}
+use Rattle.board.proofs.Laws.Taken.{standsAt, passed, lines-in, in-lines}
 use Rattle.board.specs.Next.{Taken}
 
 -- ---- the step by cases
@@ -114,14 +114,21 @@ started-lengths m k n l e q =
       eqb-true (m % 8) 0 (and-left whole low two),
     )
 
--- A taken recovery start leaves rows of the lengths that the header's L asks.
-pub started-sizes : (b : Board) → Taken RecoveryStart b → Sizes (linesOf (b .memory)) (effect RecoveryStart b)
-unfolding standsAt causes effect
-started-sizes b t =
+-- A taken recovery start finds rows of the lengths that the header's L asks.
+pub started-rows : (b : Board) → Taken RecoveryStart b → Sizes (linesOf (b .memory)) b
+unfolding standsAt causes
+started-rows b t =
     let z = started-lengths (length (b .memory)) (length (b .cache)) (length (b .entries)) (linesOf (b .memory)) (passed RecoveryStart b t 4) (started-header b t .1) in
     record {
-      limits = not-on (leb 1 (linesOf (b .memory)) && leb (linesOf (b .memory)) 511) (and-both (leb 1 (linesOf (b .memory))) (leb (linesOf (b .memory)) 511) (le-leb _ _ (z .0)) (le-leb _ _ (z .1)));
+      limits = in-lines (linesOf (b .memory)) (z .0, z .1);
       memory = record { size = z .2 };
-      cache = record { size = z .2 };
+      cache = record { size = z .3 };
       entries = z .4;
     }
+
+-- So it leaves them.
+pub started-sizes : (b : Board) → Taken RecoveryStart b → Sizes (linesOf (b .memory)) (effect RecoveryStart b)
+unfolding effect
+started-sizes b t =
+    let z = started-rows b t in
+    record { limits = z .limits; memory = z .memory; cache = z .memory; entries = z .entries }

@@ -1,8 +1,8 @@
--- A recovery can be started on any memory that no format has begun to erase.
+-- A recovery can be started where rows, header and marks pass: so on any memory of a history that no format has begun to erase.
 use Prim.Native.Nat.{ℕ, _+_, _-_, _/_, _%_, _≤_, _<_}
 use mathlib.Core.Path.{_≡_, refl, sym, ap, subst, _∙_}
 use mathlib.Core.List.{List}
-use mathlib.Core.Bool.{Bool, true, false, not, _&&_, _||_}
+use mathlib.Core.Bool.{Bool, true, false, cond, not, _&&_, _||_}
 use native.Mathlib.Omega.{arith}
 use lib.Dec.{leb, ltb, eqb}
 use lib.ListN.{length}
@@ -12,9 +12,9 @@ use Rattle.line.specs.Cell.{fieldOf}
 use Rattle.board.specs.declared.Call.{Call}
 use Rattle.board.specs.declared.Call.the-variants.{RecoveryStart}
 use Rattle.board.specs.Board.{Board, cells, epochOf, linesOf, workersOf, workersOutside, restNotZero}
-use Rattle.board.specs.Causes.{causes, badRecoveryRows, badHeader, laterMark}
+use Rattle.board.specs.Causes.{causes, firstStanding, cause, badRecoveryRows, badHeader, laterMark}
 use Rattle.board.specs.Sequence.{Run}
-use Rattle.board.proofs.Laws.Bools.{or-none, and-both, not-on, under-none}
+use Rattle.board.proofs.Laws.Bools.{split, chosen, passedOver, or-none, and-both, not-on, under-none}
 use Rattle.board.proofs.Invariant.{Inv, Kept, Header, Sizes}
 use Rattle.board.proofs.Laws.View.{view-mark}
 use Rattle.board.proofs.Laws.Taken.{Clear, take, lines-in}
@@ -48,15 +48,35 @@ header-passes l b z h =
     (h .rest)
 
 -- A memory with no mark ahead of its epoch passes recovery's test.
-marks-pass : (l : ℕ) (xs : ℕ → ℕ) (row : List ℕ) → Kept l xs row → laterMark (epochOf row) row ≡ false
-marks-pass l xs row k =
-    under-none (cells (linesOf row)) (λ c. ltb (epochOf row) (fieldOf row c Mark)) (λ c h.
-    le-ltb (epochOf row) (fieldOf row c Mark) (omega (arith, k .undoes c (subst (λ (n : ℕ). c < cells n) (k .header .lines) h) .bounded, view-mark row c)))
+marks-pass : (l : ℕ) (row : List ℕ) → linesOf row ≡ l → ((c : ℕ) → c < cells l → fieldOf row c Mark ≤ epochOf row) → laterMark (epochOf row) row ≡ false
+marks-pass l row e bounded =
+    under-none (cells (linesOf row)) (λ c. ltb (epochOf row) (fieldOf row c Mark)) (λ c h. le-ltb (epochOf row) (fieldOf row c Mark) (bounded c (subst (λ (n : ℕ). c < cells n) e h)))
 
--- A recovery's start is taken unless memory is being erased.
-pub start-taken : (r : Run) → Inv r → r .erased ≡ false → Taken RecoveryStart (r .board)
+-- A recovery's start is taken on rows of the right lengths with such a header and such marks.
+pub recoverable-taken : (l : ℕ) (b : Board) → Sizes l b → Header l (b .memory) → ((c : ℕ) → c < cells l → fieldOf (b .memory) c Mark ≤ epochOf (b .memory)) → Taken RecoveryStart b
 unfolding Clear causes
+recoverable-taken l b z h bounded =
+    take RecoveryStart b (rows-pass l b z, (header-passes l b z h, (marks-pass l (b .memory) (h .lines) bounded, tt)))
+
+-- After any history it is taken unless memory is being erased.
+pub start-taken : (r : Run) → Inv r → r .erased ≡ false → Taken RecoveryStart (r .board)
 start-taken r i e =
-    take RecoveryStart (r .board)
-    (rows-pass (r .machine .lines) (r .board) (i .sizes),
-    (header-passes (r .machine .lines) (r .board) (i .sizes) (i .kept e .header), (marks-pass (r .machine .lines) (r .machine .checkpointed) (r .board .memory) (i .kept e), tt)))
+    let k = i .kept e in
+    let row = r .board .memory in
+    recoverable-taken (r .machine .lines) (r .board) (i .sizes) (k .header) (λ c h. omega (arith, k .undoes c h .bounded, view-mark row c))
+
+-- Where memory is being erased its header says that there is no board.
+erased-header : (row : List ℕ) → epochOf row ≡ 0 → badHeader row ≡ true
+erased-header row e =
+    subst (λ (t : Bool). t || not (eqb (linesOf row) (length row / 8 - 1)) || workersOutside (linesOf row) (workersOf row) || restNotZero row ≡ true) (sym (eq-eqb (epochOf row) 0 e)) refl
+
+-- A recovery's start is answered by 0, or by 5 where memory is being erased.
+pub start-answer : (r : Run) → Inv r → cause RecoveryStart (r .board) ≡ cond (r .erased) 5 0
+unfolding cause causes firstStanding
+start-answer r i =
+    split (r .erased)
+    (λ e. passedOver (badRecoveryRows b) 4 _ (rows-pass (r .machine .lines) b (i .sizes)) ∙ chosen (badHeader (b .memory)) 5 _ (erased-header (b .memory) (i .lost e)) ∙ sym (chosen (r .erased) 5 0 e))
+    (λ e. start-taken r i e ∙ sym (passedOver (r .erased) 5 0 e))
+  where
+    b : Board
+    b = r .board

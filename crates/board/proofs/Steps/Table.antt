@@ -1,18 +1,15 @@
 -- The cause table read both ways, and a format's start in plain numbers.
-use Prim.Native.Nat.{ℕ, _≤_, _<_}
 use mathlib.Core.Path.{_≡_, refl, sym, ap, _∙_}
 use mathlib.Core.Logic.{_⊎_, inl, inr, ⊎-elim}
 use mathlib.Core.List.{List, [], _∷_, List·Memᴰ·head, List·Memᴰ·tail, List·Memᴰ·cases-cons, List·Memᴰ·not-nil}
-use mathlib.Core.Bool.{false, cond, _&&_}
-use lib.Dec.{leb, ltb}
-use borrow.Author.Tests.{le-leb, lt-ltb}
+use mathlib.Core.Bool.{false, cond}
 use Rattle.board.specs.declared.Call.the-variants.{FormatStart}
-use Rattle.board.specs.Board.{cells, linesOutside, workersOutside}
+use Rattle.board.specs.Board.{linesOutside, workersOutside}
 use Rattle.board.specs.Causes.{Cause, causes, firstStanding, cause}
 use Rattle.board.specs.Steps.{NoneStands, StandsFirst, TableBothWays, FormatStarts}
-use Rattle.board.proofs.Laws.Bools.{split, chosen, passedOver, or-none, and-both, not-on}
+use Rattle.board.proofs.Laws.Bools.{split, chosen, passedOver, or-none}
 use Rattle.board.proofs.Invariant.{Sizes}
-use Rattle.board.proofs.Laws.Taken.{Clear, first-clear, table-numbered, take, refused-next, rows-fine}
+use Rattle.board.proofs.Laws.Taken.{Clear, first-clear, table-numbered, take, refused-next, in-lines, in-workers, rows-fine}
 
 -- ---- no row stands
 
@@ -65,18 +62,10 @@ table-both-ways k b =
 
 -- ---- format's start
 
--- L and W within the limits pass.
-limits-pass : (l w : ℕ) → 1 ≤ l → l ≤ 511 → 1 ≤ w → w ≤ 8 → w < cells l → (linesOutside l ≡ false) × (workersOutside l w ≡ false)
-limits-pass l w a b c d e = (
-  not-on (leb 1 l && leb l 511) (and-both (leb 1 l) (leb l 511) (le-leb 1 l a) (le-leb l 511 b)),
-  not-on (leb 1 w && leb w 8 && ltb w (cells l))
-      (and-both (leb 1 w && leb w 8) (ltb w (cells l)) (and-both (leb 1 w) (leb w 8) (le-leb 1 w c) (le-leb w 8 d)) (lt-ltb w (cells l) e)),
-)
-
 -- Within 01's limits and with rows that fit, a format starts on any board.
 pub format-starts : FormatStarts
 unfolding Clear causes
 format-starts l w b l1 l511 w1 w8 less memory cache entries =
-    let pass = limits-pass l w l1 l511 w1 w8 less in
-    let sizes : Sizes l b = record { limits = pass .0; memory = record { size = memory }; cache = record { size = cache }; entries = entries } in
-    take (FormatStart l w) b (or-none (linesOutside l) (workersOutside l w) (pass .0) (pass .1), (rows-fine l b sizes, tt))
+    let limits = in-lines l (l1, l511) in
+    let sizes : Sizes l b = record { limits = limits; memory = record { size = memory }; cache = record { size = cache }; entries = entries } in
+    take (FormatStart l w) b (or-none (linesOutside l) (workersOutside l w) limits (in-workers l w (w1, w8, less)), (rows-fine l b sizes, tt))

@@ -1,5 +1,5 @@
 -- THE THEOREMS about single calls: every statement of `specs/Steps.antt`, proved.
-use Rattle.board.specs.Steps.{FormatWrites, RecoveryWrites, Releases, LastStore, TableBothWays, FormatStarts, FormatBegins, RecoveryBegins, Requests, FormatOpens, RecoveryOpens, GoesAway, ComesBack, OthersStay}
+use Rattle.board.specs.Steps.{FormatWrites, RecoveryWrites, Releases, LastStore, TableBothWays, FormatStarts, FormatBegins, RecoveryBegins, RecoveryTakes, Requests, FormatOpens, RecoveryOpens, GoesAway, ComesBack, OthersStay}
 use Rattle.board.proofs.Steps.Format
 use Rattle.board.proofs.Steps.Recovery
 use Rattle.board.proofs.Steps.Workers
@@ -37,6 +37,10 @@ format-begins = Starts.format-begins
 
 pub recovery-begins : RecoveryBegins
 recovery-begins = Starts.recovery-begins
+
+-- Recovery's start takes exactly the boards that can be recovered.
+pub recovery-takes : RecoveryTakes
+recovery-takes = Starts.recovery-takes
 
 -- 7. A request sets the place and nothing else; the end of a format or recovery opens the board.
 pub requests : Requests

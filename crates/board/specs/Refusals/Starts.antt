@@ -82,14 +82,46 @@ recoveryHeader =
     ∷ gives 5 RecoveryStart (offWith 1 (set (headerWords 1 1 1) 7 1))
     ∷ []
 
--- Taken: 16 and 4,096 words with lists of 2 and 1,022; W = 2L − 1; a longer list; in every phase over any record.
+-- Taken: 16 and 520 words with lists of 2 and 128 (`RecoveryTakes` has every size); W = 2L − 1; a longer list; in every phase over any record.
 abbrev pub recoveryTaken : List Case
 recoveryTaken =
     gives 0 RecoveryStart (offWith 1 (headerWords 1 1 1))
-    ∷ gives 0 RecoveryStart (offWith 511 (headerWords 1 511 8))
+    ∷ gives 0 RecoveryStart (offWith 64 (headerWords 1 64 8))
     ∷ gives 0 RecoveryStart (offWith 2 (headerWords (2 ^ 64 - 1) 2 3))
     ∷ gives 0 RecoveryStart (entered (replicate 9 0) (offWith 1 (headerWords 1 1 1)))
     ∷ givesOn 0 RecoveryStart anyRecord
+
+-- The same board with another word in memory; of line 1, words 10 and 13 are the marks of cells 0 and 1.
+abbrev pub holding : ℕ → ℕ → Board → Board
+holding i v b = remembered (set (b .memory) i v) b
+
+-- Causes 4 and 5, while cause 14 stands too: cache of another length; epoch 0; W outside; a word of 3 to 7 not zero.
+abbrev pub recoveryBeforeMarks : List Case
+recoveryBeforeMarks =
+    gives 4 RecoveryStart (shortCache (holding 10 2 (offWith 1 (headerWords 1 1 1))))
+    ∷ gives 5 RecoveryStart (holding 10 1 (offWith 1 (headerWords 0 1 1)))
+    ∷ gives 5 RecoveryStart (holding 10 2 (offWith 1 (headerWords 1 1 2)))
+    ∷ gives 5 RecoveryStart (holding 10 2 (offWith 1 (set (headerWords 1 1 1) 7 1)))
+    ∷ []
+
+-- Cause 14: a mark one past the epoch, in the first cell and in the last, of 2 and of 128; 2^64 − 1 past 2^64 − 2; with a later epoch in the cache.
+abbrev pub recoveryMarks : List Case
+recoveryMarks =
+    gives 14 RecoveryStart (holding 10 2 (offWith 1 (headerWords 1 1 1)))
+    ∷ gives 14 RecoveryStart (holding 13 6 (offWith 1 (headerWords 5 1 1)))
+    ∷ gives 14 RecoveryStart (holding 517 8 (offWith 64 (headerWords 7 64 8)))
+    ∷ gives 14 RecoveryStart (holding 13 (2 ^ 64 - 1) (offWith 1 (headerWords (2 ^ 64 - 2) 1 1)))
+    ∷ gives 14 RecoveryStart (epoch 9 (holding 10 2 (offWith 1 (headerWords 1 1 1))))
+    ∷ []
+
+-- Taken: every mark the epoch, though the cache's epoch is 0; that epoch 2^64 − 1; a mark under it; records, backups and words 6 and 7 that are greater.
+abbrev pub recoveryMarksTaken : List Case
+recoveryMarksTaken =
+    gives 0 RecoveryStart (holding 10 1 (holding 13 1 (offWith 1 (headerWords 1 1 1))))
+    ∷ gives 0 RecoveryStart (holding 10 (2 ^ 64 - 1) (holding 13 (2 ^ 64 - 1) (offWith 1 (headerWords (2 ^ 64 - 1) 1 1))))
+    ∷ gives 0 RecoveryStart (holding 10 4 (offWith 1 (headerWords 5 1 1)))
+    ∷ gives 0 RecoveryStart (holding 8 9 (holding 9 9 (holding 11 9 (holding 12 9 (holding 14 9 (holding 15 9 (offWith 1 (headerWords 1 1 1))))))))
+    ∷ []
 
 -- ---- the step call
 

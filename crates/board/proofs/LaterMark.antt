@@ -1,0 +1,88 @@
+-- The ticket's own story, 02's ticket 4: on a memory with a mark later than its epoch the promise would be broken one checkpoint on.
+use Prim.Native.Nat.{ℕ, _<_}
+use mathlib.Core.Path.{_≡_, refl, sym, subst, _∙_}
+use mathlib.Core.List.{List, [], _∷_}
+use mathlib.Core.Bool.{true, false, _&&_}
+use native.Mathlib.Omega.{arith}
+use lib.ListN.{replicate}
+use Rattle.line.specs.Line.{lineOf, withLine}
+use Rattle.line.specs.Cell.{fieldIndex, fieldOf, withField}
+use Rattle.board.specs.declared.Call.{Call}
+use Rattle.board.specs.declared.Call.the-variants.{RecoveryStart, Step, Update, RestartPoint, Advance, Request, WriteBack, Read}
+use Rattle.board.specs.Board.{Board, cells, epochOf}
+use Rattle.board.specs.State.{anyUnder}
+use Rattle.board.specs.Causes.{badRecord, causes, firstStanding, cause}
+use Rattle.board.specs.Effects.{logged, recoveryStep, actAt, performAct, step, advance, advanceOf, effect}
+use Rattle.board.specs.Next.{taken, next, valueRead, valueOf}
+use Rattle.board.specs.Machine.{changed, countUnder, fewer, advanced, checkpointStep, stepped, writeBackSeen, feed}
+use Rattle.board.specs.Sequence.{Run, undoSteps, recoverySteps}
+use Rattle.board.specs.Statements.{ReadsCheckpointed}
+use Rattle.board.specs.LaterMark.{Leads, nothing, onward, unguarded, LaterMark}
+use Rattle.board.specs.Bench.{blank, afterCalls}
+use Rattle.board.specs.Refusals.Boards.{remembered}
+use Rattle.board.proofs.Laws.Taken.{performing}
+use Rattle.board.proofs.Laws.Playing.{made, madeAll, calls-carry, byKind, takesTest, played-recovered}
+
+-- The swapped module: epoch 5, and cell 1 with record 7, backup 3 and a mark of epoch 6.
+swapped : Board
+swapped = remembered (5 ∷ 1 ∷ 1 ∷ 0 ∷ 0 ∷ 0 ∷ 0 ∷ 0 ∷ 0 ∷ 0 ∷ 0 ∷ 7 ∷ 3 ∷ 6 ∷ 0 ∷ 0 ∷ []) (blank 16 2)
+
+-- Recovery passes over both cells; a checkpoint with restart point 4 then goes to epoch 6.
+toCheckpoint : List Call
+toCheckpoint = Step ∷ Step ∷ Request ∷ RestartPoint 0 4 ∷ Advance 0 ∷ Advance 0 ∷ Advance 0 ∷ Step ∷ Step ∷ Step ∷ Step ∷ []
+
+later : Run
+later = madeAll toCheckpoint (unguarded swapped)
+
+-- An update of cell 1 has one store, its record's; its line goes out.
+toUpdate : List Call
+toUpdate = Update 0 1 9 ∷ Advance 0 ∷ WriteBack 1 ∷ []
+
+run : Run
+run = madeAll toUpdate later
+
+-- The recovery after it restores the module's old backup.
+left : Board
+left = afterCalls (replicate 4 Step) (next RecoveryStart (run .board))
+
+leads : (r : Run) (ks : List Call) → r .crashed ≡ false → Leads r (madeAll ks r)
+leads r ks d = calls-carry (Leads r) (λ q q′ h e. onward h e) ks r d nothing
+
+seen-later : (later .crashed ≡ false) × (epochOf (later .board .memory) ≡ 6) × (later .machine .marked 1 ≡ false) × (logged (later .board .cache) 1 ≡ true)
+unfolding later toCheckpoint swapped made madeAll next cause causes firstStanding badRecord anyUnder effect step recoveryStep actAt performAct advance advanceOf lineOf withLine fieldIndex fieldOf withField feed changed countUnder fewer advanced checkpointStep stepped
+seen-later = (refl, refl, refl, refl)
+
+seen-run : (taken RecoveryStart (run .board) && takesTest 4 (replicate 4 Step) (next RecoveryStart (run .board)) ≡ true) × (recoverySteps (run .board .memory) ≡ 4) × (run .machine .checkpointed 1 ≡ 7)
+unfolding run toUpdate later toCheckpoint swapped made madeAll takesTest byKind undoSteps next cause causes firstStanding badRecord anyUnder effect step recoveryStep actAt performAct advance advanceOf lineOf withLine fieldIndex fieldOf withField feed changed countUnder fewer advanced checkpointStep stepped writeBackSeen
+seen-run = (refl, refl, refl)
+
+seen-left : (left .state .lines ≡ 1) × (cause (Read 1) left ≡ 0) × (valueOf (Read 1) left ≡ 3)
+unfolding left run toUpdate later toCheckpoint swapped made madeAll afterCalls valueOf valueRead next cause causes firstStanding badRecord anyUnder effect step recoveryStep actAt performAct advance advanceOf lineOf withLine fieldIndex fieldOf withField feed changed countUnder fewer advanced checkpointStep stepped writeBackSeen
+seen-left = (refl, refl, refl)
+
+refused : cause RecoveryStart swapped ≡ 14
+unfolding swapped cause causes firstStanding anyUnder fieldIndex fieldOf
+refused = refl
+
+-- The checkpoint held 7 in cell 1; the recovery reads 3.
+pub later-mark : LaterMark
+unfolding left later run swapped
+later-mark =
+    record {
+      board = swapped;
+      refused = refused;
+      later = later;
+      led = leads (unguarded swapped) toCheckpoint refl;
+      checkpoint = seen-later .1;
+      cell = 1;
+      unmarked = seen-later .2;
+      seenLogged = seen-later .3;
+      run = run;
+      updated = leads later toUpdate (seen-later .0);
+      left = left;
+      recovered = played-recovered run (replicate 4 Step) 4 (seen-run .0) (seen-run .1);
+      wrong = λ f. omega (arith, wrong-value f, seen-run .2);
+    }
+  where
+    wrong-value : ReadsCheckpointed (run .machine) left → 3 ≡ run .machine .checkpointed 1
+    wrong-value f = f 1 (subst (λ (l : ℕ). 1 < cells l) (sym (seen-left .0)) (omega arith)) 0 3 _ (performing (Read 1) left (seen-left .1) (sym (seen-left .2)) refl) .1

@@ -1,0 +1,40 @@
+-- Document 02, ticket 4, the swapped module: what would go wrong on a memory that 14 turns down. `proofs/LaterMark.antt` proves it.
+use Prim.Native.Nat.{ℕ, _+_}
+use mathlib.Core.Path.{_≡_}
+use mathlib.Core.Bool.{Bool, true, false}
+use Rattle.board.specs.declared.Call.the-variants.{RecoveryStart}
+use Rattle.board.specs.Board.{Board, epochOf, linesOf}
+use Rattle.board.specs.Causes.{cause}
+use Rattle.board.specs.Effects.{logged, undone, effect}
+use Rattle.board.specs.Machine.{recoveryBeginning}
+use Rattle.board.specs.Sequence.{Run, opening, Happens}
+use Rattle.board.specs.Statements.{ReadsCheckpointed, Recovered}
+
+-- `Leads r r′`: one thing after the other leads from run `r` to run `r′`.
+pub data Leads (r : Run) : Run → Type 0 where
+  nothing : Leads r r
+  onward : {q q′ : Run} → Leads r q → Happens q q′ → Leads r q′
+
+-- The run that would begin if recovery's start did not look at the marks.
+abbrev pub unguarded : Board → Run
+unguarded b = opening (effect RecoveryStart b) (recoveryBeginning (linesOf (b .memory)) (undone (b .memory)))
+
+-- "One swapped module had cells marked later than its header's epoch; one checkpoint on, their updates go unlogged": a finished recovery then reads what no checkpoint held.
+pub record LaterMark : Type 0 where
+  -- a board that 14 alone turns down
+  pub board : Board
+  pub refused : cause RecoveryStart board ≡ 14
+  -- one checkpoint on
+  pub later : Run
+  pub led : Leads (unguarded board) later
+  pub checkpoint : epochOf (later .board .memory) ≡ epochOf (board .memory) + 1
+  -- a cell that the machine has not marked in the new epoch counts as logged on the board, so its update logs nothing
+  pub cell : ℕ
+  pub unmarked : later .machine .marked cell ≡ false
+  pub seenLogged : logged (later .board .cache) cell ≡ true
+  -- after an update of it a finished recovery does not read the last checkpoint
+  pub run : Run
+  pub updated : Leads later run
+  pub left : Board
+  pub recovered : Recovered run left
+  pub wrong : ReadsCheckpointed (run .machine) left → ⊥
