@@ -4,9 +4,8 @@ use mathlib.Core.Path.{_≡_, refl, sym, _∙_}
 use mathlib.Core.List.{List}
 use mathlib.Core.Bool.{Bool, false, cond, false≢true}
 use native.Mathlib.Omega.{arith}
-use lib.Dec.{ltb, eqb}
-use borrow.Author.Tests.{ltb-false, eq-eqb, ne-eqb}
-use Rattle.line.specs.declared.Field.the-variants.{Record, Backup, Mark}
+use borrow.Author.Tests.{eq-eqb, ne-eqb}
+use Rattle.line.specs.declared.Field.the-variants.{Mark}
 use Rattle.line.specs.Cell.{fieldOf}
 use Rattle.board.specs.declared.Call.the-variants.{RecoveryStart}
 use Rattle.board.specs.Board.{Board, cells, epochOf, linesOf, linesOutside}
@@ -14,10 +13,10 @@ use Rattle.board.specs.Causes.{causes}
 use Rattle.board.specs.Effects.{logged, undone, effect}
 use Rattle.board.specs.Machine.{Machine, recoveryBeginning, feed}
 use Rattle.board.specs.Sequence.{Run, opening}
-use Rattle.board.proofs.Laws.Bools.{split, chosen, passedOver, none-under}
+use Rattle.board.proofs.Laws.Bools.{split, chosen, passedOver}
 use Rattle.board.proofs.Laws.View.{view, view-value, view-backup, view-mark}
 use Rattle.board.proofs.Invariant.{Undo, Kept, Sizes, RecoveryInv, RecoveryMachine, Inv}
-use Rattle.board.proofs.Laws.Taken.{standsAt, passed, afterTaken}
+use Rattle.board.proofs.Laws.Taken.{standsAt, passed, later-bounds, afterTaken}
 use Rattle.board.proofs.Recovery.Board.{some-cell, started-header, started-sizes}
 use Rattle.board.specs.Next.{Taken}
 
@@ -81,16 +80,16 @@ keeps-recovery-start r inv t =
 pub started-marks : (b : Board) → Taken RecoveryStart b → (c : ℕ) → c < cells (linesOf (b .memory)) → fieldOf (b .memory) c Mark ≤ epochOf (b .memory)
 unfolding standsAt causes
 started-marks b t c h =
-    let row = b .memory in
-    ltb-false (epochOf row) (fieldOf row c Mark) (none-under (cells (linesOf row)) (λ k. ltb (epochOf row) (fieldOf row k Mark)) (passed RecoveryStart b t 14) c h)
+    let bound = later-bounds _ (b .memory) (passed RecoveryStart b t 14) c h in
+    omega (arith, bound)
 
 -- Undoing a cell gives what `undone` says of it.
 undoes-own : (row : List ℕ) (c : ℕ) → fieldOf row c Mark ≤ epochOf row → Undo (epochOf row) (undone row c) (view row c)
 undoes-own row c h =
     let mark = fieldOf row c Mark in
     record {
-      logged = λ e. sym (view-backup row c) ∙ sym (chosen (logged row c) (fieldOf row c Backup) (fieldOf row c Record) (eq-eqb mark (epochOf row) (view-mark row c ∙ e)));
-      plain = λ o. sym (view-value row c) ∙ sym (passedOver (logged row c) (fieldOf row c Backup) (fieldOf row c Record) (ne-eqb mark (epochOf row) (λ e. o (sym (view-mark row c) ∙ e))));
+      logged = λ e. sym (view-backup row c) ∙ sym (chosen (logged row c) _ _ (eq-eqb mark (epochOf row) (view-mark row c ∙ e)));
+      plain = λ o. sym (view-value row c) ∙ sym (passedOver (logged row c) _ _ (ne-eqb mark (epochOf row) (λ e. o (sym (view-mark row c) ∙ e))));
       bounded = omega (arith, view-mark row c);
     }
 

@@ -6,19 +6,21 @@ use mathlib.Core.Bool.{Bool, true, false, cond, not, _&&_, _||_}
 use native.Mathlib.Omega.{arith}
 use lib.Dec.{leb, ltb, eqb}
 use lib.ListN.{length}
-use borrow.Author.Tests.{ltb-true, leb-true, eq-eqb, ne-eqb, le-leb, lt-ltb, le-ltb}
+use borrow.Author.Tests.{ltb-true, ltb-false, leb-true, eq-eqb, ne-eqb, le-leb, lt-ltb, le-ltb}
+use Rattle.line.specs.declared.Field.the-variants.{Mark}
+use Rattle.line.specs.Cell.{fieldOf}
 use Rattle.board.specs.declared.State.{State}
 use Rattle.board.specs.declared.Condition.{Condition}
 use Rattle.board.specs.declared.Call.{Call}
 use Rattle.board.specs.declared.Call.the-variants.{FormatStart, RecoveryStart, Step, Update, RestartPoint, Advance, Request, WriteBack, Read, GoAway, ComeBack}
-use Rattle.board.specs.Board.{Board, cells, rowWords, listWords, linesOutside, workersOutside, outside}
+use Rattle.board.specs.Board.{Board, cells, rowWords, listWords, linesOf, linesOutside, workersOutside, outside}
 use Rattle.board.specs.State.{conditionOf, updates, anyWorker}
-use Rattle.board.specs.Causes.{Cause, causes, firstStanding, cause, badRecord, badRows, placePast, notOn, notRecoveringOrRunning, notRunning}
+use Rattle.board.specs.Causes.{Cause, causes, firstStanding, cause, badRecord, badRows, laterMark, placePast, notOn, notRecoveringOrRunning, notRunning}
 use Rattle.board.specs.Effects.{effect}
 use Rattle.board.specs.Page.{PageOutcome, PagePerformed}
 use Rattle.board.specs.Sequence.{Run, takenCall}
 use Rattle.board.specs.Next.{Taken, taken, next, Kind, startsFormat, startsRecovery, stepping, writing, other, reading, kind, valueOf, Outcome, Performed}
-use Rattle.board.proofs.Laws.Bools.{split, chosen, passedOver, or-left, or-right, or-none, and-left, and-right, and-both, and-if, not-off, not-on, under-none}
+use Rattle.board.proofs.Laws.Bools.{split, chosen, passedOver, or-left, or-right, or-none, and-left, and-right, and-both, and-if, not-off, not-on, none-under, under-none}
 use Rattle.board.proofs.Invariant.{Sizes}
 
 -- ---- a call's causes
@@ -205,6 +207,15 @@ rows-fine l b z =
     (not-on (eqb (length (b .cache)) (rowWords l)) (eq-eqb _ _ (z .cache .size)))
     (not-on (eqb (length (b .memory)) (rowWords l)) (eq-eqb _ _ (z .memory .size))))
     (le-ltb _ _ (z .entries))
+
+-- Where no mark is later than the epoch, each is at most the epoch.
+pub later-bounds : (e : ℕ) (row : List ℕ) → laterMark e row ≡ false → (c : ℕ) → c < cells (linesOf row) → fieldOf row c Mark ≤ e
+later-bounds e row p c h = ltb-false e (fieldOf row c Mark) (none-under _ (λ k. ltb e (fieldOf row k Mark)) p c (omega arith))
+
+-- And back.
+pub bounds-later : (e : ℕ) (row : List ℕ) → ((c : ℕ) → c < cells (linesOf row) → fieldOf row c Mark ≤ e) → laterMark e row ≡ false
+bounds-later e row bounded =
+    under-none (cells (linesOf row)) (λ c. ltb e (fieldOf row c Mark)) (λ c h. le-ltb e (fieldOf row c Mark) (bounded c h))
 
 -- No worker under W has a condition that passes the test.
 pub none-worker : (s : State) (test : Condition → Bool) → ((w : ℕ) → w < s .workers → test (conditionOf s w) ≡ false) → anyWorker s test ≡ false

@@ -12,12 +12,12 @@ use Rattle.line.specs.Cell.{fieldOf}
 use Rattle.board.specs.declared.Call.{Call}
 use Rattle.board.specs.declared.Call.the-variants.{RecoveryStart}
 use Rattle.board.specs.Board.{Board, cells, epochOf, linesOf, workersOf, workersOutside, restNotZero}
-use Rattle.board.specs.Causes.{causes, firstStanding, cause, badRecoveryRows, badHeader, laterMark}
+use Rattle.board.specs.Causes.{causes, firstStanding, cause, badRecoveryRows, badHeader}
 use Rattle.board.specs.Sequence.{Run}
-use Rattle.board.proofs.Laws.Bools.{split, chosen, passedOver, or-none, and-both, not-on, under-none}
+use Rattle.board.proofs.Laws.Bools.{split, chosen, passedOver, or-none, and-both, not-on}
 use Rattle.board.proofs.Invariant.{Inv, Kept, Header, Sizes}
 use Rattle.board.proofs.Laws.View.{view-mark}
-use Rattle.board.proofs.Laws.Taken.{Clear, take, lines-in}
+use Rattle.board.proofs.Laws.Taken.{Clear, take, lines-in, bounds-later}
 use Rattle.board.specs.Next.{Taken}
 
 -- The rows of a board pass recovery's test.
@@ -47,16 +47,11 @@ header-passes l b z h =
     (subst (λ (k : ℕ). workersOutside k (workersOf row) ≡ false) (sym (h .lines)) (h .workers)))
     (h .rest)
 
--- A memory with no mark ahead of its epoch passes recovery's test.
-marks-pass : (l : ℕ) (row : List ℕ) → linesOf row ≡ l → ((c : ℕ) → c < cells l → fieldOf row c Mark ≤ epochOf row) → laterMark (epochOf row) row ≡ false
-marks-pass l row e bounded =
-    under-none (cells (linesOf row)) (λ c. ltb (epochOf row) (fieldOf row c Mark)) (λ c h. le-ltb (epochOf row) (fieldOf row c Mark) (bounded c (subst (λ (n : ℕ). c < cells n) e h)))
-
 -- A recovery's start is taken on rows of the right lengths with such a header and such marks.
 pub recoverable-taken : (l : ℕ) (b : Board) → Sizes l b → Header l (b .memory) → ((c : ℕ) → c < cells l → fieldOf (b .memory) c Mark ≤ epochOf (b .memory)) → Taken RecoveryStart b
 unfolding Clear causes
 recoverable-taken l b z h bounded =
-    take RecoveryStart b (rows-pass l b z, (header-passes l b z h, (marks-pass l (b .memory) (h .lines) bounded, tt)))
+    take RecoveryStart b (rows-pass l b z, (header-passes l b z h, (bounds-later _ (b .memory) (λ c p. omega (arith, bounded c (omega (arith, p, h .lines)))), tt)))
 
 -- After any history it is taken unless memory is being erased.
 pub start-taken : (r : Run) → Inv r → r .erased ≡ false → Taken RecoveryStart (r .board)
