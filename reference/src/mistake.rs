@@ -1,4 +1,4 @@
-//! Boards that are wrong on purpose, so that `explore` can show that it catches them.
+//! Boards that are wrong on purpose, or begin beside a wrong machine, so that `explore` can show that it catches them.
 
 /// A mistake or a useless board of 01, or a mistake with a ticket of 02, by the name it has on the command line.
 #[derive(Clone, Copy, PartialEq, Eq, Debug)]

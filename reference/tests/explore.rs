@@ -19,6 +19,7 @@ fn random_sequences_hold() {
         assert!(tally.from_recovery > 400 && tally.sequences - tally.from_recovery > 400, "{tally}");
         assert_eq!(tally.foreign[0], tally.from_recovery, "{tally}");
         assert!([4, 5, 14].iter().all(|number| tally.foreign[*number] > 20), "{tally}");
+        assert!(tally.marked > 100 && tally.edges.iter().all(|count| *count > 20), "{tally}");
         assert!(tally.pairs.iter().all(|count| *count > 500), "{tally}");
         let present = tally.checkpoints - tally.some_away - tally.all_away;
         assert!(present > 1000 && tally.some_away > 300 && tally.all_away > 300, "{tally}");

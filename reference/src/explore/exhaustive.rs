@@ -5,7 +5,7 @@ use std::collections::HashSet;
 use std::fmt;
 
 use super::check::{Check, Checks, Violation};
-use super::foreign::smallest;
+use super::foreign::{recovery_on, smallest};
 use super::key::{decode, encode, Key};
 use super::watched::{answered, Watched};
 use super::Caught;
@@ -191,11 +191,6 @@ impl Search {
         events.reverse();
         events
     }
-}
-
-/// The start that a sequence on foreign memory begins with.
-pub fn recovery_on(memory: &[u64]) -> String {
-    format!("Recovery on foreign memory {memory:?}")
 }
 
 /// A cut that leaves zeros: the next taken call is a start, which looks at memory alone.

@@ -39,6 +39,11 @@ pub fn smallest(alike: bool) -> Vec<[u64; 16]> {
     memories
 }
 
+/// The start that a sequence on foreign memory begins with.
+pub fn recovery_on(memory: &[u64]) -> String {
+    format!("Recovery on foreign memory {memory:?}")
+}
+
 /// A board of so many lines with foreign memory, more often such as a recovery's start takes; the rest is anything.
 pub fn board(random: &Random, lines: u64, board: &mut Board) {
     let workers = some_workers(random, lines);

@@ -141,9 +141,9 @@ impl Explorer {
         foreign::board(&self.random, lines, &mut board);
         self.scratch.copy_from(&board);
         let answer = self.scratch.perform(&Call::Recovery);
-        self.trace.push(exhaustive::recovery_on(&board.memory));
+        self.trace.push(foreign::recovery_on(&board.memory));
         self.note(&Call::Recovery, answer.number);
-        self.tally.foreign[answer.number as usize] += 1;
+        self.tally.foreign(&board.memory, answer.number);
         answered(self.checks, &Call::Recovery, &board, &self.scratch, answer)?;
         if answer.number != 0 {
             return Ok(None);
