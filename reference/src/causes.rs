@@ -1,5 +1,5 @@
 //! Why a call is turned down: the table of 01, tested in rising order of number, and what 02 adds to it, 13 directly
-//! after 8.
+//! after 8 and 14 directly after 5.
 
 use crate::board::{Condition, Lent, Phase, State, Store};
 use crate::call::Call;
@@ -15,7 +15,7 @@ pub fn cause(call: &Call, state: &State, rows: &Lent, mistake: Option<Mistake>) 
     }
     match *call {
         Call::Format { lines, workers } => format_cause(lines, workers, rows),
-        Call::Recovery => recovery_cause(rows),
+        Call::Recovery => recovery_cause(rows, mistake),
         Call::Step => step_cause(state, rows, mistake),
         Call::Update { worker, cell, .. } => update_cause(worker, cell, state, rows, mistake),
         Call::RestartPoint { worker, .. } => restart_point_cause(worker, state, rows, mistake),
@@ -40,8 +40,8 @@ fn format_cause(lines: u64, workers: u64, rows: &Lent) -> u8 {
     0
 }
 
-/// Recovery's start: causes 4 and 5.
-fn recovery_cause(rows: &Lent) -> u8 {
+/// Recovery's start: causes 4, 5 and 14.
+fn recovery_cause(rows: &Lent, mistake: Option<Mistake>) -> u8 {
     let words = rows.memory.len();
     if !words.is_multiple_of(LINE_WORDS) || !(16..=4096).contains(&words) {
         return 4;
@@ -49,15 +49,43 @@ fn recovery_cause(rows: &Lent) -> u8 {
     if rows.cache.len() != words || rows.list.len() < words / 4 - 2 {
         return 4;
     }
-    let header = &rows.memory[..LINE_WORDS];
-    let lines = (words / LINE_WORDS - 1) as u64;
-    if header[0] == 0 || header[1] != lines || !sizes_allowed(lines, header[2]) {
+    if mistake == Some(Mistake::Cause14First) && marked_past_epoch(rows, mistake) {
+        return 14;
+    }
+    if !header_allowed(rows.memory) {
         return 5;
     }
-    if header[3..] != [0; 5] {
-        return 5;
+    if marked_past_epoch(rows, mistake) {
+        return 14;
     }
     0
+}
+
+/// "epoch 0, L not (words div 8) − 1, W outside the limits, or words 3 to 7 not all zero", turned round
+fn header_allowed(memory: &[u64]) -> bool {
+    let header = &memory[..LINE_WORDS];
+    let lines = (memory.len() / LINE_WORDS - 1) as u64;
+    header[0] != 0 && header[1] == lines && sizes_allowed(lines, header[2]) && header[3..] == [0; 5]
+}
+
+/// "memory with any mark greater than its epoch"
+fn marked_past_epoch(rows: &Lent, mistake: Option<Mistake>) -> bool {
+    let (memory, epoch) = (rows.memory, rows.memory[0]);
+    match mistake {
+        Some(Mistake::NoCause14) => false,
+        Some(Mistake::Cause14AtEpoch) => any_mark(memory, |mark| mark >= epoch),
+        Some(Mistake::Cause14ByCache) => any_mark(memory, |mark| mark > rows.cache[0]),
+        Some(Mistake::Cause14LastCell) => {
+            let last = memory.len() - LINE_WORDS;
+            any_mark(&memory[..last], |mark| mark > epoch) || memory[last + 2] > epoch
+        }
+        _ => any_mark(memory, |mark| mark > epoch),
+    }
+}
+
+/// The mark of one of memory's cells is such a one: a line's words 2 and 5, the header aside.
+fn any_mark(memory: &[u64], is: impl Fn(u64) -> bool) -> bool {
+    memory.chunks_exact(LINE_WORDS).skip(1).any(|line| is(line[2]) || is(line[5]))
 }
 
 /// A step of a format, a recovery or a checkpoint.

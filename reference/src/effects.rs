@@ -101,6 +101,9 @@ fn start_recovery(state: &mut State, rows: &mut Rows, mistake: Option<Mistake>) 
     if mistake == Some(Mistake::RecoveryZeros) {
         (0..cells(rows.memory[1]) as usize).for_each(|cell| rows.cache[record_at(cell)..mark_at(cell)].fill(0));
     }
+    if mistake == Some(Mistake::RecoveryClearsSpare) {
+        rows.cache.chunks_exact_mut(LINE_WORDS).skip(1).for_each(|line| line[6..].fill(0));
+    }
     *state = State::started(Phase::Recovering, rows.memory[1] as u16, rows.memory[2] as u8);
 }
 

@@ -5,7 +5,7 @@ use crate::call::Call;
 use crate::line::MOST_WORKERS;
 
 /// "for each cell a current and a checkpointed value and whether it is marked"
-#[derive(Clone, Copy, PartialEq, Eq, Debug, Default)]
+#[derive(Clone, Copy, PartialEq, Eq, Debug)]
 pub struct Value {
     pub current: u64,
     pub checkpointed: u64,
@@ -35,8 +35,14 @@ pub struct Machine {
 impl Machine {
     /// "At a finished format, where it begins, values are 0, with no marks, updates or request."
     pub fn begin(cells: u64) -> Machine {
+        Machine::begin_with(&vec![0; cells as usize])
+    }
+
+    /// Where it begins at a recovery's start: these are both values of each cell.
+    pub fn begin_with(values: &[u64]) -> Machine {
+        let both = |value: &u64| Value { current: *value, checkpointed: *value, marked: false };
         Machine {
-            values: vec![Value::default(); cells as usize],
+            values: values.iter().map(both).collect(),
             updates: [None; MOST_WORKERS],
             requested: false,
             steps: 0,

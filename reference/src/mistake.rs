@@ -1,4 +1,4 @@
-//! Boards that are wrong on purpose, so that `explore` can show that it catches them.
+//! Boards that are wrong on purpose, or begin beside a wrong machine, so that `explore` can show that it catches them.
 
 /// A mistake or a useless board of 01, or a mistake with a ticket of 02, by the name it has on the command line.
 #[derive(Clone, Copy, PartialEq, Eq, Debug)]
@@ -67,10 +67,24 @@ pub enum Mistake {
     WaitingComesBack,
     /// A waiting worker may go away.
     WaitingGoesAway,
+    /// Cause 14 dropped.
+    NoCause14,
+    /// 14 for a mark that is the epoch too.
+    Cause14AtEpoch,
+    /// Marks compared with the epoch that the cache had before the start.
+    Cause14ByCache,
+    /// The last cell's mark not looked at.
+    Cause14LastCell,
+    /// 14 tested before 5.
+    Cause14First,
+    /// Recovery's start puts 0 into the cache's words 6 and 7.
+    RecoveryClearsSpare,
+    /// The machine begins at a recovery's start with memory's records in place of its undo.
+    BeginWithRecords,
 }
 
 /// Every mistake with its name and a few words.
-pub const MISTAKES: [(&str, Mistake, &str); 32] = [
+pub const MISTAKES: [(&str, Mistake, &str); 39] = [
     ("mark-first", Mistake::MarkFirst, "an update stores the mark before the backup"),
     ("recovery-mark-first", Mistake::RecoveryMarkFirst, "recovery clears a mark before it restores the record"),
     ("recovery-cache-only", Mistake::RecoveryCacheOnly, "recovered lines are not written back"),
@@ -103,6 +117,13 @@ pub const MISTAKES: [(&str, Mistake, &str); 32] = [
     ("recovery-leaves-away", Mistake::RecoveryLeavesAway, "recovery's end leaves a worker away"),
     ("waiting-comes-back", Mistake::WaitingComesBack, "a waiting worker may come back"),
     ("waiting-goes-away", Mistake::WaitingGoesAway, "a waiting worker may go away"),
+    ("no-cause-14", Mistake::NoCause14, "foreign memory with a mark past its epoch is taken"),
+    ("cause-14-at-epoch", Mistake::Cause14AtEpoch, "14 is answered for a mark that is the epoch too"),
+    ("cause-14-by-cache", Mistake::Cause14ByCache, "marks are compared with the epoch that the cache had before"),
+    ("cause-14-last-cell", Mistake::Cause14LastCell, "the last cell's mark is not looked at"),
+    ("cause-14-first", Mistake::Cause14First, "14 is tested before 5"),
+    ("recovery-clears-spare", Mistake::RecoveryClearsSpare, "recovery's start puts 0 into the cache's words 6 and 7"),
+    ("begin-with-records", Mistake::BeginWithRecords, "the machine begins with memory's records, not its undo"),
 ];
 
 impl Mistake {

@@ -16,6 +16,11 @@ fn random_sequences_hold() {
             "{tally}"
         );
         assert!(tally.pages > 2000, "{tally}");
+        assert!(tally.from_recovery > 400 && tally.sequences - tally.from_recovery > 400, "{tally}");
+        assert_eq!(tally.foreign[0], tally.from_recovery, "{tally}");
+        assert!([4, 5, 14].iter().all(|number| tally.foreign[*number] > 20), "{tally}");
+        assert!(tally.marked > 100 && tally.edges.iter().all(|count| *count > 20), "{tally}");
+        assert!(tally.pairs.iter().all(|count| *count > 500), "{tally}");
         let present = tally.checkpoints - tally.some_away - tally.all_away;
         assert!(present > 1000 && tally.some_away > 300 && tally.all_away > 300, "{tally}");
         assert!([0, 2, 3, 4, 6, 8].iter().all(|number| tally.going_away[*number] > 20), "{tally}");
@@ -26,7 +31,8 @@ fn random_sequences_hold() {
 #[test]
 fn every_state_of_the_smallest_board_holds() {
     let reached = exhaustive::exhaust(None, None).expect("nothing is violated");
-    assert_eq!((reached.states, reached.transitions), (130_577, 791_604));
+    assert_eq!((reached.from_format, reached.states, reached.transitions), (130_577, 239_137, 1_484_900));
+    assert_eq!((reached.taken_memories, reached.refused_memories), (464, 336));
 }
 
 /// Calls and answers that the drill gives to a script.

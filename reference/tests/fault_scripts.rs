@@ -9,10 +9,10 @@ use reference::explore::answered;
 use reference::explore::check::Checks;
 use reference::explore::table::parts;
 use reference::fault::{Command, Fault};
-use reference::fault_script::script;
+use reference::fault_script::{foreign_script, script};
 use reference::mistake::{Mistake, MISTAKES};
 use reference::program::{answer, Program};
-use reference::reached::{orders, reached, CASES, CAUSES};
+use reference::reached::{orders, reached, CASES, CAUSES, MEMORIES};
 use reference::say::{call_line, damage_line, drill_line};
 use reference::text::{fields, UNREAD};
 
@@ -45,7 +45,7 @@ fn two_hundred_scripts_reach_every_cause_of_every_call_and_every_kind_of_questio
 }
 
 /// Each part of a cause, and the calls whose answer can hang on it alone.
-const PARTS: [(&str, &[u8]); 34] = [
+const PARTS: [(&str, &[u8]); 35] = [
     ("a format's L or W", b"f"),
     ("phase", b"SUPACEGpab"),
     ("a full list", b"A"),
@@ -66,6 +66,7 @@ const PARTS: [(&str, &[u8]); 34] = [
     ("header's W", b"R"),
     ("header's L", b"R"),
     ("header's epoch", b"R"),
+    ("a mark past the epoch", b"R"),
     ("worker W or more", b"UPAab"),
     ("line over L", b"E"),
     ("cell 2L or more", b"UG"),
@@ -114,7 +115,41 @@ fn two_hundred_scripts_have_every_case_of_a_worker_that_is_away() {
 }
 
 #[test]
+fn two_hundred_scripts_have_every_case_of_foreign_memory() {
+    let reached = reached(200, 400);
+    assert!(reached.answers[b'R' as usize][14] >= 50);
+    for ((words, _), count) in MEMORIES.iter().zip(reached.memories) {
+        assert!(count >= 40, "{words}: {count}");
+    }
+}
+
+#[test]
+fn a_script_of_foreign_memories_has_no_format_and_takes_and_refuses_them() {
+    for seed in 1..=4 {
+        let text = foreign_script(seed, 4000);
+        assert!(!lines(&text).iter().any(|line| matches!(line.first(), Some(b'F'))));
+        let mut starts: HashMap<u8, u64> = HashMap::new();
+        let mut board = Board::empty(None);
+        for line in lines(&text) {
+            let reply = answer::<Fault>(&mut board, line);
+            if let (b"R", Ok(reply)) = (line, reply) {
+                *starts.entry(reply.number).or_default() += 1;
+            }
+        }
+        assert!([0, 5, 14].iter().all(|number| starts[number] >= 15), "seed {seed}: {starts:?}");
+        assert!(starts[&0] > 100, "seed {seed}: {starts:?}");
+    }
+}
+
+#[test]
 fn a_script_is_a_function_of_seed_and_lines() {
+    for script in [script, foreign_script] {
+        made_the_same_again(script);
+    }
+}
+
+/// The same script for the same seed, of so many lines, the last a checksum; another for another seed.
+fn made_the_same_again(script: fn(u64, u64) -> Vec<u8>) {
     let mut seen = HashSet::new();
     for seed in 0..20 {
         for count in [0, 1, 2, 3, 50, 400] {
@@ -230,7 +265,9 @@ fn answers(text: &[u8], mistake: Option<Mistake>) -> Vec<Option<(u8, Option<u64>
 #[test]
 fn every_mistake_shows_in_many_scripts() {
     let scripts: Vec<Vec<u8>> = (1..=200).map(|seed| script(seed, 400)).collect();
-    for (name, mistake, _) in MISTAKES {
+    let of_boards = MISTAKES.iter().filter(|(_, mistake, _)| *mistake != Mistake::BeginWithRecords);
+    for (name, mistake, _) in of_boards {
+        let mistake = *mistake;
         let shows = |text: &&Vec<u8>| answers(text, None) != answers(text, Some(mistake));
         let count = scripts.iter().filter(shows).count();
         assert!(count >= 20, "{name} shows in {count} scripts");

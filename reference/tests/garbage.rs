@@ -81,7 +81,7 @@ fn damages() -> Vec<Damage> {
         damages.push(Damage::Lengths { memory: 24, cache: 24, list });
     }
     for word in [0, 1, 255, 256, 65_536, u64::MAX] {
-        damages.extend((0..8).map(|at| Damage::Memory { at, word }));
+        damages.extend((0..8).chain([10, 13]).map(|at| Damage::Memory { at, word }));
         damages.push(Damage::Cache { at: 0, word });
         damages.push(Damage::Cache { at: 10, word });
     }

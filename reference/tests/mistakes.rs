@@ -10,7 +10,7 @@ use reference::explore::{exhaustive, explore, Options};
 use reference::mistake::{Mistake, MISTAKES};
 
 /// Each mistake with the checks that must each catch it when made alone.
-const CATCHERS: [(Mistake, &[Check]); 32] = [
+const CATCHERS: [(Mistake, &[Check]); 39] = [
     (Mistake::MarkFirst, &[Outcome, Recovery, TwoBoards, Invariant]),
     (Mistake::RecoveryMarkFirst, &[Outcome, Recovery, TwoBoards, Invariant]),
     (Mistake::RecoveryCacheOnly, &[Outcome, Recovery, TwoBoards, Invariant]),
@@ -43,6 +43,13 @@ const CATCHERS: [(Mistake, &[Check]); 32] = [
     (Mistake::RecoveryLeavesAway, &[Outcome, Away]),
     (Mistake::WaitingComesBack, &[Causes, Away]),
     (Mistake::WaitingGoesAway, &[Causes, Away]),
+    (Mistake::NoCause14, &[Causes, Reads, Recovery, TwoBoards, Invariant]),
+    (Mistake::Cause14AtEpoch, &[Causes, Progress]),
+    (Mistake::Cause14ByCache, &[Causes, Reads, Recovery, TwoBoards, Progress, Invariant]),
+    (Mistake::Cause14LastCell, &[Causes, Reads, Recovery, TwoBoards, Invariant]),
+    (Mistake::Cause14First, &[Causes, Progress]),
+    (Mistake::RecoveryClearsSpare, &[Outcome, Stores]),
+    (Mistake::BeginWithRecords, &[Reads, Recovery, TwoBoards, Invariant]),
 ];
 
 /// The check that so many calls on a mistaken board violate.

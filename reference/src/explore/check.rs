@@ -15,9 +15,9 @@ pub enum Check {
     Completion,
     /// Statement 4: two boards read alike exactly where their checkpointed values are equal.
     TwoBoards,
-    /// Statement 5: steps that are owed are taken, and as many as foretold.
+    /// Statement 5: steps that are owed are taken, and as many as foretold; own memory is never turned down.
     Progress,
-    /// Statement 6: one store or one write-back a call; words 6 and 7 stay 0.
+    /// Statement 6: one store or one write-back a call; words 6 and 7 stay as they were at the beginning.
     Stores,
     /// The invariant of the design page.
     Invariant,
@@ -35,8 +35,8 @@ pub const CHECKS: [(&str, Check, &str); 11] = [
     ("recovery", Check::Recovery, "after a recovery each cell reads as checkpointed"),
     ("completion", Check::Completion, "complete in the machine is the new epoch in memory"),
     ("two-boards", Check::TwoBoards, "two boards read alike where their checkpointed values are equal"),
-    ("progress", Check::Progress, "steps that are owed are taken, as many as foretold"),
-    ("stores", Check::Stores, "one store or one write-back a call"),
+    ("progress", Check::Progress, "steps that are owed are taken, as many as foretold; own memory is never refused"),
+    ("stores", Check::Stores, "one store or one write-back a call; words 6 and 7 stay"),
     ("invariant", Check::Invariant, "the design page's invariant"),
     ("page", Check::Page, "a page's number and each byte of its text row"),
     ("away", Check::Away, "who is away after a call, and after a checkpoint"),

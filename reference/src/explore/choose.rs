@@ -99,6 +99,6 @@ fn start(random: &Random, watched: &Watched, recoveries: u64) -> Call {
     if random.chance(recoveries, 10) {
         return Call::Recovery;
     }
-    let lines = watched.machine.values.len() as u64 / 2;
+    let lines = watched.lines();
     Call::Format { lines, workers: some_workers(random, lines) }
 }

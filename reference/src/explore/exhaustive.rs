@@ -1,11 +1,13 @@
-//! `explore --exhaustive`: every reachable state of the smallest board, breadth first.
+//! `explore --exhaustive`: every reachable state of the smallest board, breadth first: from a format, then from foreign
+//! memories whose backups are their records, then from such with other backups.
 
 use std::collections::HashSet;
 use std::fmt;
 
 use super::check::{Check, Checks, Violation};
+use super::foreign::{recovery_on, smallest};
 use super::key::{decode, encode, Key};
-use super::watched::Watched;
+use super::watched::{answered, Watched};
 use super::Caught;
 use crate::board::{Board, Phase, State};
 use crate::call::Call;
@@ -39,89 +41,155 @@ const CALLS: [Call; 20] = [
 ];
 
 /// How much was seen.
-#[derive(Clone, Copy, PartialEq, Eq, Debug)]
+#[derive(Clone, Copy, PartialEq, Eq, Debug, Default)]
 pub struct Reached {
     pub states: u64,
+    /// Those of them that are reached from a format.
+    pub from_format: u64,
     pub transitions: u64,
     pub refused: u64,
+    /// Foreign memories that a recovery's start took, and that it refused.
+    pub taken_memories: u64,
+    pub refused_memories: u64,
 }
 
 impl fmt::Display for Reached {
     fn fmt(&self, out: &mut fmt::Formatter) -> fmt::Result {
-        writeln!(out, "states {}", self.states)?;
+        writeln!(out, "states {}, of them from a format {}", self.states, self.from_format)?;
+        writeln!(out, "foreign memories taken {}, refused {}", self.taken_memories, self.refused_memories)?;
         writeln!(out, "transitions {}", self.transitions)?;
         writeln!(out, "refused calls {}", self.refused)
     }
 }
 
-/// A state, and the event that first led to it: a call's index, past them a cut.
+/// How a state was first reached.
+#[derive(Clone, Copy)]
+enum From {
+    Format,
+    /// By a recovery's start on this memory.
+    Memory([u64; 16]),
+    /// By an event from another state: a call's index, past them a cut.
+    Event {
+        parent: usize,
+        event: usize,
+    },
+}
+
+/// A state, and how it was first reached.
 struct Node {
     key: Key,
-    parent: usize,
-    event: usize,
+    from: From,
 }
 
 /// A search under way.
+#[derive(Default)]
 struct Search {
     nodes: Vec<Node>,
     seen: HashSet<Key>,
-    transitions: u64,
-    refused: u64,
+    visited: usize,
+    reached: Reached,
 }
 
-/// Visit every state; how many there are, or the shortest way to a violation.
+/// Visit every state; how many there are, or the shortest way from its kind of beginning to a violation.
 pub fn exhaust(mistake: Option<Mistake>, only: Option<Check>) -> Result<Reached, Caught> {
+    let checks = Checks { only };
     let caught = |violation| Caught { violation, trace: Vec::new() };
-    let mut watched = Watched::begin(formatted(mistake), 1, Checks { only }).map_err(caught)?;
-    let first = encode(&watched);
-    let node = Node { key: first, parent: 0, event: 0 };
-    let mut search = Search { nodes: vec![node], seen: HashSet::from([first]), transitions: 0, refused: 0 };
-    let mut at = 0;
-    while at < search.nodes.len() {
-        for event in 0..=CALLS.len() {
-            decode(&search.nodes[at].key, &mut watched);
-            if let Err(violation) = search.event(at, event, &mut watched) {
-                return Err(Caught { violation, trace: search.path(at, event) });
-            }
+    let mut watched = Watched::begin(formatted(mistake), 1, checks).map_err(caught)?;
+    let mut search = Search::default();
+    search.note(&watched, From::Format);
+    search.visit(&mut watched)?;
+    search.reached.from_format = search.nodes.len() as u64;
+    for alike in [true, false] {
+        for memory in smallest(alike) {
+            let caught = |violation| Caught { violation, trace: vec![recovery_on(&memory)] };
+            search.begin_at_recovery(memory, mistake, checks).map_err(caught)?;
         }
-        at += 1;
-        if at % 100_000 == 0 {
-            eprintln!("{at} states visited, {} known", search.nodes.len());
-        }
+        search.visit(&mut watched)?;
     }
-    Ok(Reached { states: at as u64, transitions: search.transitions, refused: search.refused })
+    Ok(Reached { states: search.nodes.len() as u64, ..search.reached })
 }
 
 impl Search {
+    /// Keep a state that was not seen before.
+    fn note(&mut self, watched: &Watched, from: From) {
+        let key = encode(watched);
+        if self.seen.insert(key) {
+            self.nodes.push(Node { key, from });
+        }
+    }
+
+    /// Every event from every state that is not visited yet.
+    fn visit(&mut self, watched: &mut Watched) -> Result<(), Caught> {
+        while self.visited < self.nodes.len() {
+            let at = self.visited;
+            for event in 0..=CALLS.len() {
+                decode(&self.nodes[at].key, watched);
+                if let Err(violation) = self.event(at, event, watched) {
+                    return Err(Caught { violation, trace: self.path(at, event) });
+                }
+            }
+            self.visited += 1;
+            if self.visited.is_multiple_of(100_000) {
+                eprintln!("{} states visited, {} known", self.visited, self.nodes.len());
+            }
+        }
+        Ok(())
+    }
+
+    /// A recovery's start on foreign memory: a beginning if it is taken.
+    fn begin_at_recovery(
+        &mut self,
+        memory: [u64; 16],
+        mistake: Option<Mistake>,
+        checks: Checks,
+    ) -> Result<(), Violation> {
+        let mut board = formatted(mistake);
+        forget(&mut board);
+        board.memory.copy_from_slice(&memory);
+        let mut after = board.clone();
+        let answer = after.perform(&Call::Recovery);
+        answered(checks, &Call::Recovery, &board, &after, answer)?;
+        if answer.number != 0 {
+            self.reached.refused_memories += 1;
+            return Ok(());
+        }
+        self.reached.taken_memories += 1;
+        let mut watched = Watched::before_recovery(board, checks);
+        watched.call(&Call::Recovery)?;
+        self.note(&watched, From::Memory(memory));
+        Ok(())
+    }
+
     /// One event from a state.
     fn event(&mut self, at: usize, event: usize, watched: &mut Watched) -> Result<(), Violation> {
         match CALLS.get(event) {
             Some(Call::Request) if !watched.cut && watched.board.cache[0] >= LAST_EPOCH => return Ok(()),
             Some(call) => {
                 if watched.call(call)?.answer.number != 0 {
-                    self.refused += 1;
+                    self.reached.refused += 1;
                     return Ok(());
                 }
             }
             None => watched.cut(forget)?,
         }
-        self.transitions += 1;
-        let key = encode(watched);
-        if self.seen.insert(key) {
-            self.nodes.push(Node { key, parent: at, event });
-        }
+        self.reached.transitions += 1;
+        self.note(watched, From::Event { parent: at, event });
         Ok(())
     }
 
-    /// The events from the first state to this one, and one more.
+    /// The events from the beginning to this state, and one more.
     fn path(&self, mut at: usize, event: usize) -> Vec<String> {
-        let mut events = vec![event];
-        while at > 0 {
-            events.push(self.nodes[at].event);
-            at = self.nodes[at].parent;
+        let name = |event: usize| CALLS.get(event).map_or("cut".into(), |call| format!("{call:?}"));
+        let mut events = vec![name(event)];
+        while let From::Event { parent, event } = self.nodes[at].from {
+            events.push(name(event));
+            at = parent;
         }
-        let name = |event: &usize| CALLS.get(*event).map_or("cut".into(), |call| format!("{call:?}"));
-        events.iter().rev().map(name).collect()
+        if let From::Memory(memory) = &self.nodes[at].from {
+            events.push(recovery_on(memory));
+        }
+        events.reverse();
+        events
     }
 }
 

@@ -142,7 +142,7 @@ pub fn board(random: &Random, board: &mut Board) {
 }
 
 /// Make one row too long or too short.
-fn spoil_rows(random: &Random, board: &mut Board) {
+pub fn spoil_rows(random: &Random, board: &mut Board) {
     let change = random.pick(&[0, 1, 7, 8, 9, 15, 16, 17, 24]);
     let words = board.memory.len();
     match random.below(5) {
@@ -160,7 +160,7 @@ fn spoil_rows(random: &Random, board: &mut Board) {
 }
 
 /// Spoil a word of the header, or an entry of the list.
-fn spoil_words(random: &Random, board: &mut Board) {
+pub fn spoil_words(random: &Random, board: &mut Board) {
     if random.chance(1, 3) {
         let limit = 2 * board.state.lines as u64;
         let entry = random.below(board.list.len() as u64 + 1) as usize;

@@ -1,6 +1,8 @@
 //! A watched board of one line and one worker in 64 bytes, and back.
-//! What can no longer be read is left out: the list past its length, steps that nothing counts.
+//! What can no longer be read is left out: the list past its length, steps that nothing counts. What words 6 and 7 are to
+//! be is what memory has, as they were checked when the state was reached.
 
+use super::stores::spare;
 use super::watched::Watched;
 use crate::board::{Condition, Phase, State, Store, UndoStep, Update};
 use crate::machine::Unfinished;
@@ -107,6 +109,7 @@ pub fn decode(key: &Key, watched: &mut Watched) {
     board.memory.iter_mut().chain(&mut board.cache).for_each(|word| *word = input.get());
     board.list.iter_mut().for_each(|entry| *entry = input.get() as u16);
     board.state = decode_state(&mut input);
+    watched.spare = spare(&board.memory);
     decode_machine(&mut input, watched);
     let flags = input.get();
     let promise = &mut watched.promise;

@@ -4,6 +4,7 @@ mod away;
 pub mod check;
 mod choose;
 pub mod exhaustive;
+pub mod foreign;
 pub(crate) mod garbage;
 mod invariant;
 mod key;
@@ -28,7 +29,7 @@ use choose::{Choice, Temper};
 use promise::Finished;
 pub use tally::Tally;
 pub use watched::answered;
-use watched::Watched;
+use watched::{Beginning, Watched};
 
 /// What to explore.
 #[derive(Clone, Copy, Debug)]
@@ -46,8 +47,15 @@ pub struct Caught {
     pub trace: Vec<String>,
 }
 
-/// Of a finished recovery: what each cell reads, and the machine's checkpointed values.
-type Recovered = (Vec<Option<u64>>, Vec<u64>);
+/// A finished recovery: how its sequence began, what each cell reads, and the machine's checkpointed values.
+struct Recovered {
+    beginning: Beginning,
+    reads: Vec<Option<u64>>,
+    values: Vec<u64>,
+}
+
+/// So many foreign memories that are all refused, and the sequence begins at a format instead.
+const MOST_REFUSED: u64 = 50;
 
 /// An exploration under way.
 struct Explorer {
@@ -87,7 +95,7 @@ pub fn explore(options: &Options) -> Result<Tally, Caught> {
 }
 
 impl Explorer {
-    /// One sequence from a finished format on.
+    /// One sequence from one of its two beginnings on.
     fn sequence(&mut self, most: u64) -> Result<(), Violation> {
         self.trace.clear();
         let lines = match self.random.below(2000) {
@@ -95,7 +103,7 @@ impl Explorer {
             1..=20 => 10 + self.random.below(30),
             _ => 1 + self.random.below(4),
         };
-        let mut watched = self.begin(lines)?;
+        let (beginning, mut watched) = self.begin(lines)?;
         let temper = Temper::new(&self.random, lines);
         for _ in 0..20 + self.random.below(400) + 5 * lines {
             if self.tally.calls >= most {
@@ -103,20 +111,50 @@ impl Explorer {
             }
             match temper.choose(&self.random, &watched) {
                 Choice::Call(call) if watched.cut && !call.is_start() => self.probe_after_cut(&call, &watched)?,
-                Choice::Call(call) => self.call(&call, &mut watched)?,
+                Choice::Call(call) => self.call(&call, beginning, &mut watched)?,
                 Choice::Cut => self.cut(&mut watched)?,
                 Choice::Probe => self.probe()?,
             }
         }
-        self.tally.sequences += 1;
+        self.tally.sequence(beginning);
         if let Some(recovered) = self.last.take() {
-            self.others.insert(lines, recovered);
+            self.others.insert(watched.lines(), recovered);
         }
         Ok(())
     }
 
+    /// A board at one of the two beginnings.
+    fn begin(&mut self, lines: u64) -> Result<(Beginning, Watched), Violation> {
+        if self.random.chance(1, 2) {
+            for _ in 0..MOST_REFUSED {
+                if let Some(watched) = self.begin_at_recovery(lines)? {
+                    return Ok((Beginning::Recovery, watched));
+                }
+            }
+        }
+        Ok((Beginning::Format, self.begin_at_format(lines)?))
+    }
+
+    /// "any memory it takes": a recovery's start on a board with foreign memory, none where it is refused.
+    fn begin_at_recovery(&mut self, lines: u64) -> Result<Option<Watched>, Violation> {
+        let mut board = Board::empty(self.mistake);
+        foreign::board(&self.random, lines, &mut board);
+        self.scratch.copy_from(&board);
+        let answer = self.scratch.perform(&Call::Recovery);
+        self.trace.push(foreign::recovery_on(&board.memory));
+        self.note(&Call::Recovery, answer.number);
+        self.tally.foreign(&board.memory, answer.number);
+        answered(self.checks, &Call::Recovery, &board, &self.scratch, answer)?;
+        if answer.number != 0 {
+            return Ok(None);
+        }
+        let mut watched = Watched::before_recovery(board, self.checks);
+        watched.call(&Call::Recovery)?;
+        Ok(Some(watched))
+    }
+
     /// "A sequence begins with state and rows as a finished format left them, whatever they were before its start"
-    fn begin(&mut self, lines: u64) -> Result<Watched, Violation> {
+    fn begin_at_format(&mut self, lines: u64) -> Result<Watched, Violation> {
         let mut board = Board::empty(self.mistake);
         board.resize(lines);
         let random = &self.random;
@@ -149,7 +187,7 @@ impl Explorer {
     }
 
     /// A call of the sequence.
-    fn call(&mut self, call: &Call, watched: &mut Watched) -> Result<(), Violation> {
+    fn call(&mut self, call: &Call, beginning: Beginning, watched: &mut Watched) -> Result<(), Violation> {
         self.trace.push(format!("{call:?}"));
         let done = watched.call(call)?;
         self.tally.answer(call, done.answer.number);
@@ -158,7 +196,7 @@ impl Explorer {
             Some(Finished::Checkpoint) => self.tally.checkpoint(&watched.board.state),
             Some(Finished::Recovery) => {
                 self.tally.recoveries += 1;
-                self.compare(watched)?;
+                self.compare(beginning, watched)?;
             }
             None => {}
         }
@@ -166,17 +204,16 @@ impl Explorer {
     }
 
     /// Statement 4: against the last recovered board of this size.
-    fn compare(&mut self, watched: &Watched) -> Result<(), Violation> {
-        let lines = watched.machine.values.len() as u64 / 2;
-        let values: Vec<u64> = watched.promise.recovery_values.clone();
-        let reads = watched.reads();
-        if let Some((other_reads, other_values)) = self.others.get(&lines) {
-            let alike = |cell: &usize| (reads[*cell] == other_reads[*cell]) == (values[*cell] == other_values[*cell]);
+    fn compare(&mut self, beginning: Beginning, watched: &Watched) -> Result<(), Violation> {
+        let (reads, values) = (watched.reads(), watched.promise.recovery_values.clone());
+        if let Some(other) = self.others.get(&watched.lines()) {
+            self.tally.compared(beginning, other.beginning);
+            let alike = |cell: &usize| (reads[*cell] == other.reads[*cell]) == (values[*cell] == other.values[*cell]);
             let wrong = (0..reads.len()).find(|cell| !alike(cell));
             let text = || format!("cell {wrong:?} of two boards reads alike or not, unlike their checkpointed values");
             self.checks.run(Check::TwoBoards, || ensure(wrong.is_none(), text))?;
         }
-        self.last = Some((reads, values));
+        self.last = Some(Recovered { beginning, reads, values });
         Ok(())
     }
 

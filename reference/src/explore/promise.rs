@@ -109,9 +109,10 @@ impl Promise {
         })
     }
 
-    /// "After any lawful sequence a recovery start is taken, unless ..."
+    /// Own memory is never turned down: a recovery's start is answered 0, by 5 only where a format is erasing.
     pub fn can_recover(&self, board: &Board) -> Finding {
         let answer = board.cause(&Call::Recovery);
-        ensure(answer == 0 || self.broken_format, || format!("a recovery start would be refused by {answer}"))
+        let told = if self.broken_format { 5 } else { 0 };
+        ensure(answer == told, || format!("a recovery start would be answered {answer}, not {told}"))
     }
 }

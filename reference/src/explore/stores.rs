@@ -75,10 +75,14 @@ fn list_changed(call: &Call, before: &Board, after: &Board) -> Finding {
     ensure(changed.all(|(entry, _)| added && entry == length as usize), || "an entry of the list changed".into())
 }
 
-/// "Words 6 and 7 are never changed after format": 0 in memory, and in the cache while recovering or running.
-pub fn spare_words(board: &Board, cut: bool) -> Finding {
+/// Words 6 and 7 of each cell line.
+pub fn spare(row: &[u64]) -> Vec<[u64; 2]> {
+    row.chunks_exact(LINE_WORDS).skip(1).map(|line| [line[6], line[7]]).collect()
+}
+
+/// "Words 6 and 7 are never changed": as told in memory, and in the cache while recovering or running.
+pub fn spare_words(board: &Board, cut: bool, told: &[[u64; 2]]) -> Finding {
     let live = !cut && matches!(board.state.phase, Phase::Recovering | Phase::Running);
-    let clear = |row: &[u64]| row.chunks(LINE_WORDS).skip(1).all(|line| line[6..] == [0, 0]);
-    ensure(clear(&board.memory), || "word 6 or 7 of a line of memory is not 0".into())?;
-    ensure(!live || clear(&board.cache), || "word 6 or 7 of a line of the cache is not 0".into())
+    ensure(spare(&board.memory) == told, || "word 6 or 7 of a line of memory changed".into())?;
+    ensure(!live || spare(&board.cache) == told, || "word 6 or 7 of a line of the cache is not memory's".into())
 }

@@ -14,8 +14,8 @@ struct Case<'a> {
 /// A part of a cause: the cause's number, a few words, and whether it holds.
 type Part = (u8, &'static str, fn(&Case) -> bool);
 
-/// The causes in the order in which they are tested: rising, and "after 8" for 13.
-pub const ORDER: [u8; 13] = [1, 2, 3, 4, 5, 6, 7, 8, 13, 9, 10, 11, 12];
+/// The causes in the order in which they are tested: rising, "after 8" for 13, "after 5" for 14.
+pub const ORDER: [u8; 14] = [1, 2, 3, 4, 5, 14, 6, 7, 8, 13, 9, 10, 11, 12];
 
 /// Where a cause stands in that order, from 1; 0 for none.
 pub fn rank(cause: u8) -> usize {
@@ -23,7 +23,7 @@ pub fn rank(cause: u8) -> usize {
 }
 
 /// Every part of every cause.
-const TABLE: [Part; 34] = [
+const TABLE: [Part; 35] = [
     (12, "text row", |case| matches!(case.call, Call::Page { room } if (room as u128) < 68 * (case.two_l() + 1))),
     (11, "the last epoch", |case| {
         case.rows.cache.first() == Some(&u64::MAX) && (case.call == Call::Request || case.at_epoch_store())
@@ -58,6 +58,7 @@ const TABLE: [Part; 34] = [
     ),
     (7, "line over L", |case| matches!(case.call, Call::WriteBack { line } if line > case.l())),
     (6, "worker W or more", |case| case.named_worker().is_some_and(|worker| worker >= case.w())),
+    (14, "a mark past the epoch", |case| case.header().is_some_and(|header| case.latest_mark() > header[0])),
     (5, "header's epoch", |case| case.header().is_some_and(|header| header[0] == 0)),
     (5, "header's L", |case| case.header().is_some_and(|header| header[1] as u128 + 1 != case.memory_lines())),
     (5, "header's W", |case| {
@@ -262,6 +263,13 @@ impl Case<'_> {
     /// Memory's header at recovery's start, where there is a line.
     fn header(&self) -> Option<&[u64]> {
         self.rows.memory.get(..8).filter(|_| self.call == Call::Recovery)
+    }
+
+    /// The greatest mark in memory's cells, 0 where there is none.
+    fn latest_mark(&self) -> u64 {
+        let cells = 2 * (self.rows.memory.len() / 8).saturating_sub(1);
+        let marks = (0..cells).map(|cell| self.rows.memory[8 + 8 * (cell / 2) + 3 * (cell % 2) + 2]);
+        marks.max().unwrap_or(0)
     }
 
     /// "words div 8"

@@ -2,16 +2,32 @@
 
 use std::fmt;
 
+use super::watched::Beginning;
+
 use crate::board::{Condition, State};
 use crate::call::Call;
+use crate::line::{mark_at, LINE_WORDS};
 
-/// How many answers there are: 0, and the causes 1 to 13.
-const ANSWERS: usize = 14;
+/// How many answers there are: 0, and the causes 1 to 14.
+const ANSWERS: usize = 15;
+
+/// The first and the last epochs.
+pub const EDGES: [u64; 4] = [1, 2, u64::MAX - 1, u64::MAX];
 
 /// Counts of events.
 #[derive(Clone, PartialEq, Eq, Debug, Default)]
 pub struct Tally {
     pub sequences: u64,
+    /// Those of them that began at a recovery's start.
+    pub from_recovery: u64,
+    /// The answers to recovery's starts on foreign memory.
+    pub foreign: [u64; ANSWERS],
+    /// Those of them that were taken in each of `EDGES`.
+    pub edges: [u64; EDGES.len()],
+    /// Those of them that were taken with a mark at the epoch.
+    pub marked: u64,
+    /// Recovered boards compared with another: both from a format, one of each beginning, both from a recovery's start.
+    pub pairs: [u64; 3],
     pub calls: u64,
     pub probes: u64,
     pub cuts: u64,
@@ -28,6 +44,27 @@ pub struct Tally {
 }
 
 impl Tally {
+    /// Count a sequence.
+    pub fn sequence(&mut self, beginning: Beginning) {
+        self.sequences += 1;
+        self.from_recovery += (beginning == Beginning::Recovery) as u64;
+    }
+
+    /// Count a recovery's start on this foreign memory, and its answer.
+    pub fn foreign(&mut self, memory: &[u64], number: u8) {
+        self.foreign[number as usize] += 1;
+        if number == 0 {
+            let mut marks = (0..2 * (memory.len() / LINE_WORDS - 1)).map(|cell| memory[mark_at(cell)]);
+            self.marked += marks.any(|mark| mark == memory[0]) as u64;
+            self.edges.iter_mut().zip(EDGES).for_each(|(count, epoch)| *count += (memory[0] == epoch) as u64);
+        }
+    }
+
+    /// Count two recovered boards that were compared.
+    pub fn compared(&mut self, one: Beginning, other: Beginning) {
+        self.pairs[[one, other].iter().filter(|each| **each == Beginning::Recovery).count()] += 1;
+    }
+
     /// Count one call and its answer, 0 for a taken one.
     pub fn answer(&mut self, call: &Call, number: u8) {
         self.calls += 1;
@@ -53,6 +90,14 @@ impl Tally {
 impl fmt::Display for Tally {
     fn fmt(&self, out: &mut fmt::Formatter) -> fmt::Result {
         writeln!(out, "sequences {}", self.sequences)?;
+        writeln!(out, "of them from a format {}", self.sequences - self.from_recovery)?;
+        writeln!(out, "of them from a recovery's start on foreign memory {}", self.from_recovery)?;
+        writeln!(out, "recovery's starts on foreign memory: {}", met(&self.foreign))?;
+        writeln!(out, "taken with a mark at the epoch {}", self.marked)?;
+        let [first, second, last_but_one, last] = self.edges;
+        writeln!(out, "taken in epoch 1 {first}, 2 {second}, 2^64 - 2 {last_but_one}, 2^64 - 1 {last}")?;
+        let [formats, mixed, recoveries] = self.pairs;
+        writeln!(out, "boards compared {formats} from formats, {mixed} of each, {recoveries} from foreign memory")?;
         writeln!(out, "calls {}", self.calls)?;
         writeln!(out, "of them on made-up boards {}", self.probes)?;
         writeln!(out, "cuts {}", self.cuts)?;

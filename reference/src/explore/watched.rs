@@ -2,11 +2,21 @@
 
 use super::check::{ensure, Check, Checks, Finding, Violation};
 use super::promise::{Finished, Promise};
-use super::{away, invariant, outcome, page, stores, table};
+use super::{away, foreign, invariant, outcome, page, stores, table};
 use crate::board::{Board, Phase};
 use crate::call::{Answer, Call};
 use crate::line::{cells, header, LINE_WORDS};
 use crate::machine::{Machine, Value};
+use crate::mistake::Mistake;
+
+/// How a sequence began.
+#[derive(Clone, Copy, PartialEq, Eq, Debug)]
+pub enum Beginning {
+    /// "as a finished format left them"
+    Format,
+    /// At a recovery's start that took foreign memory.
+    Recovery,
+}
 
 /// What one call on a watched board gave.
 pub struct Done {
@@ -22,6 +32,8 @@ pub struct Watched {
     /// A cut fell since the last taken start.
     pub cut: bool,
     pub checks: Checks,
+    /// What words 6 and 7 of each cell line are to be.
+    pub spare: Vec<[u64; 2]>,
     before: Board,
     values_before: Vec<Value>,
 }
@@ -30,10 +42,25 @@ impl Watched {
     /// A board as a finished format left it, and the machine where it begins; without one there is nothing to explore.
     pub fn begin(board: Board, lines: u64, checks: Checks) -> Result<Watched, Violation> {
         formatted(&board).map_err(|text| Violation { check: Check::Progress, text })?;
-        let machine = Machine::begin(cells(lines));
-        let values_before = machine.values.clone();
-        let before = board.clone();
-        Ok(Watched { board, machine, promise: Promise::default(), cut: false, checks, before, values_before })
+        Ok(Watched::new(board, Machine::begin(cells(lines)), false, checks))
+    }
+
+    /// A board as it may be before a recovery's start that takes its memory, and the machine as it begins there.
+    pub fn before_recovery(board: Board, checks: Checks) -> Watched {
+        let records = board.mistake == Some(Mistake::BeginWithRecords);
+        let values = if records { foreign::records(&board.memory) } else { foreign::undo(&board.memory) };
+        Watched::new(board, Machine::begin_with(&values), true, checks)
+    }
+
+    /// Nothing is owed yet.
+    fn new(board: Board, machine: Machine, cut: bool, checks: Checks) -> Watched {
+        let (before, values_before, spare) = (board.clone(), machine.values.clone(), stores::spare(&board.memory));
+        Watched { board, machine, promise: Promise::default(), cut, checks, spare, before, values_before }
+    }
+
+    /// The board's L, which it keeps.
+    pub fn lines(&self) -> u64 {
+        self.machine.values.len() as u64 / 2
     }
 
     /// Keep what an event is to be compared with.
@@ -58,8 +85,18 @@ impl Watched {
         self.cut &= !call.is_start();
         let finished = self.promise.taken(call, &self.before, &self.machine);
         self.after_taken(call, answer, finished)?;
-        self.after_event(*call == Call::Step && self.before.state.phase == Phase::Formatting)?;
+        let format_step = *call == Call::Step && self.before.state.phase == Phase::Formatting;
+        if format_step {
+            self.erase_spare(self.before.state.place as usize);
+        }
+        self.after_event(format_step)?;
         Ok(Done { answer, finished })
+    }
+
+    /// A format's step at this place: 0 is what that line's words 6 and 7 are to be from now on.
+    fn erase_spare(&mut self, place: usize) {
+        let line = place.checked_sub(1).and_then(|line| self.spare.get_mut(line));
+        line.into_iter().for_each(|words| *words = [0; 2]);
     }
 
     /// A cut: whatever it leaves in cache, list and state record; memory stays.
@@ -92,7 +129,7 @@ impl Watched {
 
     /// What holds after every event, taken calls and cuts.
     fn after_event(&self, format_step: bool) -> Result<(), Violation> {
-        self.checks.run(Check::Stores, || stores::spare_words(&self.board, self.cut))?;
+        self.checks.run(Check::Stores, || stores::spare_words(&self.board, self.cut, &self.spare))?;
         if !format_step {
             self.checks.run(Check::Completion, || self.completed())?;
         }

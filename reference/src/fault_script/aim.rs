@@ -214,6 +214,7 @@ impl Script {
             11 => return self.last_epoch(call),
             12 => *call = Call::Page { room: self.too_short() },
             13 => return self.under_way(),
+            14 => return self.mark_past(),
             _ => {}
         }
         Vec::new()

@@ -78,7 +78,7 @@ impl Script {
     }
 
     /// A restart point of everybody under W who is not away, seldom of nobody.
-    fn all_wait(&mut self) {
+    pub(super) fn all_wait(&mut self) {
         if self.random.chance(1, 8) {
             return;
         }
@@ -96,7 +96,7 @@ impl Script {
     }
 
     /// The steps of a checkpoint, tries between them.
-    fn whole_checkpoint(&mut self) {
+    pub(super) fn whole_checkpoint(&mut self) {
         for _ in 0..(self.listed() + 3).min(20) {
             if self.random.chance(1, 3) {
                 self.tries();

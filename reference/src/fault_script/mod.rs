@@ -3,6 +3,7 @@
 
 mod aim;
 mod away;
+mod foreign;
 mod odd;
 mod other_form;
 mod page;
@@ -32,13 +33,23 @@ struct Script {
     until_sum: u64,
 }
 
-/// So many lines, the last a checksum; those of odd seeds end without a line feed.
+/// A script of stretches of every kind.
 pub fn script(seed: u64, lines: u64) -> Vec<u8> {
+    write(seed, lines, Script::before_a_format, Script::stretch)
+}
+
+/// A script of nothing but foreign memories, without a format.
+pub fn foreign_script(seed: u64, lines: u64) -> Vec<u8> {
+    write(seed, lines, |_| {}, Script::foreign_memory)
+}
+
+/// So many lines, the last a checksum; those of odd seeds end without a line feed.
+fn write(seed: u64, lines: u64, first: fn(&mut Script), stretch: fn(&mut Script)) -> Vec<u8> {
     let random = Random::new(seed);
     let mut script = Script { random, board: Board::empty(None), text: Vec::new(), left: lines, until_sum: 8 };
-    script.before_a_format();
+    first(&mut script);
     while script.left > 1 {
-        script.stretch();
+        stretch(&mut script);
     }
     script.put(line('T', &[]));
     if seed % 2 == 1 {

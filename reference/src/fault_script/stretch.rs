@@ -12,7 +12,7 @@ use crate::work::{good_call_with_away, some_workers, Leave};
 impl Script {
     /// One stretch, and a checksum after it.
     pub(super) fn stretch(&mut self) {
-        match self.random.below(42) {
+        match self.random.below(44) {
             0..=5 => self.work(40),
             6..=23 => self.aimed(),
             24 | 25 => self.odd_record(),
@@ -23,6 +23,7 @@ impl Script {
             33 | 34 => self.pages(),
             35 | 36 => self.leaving(),
             37 => self.odd_away(),
+            38 | 39 => self.foreign_memory(),
             _ => self.odd_places(),
         }
         self.sum();
@@ -39,7 +40,7 @@ impl Script {
     }
 
     /// A line that brings a board on from where it is.
-    fn good_line(&mut self, requests: u64, leave: Leave) {
+    pub(super) fn good_line(&mut self, requests: u64, leave: Leave) {
         let (random, state) = (&self.random, &self.board.state);
         let patience = 40 + self.cells().min(30);
         if random.chance(1, patience) {

@@ -1,6 +1,8 @@
-//! What random fault scripts reach: how often each call got each answer, each case of ticket 2, and each kind of `?`.
+//! What random fault scripts reach: how often each call got each answer, each case of tickets 2 and 4, and each kind of
+//! `?`.
 
 mod away;
+mod foreign;
 
 use std::collections::HashMap;
 use std::fmt;
@@ -14,12 +16,14 @@ use crate::program::Program;
 use crate::text::{fields, Fields, Unread, UNREAD};
 use away::Scene;
 pub use away::CASES;
+use foreign::Origin;
+pub use foreign::MEMORIES;
 
 /// The letters of calls with the answers that the table has for each.
 pub const CAUSES: [(u8, &[u8]); 13] = [
     (b'f', &[0, 1, 4]),
     (b'F', &[0, 1]),
-    (b'R', &[0, 4, 5]),
+    (b'R', &[0, 4, 5, 14]),
     (b'S', &[0, 2, 3, 4, 10, 11]),
     (b'U', &[0, 2, 3, 4, 6, 7, 8, 9]),
     (b'P', &[0, 2, 3, 4, 6, 8, 9]),
@@ -32,8 +36,8 @@ pub const CAUSES: [(u8, &[u8]); 13] = [
     (b'b', &[0, 2, 3, 4, 6, 8, 13]),
 ];
 
-/// How many answers there are: 0, and the causes 1 to 13.
-const ANSWERS: usize = 14;
+/// How many answers there are: 0, and the causes 1 to 14.
+const ANSWERS: usize = 15;
 
 /// The counts over some scripts.
 #[derive(Clone, PartialEq, Eq, Debug)]
@@ -50,6 +54,10 @@ pub struct Reached {
     pub orders: HashMap<(u8, u8, u8), u64>,
     /// For each case of ticket 2 in the order of `CASES`, how often it was met.
     pub cases: [u64; CASES.len()],
+    /// For each case of ticket 4 in the order of `MEMORIES`, how often it was met.
+    pub memories: [u64; MEMORIES.len()],
+    /// Where the memory of the script under way comes from.
+    origin: Origin,
     /// `K` with the condition away: taken, and with a number that it has no use for.
     pub put_away: [u64; 2],
 }
@@ -64,12 +72,15 @@ pub fn reached(seeds: u64, lines: u64) -> Reached {
         parts: HashMap::new(),
         orders: HashMap::new(),
         cases: [0; CASES.len()],
+        memories: [0; MEMORIES.len()],
+        origin: Origin::default(),
         put_away: [0; 2],
     };
     for seed in 1..=seeds {
         let text = script(seed, lines);
         let text = text.strip_suffix(b"\n").unwrap_or(&text);
         let mut board = Board::empty(None);
+        reached.origin = Origin::default();
         for line in text.split(|byte| *byte == b'\n') {
             reached.count(&mut board, line);
         }
@@ -113,7 +124,10 @@ impl Reached {
         if let Some(call) = command.call() {
             let scene = Scene { call, number, before: &before, after: &board.state };
             self.cases.iter_mut().zip(CASES).for_each(|(count, (_, holds))| *count += holds(&scene) as u64);
+            let scene = foreign::Scene { call, number, before: &before, board, origin: self.origin };
+            self.memories.iter_mut().zip(MEMORIES).for_each(|(count, (_, holds))| *count += holds(&scene) as u64);
         }
+        self.origin.note(&command, number);
         Ok(())
     }
 
@@ -183,6 +197,15 @@ impl Reached {
         }
         writeln!(out)
     }
+
+    /// The cases of ticket 4.
+    fn write_memories(&self, out: &mut fmt::Formatter) -> fmt::Result {
+        writeln!(out, "| case of foreign memory | lines |\n|---|---|")?;
+        for ((words, _), count) in MEMORIES.iter().zip(self.memories) {
+            writeln!(out, "| {words} | {count} |")?;
+        }
+        writeln!(out)
+    }
 }
 
 /// Two causes of one call that cannot both hold: a step is a checkpoint's only when running.
@@ -214,6 +237,7 @@ impl fmt::Display for Reached {
         self.write_parts(out)?;
         self.write_orders(out)?;
         self.write_cases(out)?;
+        self.write_memories(out)?;
         writeln!(out, "| why a line printed ? | lines |\n|---|---|")?;
         for ((_, words), count) in UNREAD.iter().zip(self.unread) {
             writeln!(out, "| {words} | {count} |")?;
