@@ -14,7 +14,7 @@ use Rattle.board.specs.declared.Call.the-variants.{RecoveryStart, Step, 
 use Rattle.board.specs.Board.{Board, cells, linesOf}
 use Rattle.board.specs.State.{anyUnder, started}
 use Rattle.board.specs.Causes.{badRecord, causes, firstStanding, cause}
-use Rattle.board.specs.Effects.{undone, recoveryStep, actAt, performAct, step, advance, advanceOf, effect}
+use Rattle.board.specs.Effects.{undo, recoveryStep, actAt, performAct, step, advance, advanceOf, effect}
 use Rattle.board.specs.Next.{taken, next, Performed}
 use Rattle.board.specs.Machine.{Machine, recoveryBeginning, changed, countUnder, fewer, advanced, checkpointStep, stepped, writeBackSeen, feed}
 use Rattle.board.specs.Sequence.{Begins, recoveryStarted, Run, opening, cutBoard, History, begun, undoSteps, recoverySteps}
@@ -45,7 +45,7 @@ start : Board
 start = next RecoveryStart foreign
 
 machine : Machine
-machine = recoveryBeginning (linesOf (foreign .memory)) (undone (foreign .memory))
+machine = recoveryBeginning (linesOf (foreign .memory)) (undo (foreign .memory))
 
 begins : Begins start machine
 unfolding foreign start machine anyCache anyList cause causes firstStanding anyUnder fieldIndex fieldOf

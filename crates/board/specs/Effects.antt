@@ -51,8 +51,8 @@ abbrev pub logged : List ℕ → ℕ → Bool
 logged row c = eqb (fieldOf row c Field.Mark) (epochOf row)
 
 -- 02, ticket 4, a memory's "own undo": for each cell the backup where its mark is the epoch, else the record.
-abbrev pub undone : List ℕ → ℕ → ℕ
-undone row c = cond (logged row c) (fieldOf row c Field.Backup) (fieldOf row c Field.Record)
+abbrev pub undo : List ℕ → ℕ → ℕ
+undo row c = cond (logged row c) (fieldOf row c Field.Backup) (fieldOf row c Field.Record)
 
 -- "record := backup": the old value put back.
 abbrev pub restored : List ℕ → ℕ → List ℕ

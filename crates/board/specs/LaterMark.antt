@@ -5,7 +5,7 @@ use mathlib.Core.Bool.{Bool, true, false}
 use Rattle.board.specs.declared.Call.the-variants.{RecoveryStart}
 use Rattle.board.specs.Board.{Board, epochOf, linesOf}
 use Rattle.board.specs.Causes.{cause}
-use Rattle.board.specs.Effects.{logged, undone, effect}
+use Rattle.board.specs.Effects.{logged, undo, effect}
 use Rattle.board.specs.Machine.{recoveryBeginning}
 use Rattle.board.specs.Sequence.{Run, opening, Happens}
 use Rattle.board.specs.Statements.{ReadsCheckpointed, Recovered}
@@ -17,7 +17,7 @@ pub data Leads (r : Run) : Run → Type 0 where
 
 -- The run that would begin if recovery's start did not look at the marks.
 abbrev pub unguarded : Board → Run
-unguarded b = opening (effect RecoveryStart b) (recoveryBeginning (linesOf (b .memory)) (undone (b .memory)))
+unguarded b = opening (effect RecoveryStart b) (recoveryBeginning (linesOf (b .memory)) (undo (b .memory)))
 
 -- "One swapped module had cells marked later than its header's epoch; one checkpoint on, their updates go unlogged": a finished recovery then reads what no checkpoint held.
 pub record LaterMark : Type 0 where

@@ -9,7 +9,7 @@ use Rattle.board.specs.declared.State.{State}
 use Rattle.board.specs.declared.Call.{Call}
 use Rattle.board.specs.declared.Call.the-variants.{FormatStart, RecoveryStart, Step}
 use Rattle.board.specs.Board.{Board, cells, epochOf, linesOf}
-use Rattle.board.specs.Effects.{logged, undone}
+use Rattle.board.specs.Effects.{logged, undo}
 use Rattle.board.specs.Next.{kind, isStart, isStep, Performed}
 use Rattle.board.specs.Page.{PagePerformed}
 use Rattle.board.specs.Machine.{Machine, beginning, recoveryBeginning, feed, formatSteps, finishesFormat}
@@ -27,7 +27,7 @@ pub data Takes : ℕ → Board → Board → Type 0 where
 -- whatever memory, state, cache and list were: there the machine begins with the undo of that memory.
 pub data Begins : Board → Machine → Type 0 where
   formatted : (l w value : ℕ) (b d b′ : Board) → Performed (FormatStart l w) b 0 value d → Takes (formatSteps l) d b′ → Begins b′ (beginning l)
-  recoveryStarted : (value : ℕ) (b b′ : Board) → Performed RecoveryStart b 0 value b′ → Begins b′ (recoveryBeginning (linesOf (b .memory)) (undone (b .memory)))
+  recoveryStarted : (value : ℕ) (b b′ : Board) → Performed RecoveryStart b 0 value b′ → Begins b′ (recoveryBeginning (linesOf (b .memory)) (undo (b .memory)))
 
 -- ---- what can happen
 

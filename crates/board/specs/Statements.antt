@@ -14,7 +14,7 @@ use Rattle.board.specs.declared.Call.the-variants.{FormatStart, Recovery
 use Rattle.board.specs.declared.Phase.{Phase}
 use Rattle.board.specs.Board.{Board, cells, epochOf, linesOf, workersOf}
 use Rattle.board.specs.State.{conditionOf, isFree, isWaiting, isFormatting, isRunning}
-use Rattle.board.specs.Effects.{undone, writtenBack}
+use Rattle.board.specs.Effects.{undo, writtenBack}
 use Rattle.board.specs.Next.{Taken, next, Kind, startsFormat, startsRecovery, stepping, writing, other, reading, kind, isStep, Performed}
 use Rattle.board.specs.Machine.{Machine, beginning, recoveryBeginning, formatSteps}
 use Rattle.board.specs.Sequence.{Takes, Begins, Run, called, cutRun, KeepsLengths, Happens, performs, pages, cuts, History, begun, further, lastCheckpoint, recoverySteps}
@@ -215,7 +215,7 @@ OwnMemory = (r : Run) → History r → (number value : ℕ) (b : Board) → Per
 abbrev pub HistoryBegins : Type 0
 HistoryBegins =
     ((l w : ℕ) (b : Board) → Taken (FormatStart l w) b → (b′ : Board) × Begins b′ (beginning l))
-    × ((b : Board) → Taken RecoveryStart b → Begins (next RecoveryStart b) (recoveryBeginning (linesOf (b .memory)) (undone (b .memory))))
+    × ((b : Board) → Taken RecoveryStart b → Begins (next RecoveryStart b) (recoveryBeginning (linesOf (b .memory)) (undo (b .memory))))
 
 -- After any history there is a finished recovery, unless a format took its first step and none has finished since.
 abbrev pub HasRecovery : Type 0

@@ -12,7 +12,7 @@ use Rattle.board.specs.declared.Call.the-variants.{FormatStart, Recovery
 use Rattle.board.specs.Board.{Board, linesOf}
 use Rattle.board.specs.State.{isOff, isFormatting, isRunning}
 use Rattle.board.specs.Next.{Taken, Kind, startsFormat, startsRecovery, stepping, writing, other, reading, kind, isStart, isStep, Performed}
-use Rattle.board.specs.Effects.{undone}
+use Rattle.board.specs.Effects.{undo}
 use Rattle.board.specs.Machine.{Machine, recoveryBeginning, formatSteps}
 use Rattle.board.specs.Sequence.{Takes, finished, steps, between, paged, Begins, formatted, recoveryStarted, opening}
 use Rattle.board.proofs.Laws.Bools.{clash}
@@ -80,4 +80,4 @@ pub begins-inv : (b : Board) (m : Machine) → Begins b m → Inv (opening b m)
 begins-inv b m (formatted l w value d d′ b′ p takes) = fresh-inv l b′ false (format-fresh l w d p takes)
 begins-inv b m (recoveryStarted value d b′ p) =
     let (t, same) = performed-taken RecoveryStart d p refl in
-    subst (λ (x : Board). Inv (opening x (recoveryBeginning (linesOf (d .memory)) (undone (d .memory))))) (sym same) (recovery-begins d t)
+    subst (λ (x : Board). Inv (opening x (recoveryBeginning (linesOf (d .memory)) (undo (d .memory))))) (sym same) (recovery-begins d t)

@@ -10,7 +10,7 @@ use Rattle.line.specs.Cell.{fieldOf}
 use Rattle.board.specs.declared.Call.the-variants.{RecoveryStart}
 use Rattle.board.specs.Board.{Board, cells, epochOf, linesOf, linesOutside}
 use Rattle.board.specs.Causes.{causes}
-use Rattle.board.specs.Effects.{logged, undone, effect}
+use Rattle.board.specs.Effects.{logged, undo, effect}
 use Rattle.board.specs.Machine.{Machine, recoveryBeginning, feed}
 use Rattle.board.specs.Sequence.{Run, opening}
 use Rattle.board.proofs.Laws.Bools.{split, chosen, passedOver}
@@ -83,8 +83,8 @@ started-marks b t c h =
     let bound = later-bounds _ (b .memory) (passed RecoveryStart b t 14) c h in
     omega (arith, bound)
 
--- Undoing a cell gives what `undone` says of it.
-undoes-own : (row : List ℕ) (c : ℕ) → fieldOf row c Mark ≤ epochOf row → Undo (epochOf row) (undone row c) (view row c)
+-- Undoing a cell gives what `undo` says of it.
+undoes-own : (row : List ℕ) (c : ℕ) → fieldOf row c Mark ≤ epochOf row → Undo (epochOf row) (undo row c) (view row c)
 undoes-own row c h =
     let mark = fieldOf row c Mark in
     record {
@@ -94,7 +94,7 @@ undoes-own row c h =
     }
 
 -- A memory that recovery's start takes gives its own undo.
-started-kept : (b : Board) → Taken RecoveryStart b → Kept (linesOf (b .memory)) (undone (b .memory)) (b .memory)
+started-kept : (b : Board) → Taken RecoveryStart b → Kept (linesOf (b .memory)) (undo (b .memory)) (b .memory)
 started-kept b t =
     let header = started-header b t in
     record {
@@ -103,7 +103,7 @@ started-kept b t =
     }
 
 -- The invariant holds where a recovery's start takes a memory, whoever wrote it.
-pub recovery-begins : (b : Board) → Taken RecoveryStart b → Inv (opening (effect RecoveryStart b) (recoveryBeginning (linesOf (b .memory)) (undone (b .memory))))
+pub recovery-begins : (b : Board) → Taken RecoveryStart b → Inv (opening (effect RecoveryStart b) (recoveryBeginning (linesOf (b .memory)) (undo (b .memory))))
 recovery-begins b t =
-    started-inv b (recoveryBeginning (linesOf (b .memory)) (undone (b .memory))) false refl (started-sizes b t) (started-kept b t)
+    started-inv b (recoveryBeginning (linesOf (b .memory)) (undo (b .memory))) false refl (started-sizes b t) (started-kept b t)
     (record { request = refl; formatting = refl; current = λ c. refl; marked = λ c. refl; unfinished = λ w. refl })
