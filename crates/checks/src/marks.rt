@@ -21,10 +21,10 @@ pub fn later_mark(epoch: u64, row: &[u64]) -> bool
     requires { ⌜ length (now row) ≡ rowWords (linesOf (now row)) ⌝ }
     ensures { λ r. ⌜ r ≡ laterMark epoch (now (row .entry)) ⌝ }
 {
-    let end = row.len() / 8;
+    let lines = row.len() / 8 - 1;
     let mut found = false;
     let mut line: usize = 1;
-    while line < end {
+    while line <= lines {
         let start = 8 * line;
         found = found | later_in_line(epoch, &row[start..start + 8]);
         line += 1;

@@ -17,7 +17,7 @@ header-word-requires c κs =
     let tested = c .before in
     let given = tested .before .before .before .before .before .args in
     let b = lent (given .state) (given .memory .now) (given .cache .now) (given .entries .now) in
-    omega (arith, whole-left b (tested .before .bad-recovery-rows .ensures (given .state)) (tested .bad-header .ensures) (c .if1 .left) .memory)
+    omega (arith, whole-left b (tested .before .bad-recovery-rows .ensures (given .state)) (tested .bad-header .ensures) (c .if1 .left))
 
 later-mark-requires : tie.Need-later-mark-requires
 later-mark-requires c κs =

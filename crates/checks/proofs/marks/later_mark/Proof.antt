@@ -10,11 +10,11 @@ use Rattle.checks.proofs.marks.later_mark.Statement.{statement}
 use Rattle.checks.proofs.marks.later_mark.Tie as tie
 
 abbrev Inv-loop : tie.InvT-loop
-Inv-loop epoch row end found₀ line₀ found line =
+Inv-loop epoch row lines found₀ line₀ found line =
     (1 ≤ line) × (line ≤ linesOf row + 1) × (found ≡ laterWithin epoch row (line - 1))
 
 abbrev μ-loop : tie.MeasureT-loop
-μ-loop epoch row end found₀ line₀ found line = linesOf row + 1 - line
+μ-loop epoch row lines found₀ line₀ found line = linesOf row + 1 - line
 
 loop-holds : tie.Need-loop-holds Inv-loop μ-loop
 unfolding anyUnder
@@ -36,5 +36,5 @@ returns c =
 pub later-mark-spec : {M : Type 1} → statement M
 later-mark-spec =
     tie.close
-    (tie.spec Inv-loop μ-loop loop-holds (λ c. search needs) (λ c. search needs) (λ c. search needs) (λ c. search needs)
+    (tie.spec Inv-loop μ-loop (λ c. search needs) loop-holds (λ c. search needs) (λ c. search needs) (λ c. search needs) (λ c. search needs)
     (λ c. search needs) (λ c. search needs) (λ c κs. search needs) (λ c. search needs) (λ c. search needs) loop-again returns)
