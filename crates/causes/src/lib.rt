@@ -4,6 +4,7 @@ pub mod order;
 
 use board::State;
 use checks::limits;
+use checks::marks;
 use checks::phases;
 use checks::record;
 use checks::rows;
@@ -37,14 +38,22 @@ pub fn of_format_start(
     })
 }
 
-// Recovery's start looks at the rows and at memory's header.
+// Recovery's start looks at the rows and at memory's header and, where those pass, at every mark in memory.
 pub fn of_recovery_start(state: State, memory: &[u64], cache: &[u64], entries: &[u16]) -> u8
     ensures { λ r. ⌜ r ≡ cause Call.RecoveryStart
         (lent state (now (memory .entry)) (now (cache .entry)) (now (entries .entry))) ⌝ }
 {
+    let rows = rows::bad_recovery_rows(memory, cache, entries);
+    let header = rows::bad_header(memory);
+    if rows | header {
+        return first(Causes {
+            rows,
+            header,
+            ..NONE
+        });
+    }
     first(Causes {
-        rows: rows::bad_recovery_rows(memory, cache, entries),
-        header: rows::bad_header(memory),
+        mark: marks::later_mark(line::header_word(memory, 0), memory),
         ..NONE
     })
 }

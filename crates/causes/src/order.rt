@@ -15,6 +15,8 @@ pub const STATE: u8 = 3;
 pub const ROWS: u8 = 4;
 // "recovery's start: epoch 0, L not (words div 8) − 1, W outside the limits, or words 3 to 7 not all zero"
 pub const HEADER: u8 = 5;
+// "memory with any mark greater than its epoch", "14 for such a mark, after 5"
+pub const MARK: u8 = 14;
 // "worker W or more"
 pub const WORKER: u8 = 6;
 // "update of a cell under W or 2L or more; read of 2L or more; line over L"
@@ -40,6 +42,7 @@ pub struct Causes {
     pub state: bool,
     pub rows: bool,
     pub header: bool,
+    pub mark: bool,
     pub worker: bool,
     pub address: bool,
     pub condition: bool,
@@ -57,6 +60,7 @@ pub const NONE: Causes = Causes {
     state: false,
     rows: false,
     header: false,
+    mark: false,
     worker: false,
     address: false,
     condition: false,
@@ -74,7 +78,7 @@ fn earlier(stands: bool, number: u8, later: u8) -> u8
     if stands { number } else { later }
 }
 
-// "Checked in rising order of number", 13 "after 8": from the last row of the table up, each goes before those after it.
+// "Checked in rising order of number", 14 "after 5" and 13 "after 8": from the last row of the table up, each goes before those after it.
 pub fn first(c: Causes) -> u8
     ensures { λ r. ⌜ r ≡ firstOf c ⌝ }
 {
@@ -86,6 +90,7 @@ pub fn first(c: Causes) -> u8
     let n = earlier(c.condition, CONDITION, n);
     let n = earlier(c.address, ADDRESS, n);
     let n = earlier(c.worker, WORKER, n);
+    let n = earlier(c.mark, MARK, n);
     let n = earlier(c.header, HEADER, n);
     let n = earlier(c.rows, ROWS, n);
     let n = earlier(c.state, STATE, n);

@@ -1,11 +1,11 @@
 -- What a taken call has passed: from no cause to the bounds that its effect asks for.
-use Prim.Native.Nat.{ℕ, _+_, _-_, _/_, _%_, _≤_, _<_}
+use Prim.Native.Nat.{ℕ, _+_, _≤_, _<_}
 use mathlib.Core.Path.{_≡_, ap, subst, _∙_}
 use mathlib.Core.Bool.{true, false, not, _&&_, _||_}
 use native.Mathlib.Omega.{arith}
 use lib.Dec.{leb, ltb, eqb}
 use lib.ListN.{length, getD}
-use borrow.Author.Tests.{ltb-false, leb-false, leb-true, eqb-true, eqb-false, lt-ltb, eq-eqb}
+use borrow.Author.Tests.{ltb-false, leb-false, eqb-true, eqb-false, lt-ltb, eq-eqb}
 use Rattle.line.specs.Line.{lineStart}
 use Rattle.line.specs.Cell.{cellLine}
 use Rattle.board.specs.declared.State.{State}
@@ -16,11 +16,12 @@ use Rattle.board.specs.declared.Store.the-variants.{Mark}
 use Rattle.board.specs.declared.Condition.{Condition}
 use Rattle.board.specs.declared.Condition.the-variants.{Updating}
 use Rattle.board.specs.declared.Call.{Call}
-use Rattle.board.specs.Board.{Board, cells, rowWords, listWords, linesOutside, workersOutside, outside, epochOf, linesOf, workersOf, restNotZero, lastEpoch}
+use Rattle.board.specs.Board.{Board, cells, rowWords, listWords, linesOutside, workersOutside, outside, epochOf, lastEpoch}
 use Rattle.board.specs.State.{conditionOf, isRunning, quiescent, updates, mustList, anyWorker}
 use Rattle.board.specs.Causes.{causes, badRecord, badRows, badEntry, placePast, listFull, noWorker, checkpointing, epochSpent}
-use Rattle.board.proofs.Laws.Bools.{or-left, or-right, and-both, and-left, and-right, and-not, not-off, none-under}
+use Rattle.board.proofs.Laws.Bools.{or-left, or-right, and-both, and-not, not-off, none-under}
 use Rattle.board.proofs.Laws.Taken.{standsAt, passed, lines-in, workers-in}
+use Rattle.causes.proofs.Memory.{whole}
 use Rattle.effects.specs.Ready.{Rows, Restarts, Formats, Recovers, Checkpoints, Stores, Advances}
 use Rattle.board.specs.Next.{Taken}
 
@@ -86,28 +87,8 @@ format-limits l w b t =
 pub recovery-restarts : (b : Board) → Taken Call.RecoveryStart b → Restarts (b .memory) (b .cache)
 unfolding standsAt causes
 recovery-restarts b t =
-    let n = length (b .memory) in
-    let whole = eqb (n % 8) 0 && leb 16 n && leb n 4096 in
-    let same = eqb (length (b .cache)) n in
-    let list = ltb (length (b .entries)) (n / 4 - 2) in
-    let e = passed Call.RecoveryStart b t 4 in
-    let rows = or-left (not whole || not same) list e in
-    let fits = not-off whole (or-left (not whole) (not same) rows) in
-    let least = leb-true 16 n (and-right (eqb (n % 8) 0) (leb 16 n) (and-left (eqb (n % 8) 0 && leb 16 n) (leb n 4096) fits)) in
-    let most = leb-true n 4096 (and-right (eqb (n % 8) 0 && leb 16 n) (leb n 4096) fits) in
-    let h = passed Call.RecoveryStart b t 5 in
-    let empty = eqb (epochOf (b .memory)) 0 in
-    let size = eqb (linesOf (b .memory)) (n / 8 - 1) in
-    let w = workersOutside (linesOf (b .memory)) (workersOf (b .memory)) in
-    let rest = restNotZero (b .memory) in
-    let three = or-left (empty || not size || w) rest h in
-    let lines = eqb-true (linesOf (b .memory)) (n / 8 - 1) (not-off size (or-right empty (not size) (or-left (empty || not size) w three))) in
-    record {
-      rows = eqb-true (length (b .cache)) n (not-off same (or-right (not whole) (not same) rows));
-      header = omega arith;
-      lines = omega arith;
-      workers = workers-in (linesOf (b .memory)) (workersOf (b .memory)) (or-right (empty || not size) w three) .1;
-    }
+    let known = whole b (passed Call.RecoveryStart b t 4) (passed Call.RecoveryStart b t 5) in
+    record { rows = known .cache; header = omega arith; lines = known .lines; workers = known .workers }
 
 -- ---- the step, by phase
 
