@@ -1,16 +1,14 @@
 -- What recovery's start knows of memory once the rows and the header have passed, and that the marks then tell the cause.
-use Prim.Native.Nat.{ℕ, _-_, _/_, _%_, _≤_}
+use Prim.Native.Nat.{ℕ, _≤_}
 use mathlib.Core.Path.{_≡_, refl, sym, ap, _∙_}
-use mathlib.Core.Bool.{Bool, true, false, cond, not, _&&_, _||_, false≢true}
-use native.Mathlib.Omega.{arith}
-use lib.Dec.{leb, ltb, eqb}
+use mathlib.Core.Bool.{Bool, true, false, cond, _||_, false≢true}
 use lib.ListN.{length}
-use borrow.Author.Tests.{leb-true, eqb-true}
 use Rattle.board.specs.declared.Call.the-variants.{RecoveryStart}
-use Rattle.board.specs.Board.{Board, rowWords, epochOf, linesOf, workersOf, workersOutside, restNotZero}
+use Rattle.board.specs.Board.{Board, rowWords, epochOf, linesOf, workersOf}
 use Rattle.board.specs.Causes.{cause, causes, firstStanding, badRecoveryRows, badHeader, laterMark}
-use Rattle.board.proofs.Laws.Bools.{or-left, or-right, and-left, and-right, not-off, passedOver}
-use Rattle.board.proofs.Laws.Taken.{workers-in}
+use Rattle.board.proofs.Laws.Bools.{or-left, or-right, passedOver}
+use Rattle.board.proofs.Laws.Taken.{lines-in, workers-in}
+use Rattle.board.proofs.Recovery.Board.{header-passed, rows-passed}
 
 -- Rows and a header that pass: both rows have the length that the header's L asks, within the limits.
 pub record Whole (b : Board) : Type 0 where
@@ -21,25 +19,12 @@ pub record Whole (b : Board) : Type 0 where
 
 pub whole : (b : Board) → badRecoveryRows b ≡ false → badHeader (b .memory) ≡ false → Whole b
 whole b r h =
-    let n = length (b .memory) in
-    let fits = eqb (n % 8) 0 && leb 16 n && leb n 4096 in
-    let same = eqb (length (b .cache)) n in
-    let rows = or-left (not fits || not same) (ltb (length (b .entries)) (n / 4 - 2)) r in
-    let inside = not-off fits (or-left (not fits) (not same) rows) in
-    let low = and-left (eqb (n % 8) 0 && leb 16 n) (leb n 4096) inside in
-    let eights = eqb-true (n % 8) 0 (and-left (eqb (n % 8) 0) (leb 16 n) low) in
-    let least = leb-true 16 n (and-right (eqb (n % 8) 0) (leb 16 n) low) in
-    let most = leb-true n 4096 (and-right (eqb (n % 8) 0 && leb 16 n) (leb n 4096) inside) in
-    let empty = eqb (epochOf (b .memory)) 0 in
-    let size = eqb (linesOf (b .memory)) (n / 8 - 1) in
-    let w = workersOutside (linesOf (b .memory)) (workersOf (b .memory)) in
-    let three = or-left (empty || not size || w) (restNotZero (b .memory)) h in
-    let lines = eqb-true (linesOf (b .memory)) (n / 8 - 1) (not-off size (or-right empty (not size) (or-left (empty || not size) w three))) in
+    let z = rows-passed b r h in
     record {
-      memory = omega arith;
-      cache = eqb-true (length (b .cache)) n (not-off same (or-right (not fits) (not same) rows));
-      lines = omega arith;
-      workers = workers-in (linesOf (b .memory)) (workersOf (b .memory)) (or-right (empty || not size) w three) .1;
+      memory = z .memory .size;
+      cache = z .cache .size ∙ sym (z .memory .size);
+      lines = lines-in (linesOf (b .memory)) (z .limits) .1;
+      workers = workers-in (linesOf (b .memory)) (workersOf (b .memory)) (header-passed (b .memory) h .2) .1;
     }
 
 -- The tests of the rows and of the header, as they were made.

@@ -1,6 +1,7 @@
 -- A recovery's step by cases, and what every state record of a recovery has.
 use Prim.Native.Nat.{ℕ, _+_, _-_, _/_, _%_, _≤_, _<_}
 use mathlib.Core.Path.{_≡_, refl, sym, subst}
+use mathlib.Core.List.{List}
 use mathlib.Core.Bool.{true, false, not, _&&_, _||_}
 use native.Mathlib.Omega.{arith}
 use lib.Dec.{leb, ltb, eqb}
@@ -17,7 +18,7 @@ use Rattle.board.specs.declared.Call.the-variants.{RecoveryStart, Step}
 use Rattle.board.specs.Board.{Board, cells, rowWords, listWords, linesOutside, workersOutside, epochOf, linesOf, workersOf, restNotZero}
 use Rattle.board.specs.State.{allFree, conditionOf, placed, opened}
 use Rattle.board.specs.Effects.{cached, stated, backed, logged, restored, unmarked, pastCell, recoveryStep, step, effect}
-use Rattle.board.specs.Causes.{causes}
+use Rattle.board.specs.Causes.{causes, badRecoveryRows, badHeader}
 use Rattle.board.proofs.Laws.Bools.{on, or-left, or-right, and-left, and-right, and-both, not-off, not-on}
 use Rattle.board.proofs.Invariant.{Sizes}
 use Rattle.board.proofs.Laws.Workers.{free-condition}
@@ -81,22 +82,27 @@ some-cell l e = omega (arith, lines-in l e)
 
 -- ---- a taken start
 
--- What memory's header has where a recovery start is taken.
+-- What a header that passes its test has.
+pub header-passed : (row : List ℕ) → badHeader row ≡ false →
+    (epochOf row ≡ 0 → ⊥) × (linesOf row ≡ length row / 8 - 1) × (workersOutside (linesOf row) (workersOf row) ≡ false) × (restNotZero row ≡ false)
+header-passed row e =
+    let epoch = eqb (epochOf row) 0 in
+    let lines = eqb (linesOf row) (length row / 8 - 1) in
+    let workers = workersOutside (linesOf row) (workersOf row) in
+    let upTo3 : epoch || not lines || workers ≡ false = or-left (epoch || not lines || workers) (restNotZero row) e in
+    let upTo2 : epoch || not lines ≡ false = or-left (epoch || not lines) workers upTo3 in
+    (eqb-false _ _ (or-left epoch (not lines) upTo2), eqb-true _ _ (not-off lines (or-right epoch (not lines) upTo2)), or-right (epoch || not lines) workers upTo3, or-right (epoch || not lines || workers) (restNotZero row) e)
+
+-- So has memory's where a recovery start is taken.
 pub started-header : (b : Board) → Taken RecoveryStart b →
     (epochOf (b .memory) ≡ 0 → ⊥) × (linesOf (b .memory) ≡ length (b .memory) / 8 - 1) × (workersOutside (linesOf (b .memory)) (workersOf (b .memory)) ≡ false) × (restNotZero (b .memory) ≡ false)
 unfolding standsAt causes
-started-header b t =
-    let epoch = eqb (epochOf (b .memory)) 0 in
-    let lines = eqb (linesOf (b .memory)) (length (b .memory) / 8 - 1) in
-    let workers = workersOutside (linesOf (b .memory)) (workersOf (b .memory)) in
-    let upTo3 : epoch || not lines || workers ≡ false = or-left (epoch || not lines || workers) (restNotZero (b .memory)) (passed RecoveryStart b t 5) in
-    let upTo2 : epoch || not lines ≡ false = or-left (epoch || not lines) workers upTo3 in
-    (eqb-false _ _ (or-left epoch (not lines) upTo2), eqb-true _ _ (not-off lines (or-right epoch (not lines) upTo2)), or-right (epoch || not lines) workers upTo3, or-right (epoch || not lines || workers) (restNotZero (b .memory)) (passed RecoveryStart b t 5))
+started-header b t = header-passed (b .memory) (passed RecoveryStart b t 5)
 
--- What the rows' lengths are where a recovery start is taken on memory of `l` lines.
-started-lengths : (m k n l : ℕ) → not (eqb (m % 8) 0 && leb 16 m && leb m 4096) || not (eqb k m) || ltb n (m / 4 - 2) ≡ false → l ≡ m / 8 - 1 →
+-- What the lengths of rows that pass their test are, on memory of `l` lines.
+passed-lengths : (m k n l : ℕ) → not (eqb (m % 8) 0 && leb 16 m && leb m 4096) || not (eqb k m) || ltb n (m / 4 - 2) ≡ false → l ≡ m / 8 - 1 →
     (1 ≤ l) × (l ≤ 511) × (m ≡ rowWords l) × (k ≡ rowWords l) × (listWords l ≤ n)
-started-lengths m k n l e q =
+passed-lengths m k n l e q =
     let whole = eqb (m % 8) 0 in
     let low = leb 16 m in
     let high = leb m 4096 in
@@ -114,11 +120,10 @@ started-lengths m k n l e q =
       eqb-true (m % 8) 0 (and-left whole low two),
     )
 
--- A taken recovery start finds rows of the lengths that the header's L asks.
-pub started-rows : (b : Board) → Taken RecoveryStart b → Sizes (linesOf (b .memory)) b
-unfolding standsAt causes
-started-rows b t =
-    let z = started-lengths (length (b .memory)) (length (b .cache)) (length (b .entries)) (linesOf (b .memory)) (passed RecoveryStart b t 4) (started-header b t .1) in
+-- Rows and a header that pass their tests: the rows have the lengths that the header's L asks.
+pub rows-passed : (b : Board) → badRecoveryRows b ≡ false → badHeader (b .memory) ≡ false → Sizes (linesOf (b .memory)) b
+rows-passed b r h =
+    let z = passed-lengths (length (b .memory)) (length (b .cache)) (length (b .entries)) (linesOf (b .memory)) r (header-passed (b .memory) h .1) in
     record {
       limits = in-lines (linesOf (b .memory)) (z .0, z .1);
       memory = record { size = z .2 };
@@ -126,7 +131,12 @@ started-rows b t =
       entries = z .4;
     }
 
--- So it leaves them.
+-- So a taken recovery start finds them.
+pub started-rows : (b : Board) → Taken RecoveryStart b → Sizes (linesOf (b .memory)) b
+unfolding standsAt causes
+started-rows b t = rows-passed b (passed RecoveryStart b t 4) (passed RecoveryStart b t 5)
+
+-- And leaves them.
 pub started-sizes : (b : Board) → Taken RecoveryStart b → Sizes (linesOf (b .memory)) (effect RecoveryStart b)
 unfolding effect
 started-sizes b t =
