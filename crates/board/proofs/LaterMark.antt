@@ -7,15 +7,17 @@ use native.Mathlib.Omega.{arith}
 use lib.ListN.{replicate}
 use Rattle.line.specs.Line.{lineOf, withLine}
 use Rattle.line.specs.Cell.{fieldIndex, fieldOf, withField}
+use Rattle.board.specs.declared.Condition.the-variants.{Updating}
+use Rattle.board.specs.declared.Store.the-variants.{Record}
 use Rattle.board.specs.declared.Call.{Call}
 use Rattle.board.specs.declared.Call.the-variants.{RecoveryStart, Step, Update, RestartPoint, Advance, Request, WriteBack, Read}
 use Rattle.board.specs.Board.{Board, cells, epochOf}
-use Rattle.board.specs.State.{anyUnder}
+use Rattle.board.specs.State.{conditionOf, anyUnder}
 use Rattle.board.specs.Causes.{badRecord, causes, firstStanding, cause}
-use Rattle.board.specs.Effects.{logged, recoveryStep, actAt, performAct, step, advance, advanceOf, effect}
-use Rattle.board.specs.Next.{taken, next, valueRead, valueOf}
-use Rattle.board.specs.Machine.{changed, countUnder, fewer, advanced, checkpointStep, stepped, writeBackSeen, feed}
-use Rattle.board.specs.Sequence.{Run, undoSteps, recoverySteps}
+use Rattle.board.specs.Effects.{recoveryStep, actAt, performAct, step, advance, advanceOf, effect}
+use Rattle.board.specs.Next.{Taken, taken, next, valueRead, valueOf}
+use Rattle.board.specs.Machine.{update, changed, countUnder, fewer, advanced, checkpointStep, stepped, writeBackSeen, feed}
+use Rattle.board.specs.Sequence.{Run, takenCall, undoSteps, recoverySteps}
 use Rattle.board.specs.Statements.{ReadsCheckpointed}
 use Rattle.board.specs.LaterMark.{Leads, nothing, onward, unguarded, LaterMark}
 use Rattle.board.specs.Bench.{blank, afterCalls}
@@ -34,12 +36,12 @@ toCheckpoint = Step ∷ Step ∷ Request ∷ RestartPoint 0 4 ∷ Advance 0 ∷ 
 later : Run
 later = madeAll toCheckpoint (unguarded swapped)
 
--- An update of cell 1 has one store, its record's; its line goes out.
-toUpdate : List Call
-toUpdate = Update 0 1 9 ∷ Advance 0 ∷ WriteBack 1 ∷ []
+-- An update of cell 1 to 9 has one store, its record's; its line goes out.
+started : Run
+started = takenCall (Update 0 1 9) (next (Update 0 1 9) (later .board)) later
 
 run : Run
-run = madeAll toUpdate later
+run = madeAll (Advance 0 ∷ WriteBack 1 ∷ []) started
 
 -- The recovery after it restores the module's old backup.
 left : Board
@@ -48,16 +50,16 @@ left = afterCalls (replicate 4 Step) (next RecoveryStart (run .board))
 leads : (r : Run) (ks : List Call) → r .crashed ≡ false → Leads r (madeAll ks r)
 leads r ks d = calls-carry (Leads r) (λ q q′ h e. onward h e) ks r d nothing
 
-seen-later : (later .crashed ≡ false) × (epochOf (later .board .memory) ≡ 6) × (later .machine .marked 1 ≡ false) × (logged (later .board .cache) 1 ≡ true)
+seen-later : (epochOf (later .board .memory) ≡ 6) × Taken (Update 0 1 9) (later .board) × (feed (Update 0 1 9) (later .machine) .unfinished 0 ≡ update 1 9 3) × (conditionOf (next (Update 0 1 9) (later .board) .state) 0 ≡ Updating Record 1 9)
 unfolding later toCheckpoint swapped made madeAll next cause causes firstStanding badRecord anyUnder effect step recoveryStep actAt performAct advance advanceOf lineOf withLine fieldIndex fieldOf withField feed changed countUnder fewer advanced checkpointStep stepped
 seen-later = (refl, refl, refl, refl)
 
-seen-run : (taken RecoveryStart (run .board) && takesTest 4 (replicate 4 Step) (next RecoveryStart (run .board)) ≡ true) × (recoverySteps (run .board .memory) ≡ 4) × (run .machine .checkpointed 1 ≡ 7)
-unfolding run toUpdate later toCheckpoint swapped made madeAll takesTest byKind undoSteps next cause causes firstStanding badRecord anyUnder effect step recoveryStep actAt performAct advance advanceOf lineOf withLine fieldIndex fieldOf withField feed changed countUnder fewer advanced checkpointStep stepped writeBackSeen
-seen-run = (refl, refl, refl)
+seen-run : (started .crashed ≡ false) × (taken RecoveryStart (run .board) && takesTest 4 (replicate 4 Step) (next RecoveryStart (run .board)) ≡ true) × (recoverySteps (run .board .memory) ≡ 4) × (run .machine .checkpointed 1 ≡ 7)
+unfolding run started later toCheckpoint swapped made madeAll takesTest byKind undoSteps next cause causes firstStanding badRecord anyUnder effect step recoveryStep actAt performAct advance advanceOf lineOf withLine fieldIndex fieldOf withField feed changed countUnder fewer advanced checkpointStep stepped writeBackSeen
+seen-run = (refl, refl, refl, refl)
 
 seen-left : (left .state .lines ≡ 1) × (cause (Read 1) left ≡ 0) × (valueOf (Read 1) left ≡ 3)
-unfolding left run toUpdate later toCheckpoint swapped made madeAll afterCalls valueOf valueRead next cause causes firstStanding badRecord anyUnder effect step recoveryStep actAt performAct advance advanceOf lineOf withLine fieldIndex fieldOf withField feed changed countUnder fewer advanced checkpointStep stepped writeBackSeen
+unfolding left run started later toCheckpoint swapped made madeAll afterCalls valueOf valueRead next cause causes firstStanding badRecord anyUnder effect step recoveryStep actAt performAct advance advanceOf lineOf withLine fieldIndex fieldOf withField feed changed countUnder fewer advanced checkpointStep stepped writeBackSeen
 seen-left = (refl, refl, refl)
 
 refused : cause RecoveryStart swapped ≡ 14
@@ -66,22 +68,24 @@ refused = refl
 
 -- The checkpoint held 7 in cell 1; the recovery reads 3.
 pub later-mark : LaterMark
-unfolding left later run swapped
+unfolding left later started run swapped
 later-mark =
     record {
       board = swapped;
       refused = refused;
       later = later;
       led = leads (unguarded swapped) toCheckpoint refl;
-      checkpoint = seen-later .1;
+      checkpoint = seen-later .0;
       cell = 1;
-      unmarked = seen-later .2;
-      seenLogged = seen-later .3;
+      value = 9;
+      begun = seen-later .1;
+      due = seen-later .2;
+      unlogged = seen-later .3;
       run = run;
-      updated = leads later toUpdate (seen-later .0);
+      updated = leads started (Advance 0 ∷ WriteBack 1 ∷ []) (seen-run .0);
       left = left;
-      recovered = played-recovered run (replicate 4 Step) 4 (seen-run .0) (seen-run .1);
-      wrong = λ f. omega (arith, wrong-value f, seen-run .2);
+      recovered = played-recovered run (replicate 4 Step) 4 (seen-run .1) (seen-run .2);
+      wrong = λ f. omega (arith, wrong-value f, seen-run .3);
     }
   where
     wrong-value : ReadsCheckpointed (run .machine) left → 3 ≡ run .machine .checkpointed 1

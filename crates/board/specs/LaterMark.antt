@@ -1,13 +1,16 @@
 -- Document 02, ticket 4, the swapped module: what would go wrong on a memory that 14 turns down. `proofs/LaterMark.antt` proves it.
 use Prim.Native.Nat.{ℕ, _+_}
 use mathlib.Core.Path.{_≡_}
-use mathlib.Core.Bool.{Bool, true, false}
-use Rattle.board.specs.declared.Call.the-variants.{RecoveryStart}
+use Rattle.board.specs.declared.Condition.the-variants.{Updating}
+use Rattle.board.specs.declared.Store.the-variants.{Record}
+use Rattle.board.specs.declared.Call.the-variants.{RecoveryStart, Update}
 use Rattle.board.specs.Board.{Board, epochOf, linesOf}
+use Rattle.board.specs.State.{conditionOf}
 use Rattle.board.specs.Causes.{cause}
-use Rattle.board.specs.Effects.{logged, undo, effect}
-use Rattle.board.specs.Machine.{recoveryBeginning}
-use Rattle.board.specs.Sequence.{Run, opening, Happens}
+use Rattle.board.specs.Effects.{undo, effect}
+use Rattle.board.specs.Next.{Taken, next}
+use Rattle.board.specs.Machine.{update, recoveryBeginning, feed}
+use Rattle.board.specs.Sequence.{Run, opening, takenCall, Happens}
 use Rattle.board.specs.Statements.{ReadsCheckpointed, Recovered}
 
 -- `Leads r r′`: one thing after the other leads from run `r` to run `r′`.
@@ -28,13 +31,15 @@ pub record LaterMark : Type 0 where
   pub later : Run
   pub led : Leads (unguarded board) later
   pub checkpoint : epochOf (later .board .memory) ≡ epochOf (board .memory) + 1
-  -- a cell that the machine has not marked in the new epoch counts as logged on the board, so its update logs nothing
+  -- an update of a cell goes unlogged: the machine gives it three stores, the board its last one alone
   pub cell : ℕ
-  pub unmarked : later .machine .marked cell ≡ false
-  pub seenLogged : logged (later .board .cache) cell ≡ true
-  -- after an update of it a finished recovery does not read the last checkpoint
+  pub value : ℕ
+  pub begun : Taken (Update 0 cell value) (later .board)
+  pub due : feed (Update 0 cell value) (later .machine) .unfinished 0 ≡ update cell value 3
+  pub unlogged : conditionOf (next (Update 0 cell value) (later .board) .state) 0 ≡ Updating Record cell value
+  -- after it a finished recovery does not read the last checkpoint
   pub run : Run
-  pub updated : Leads later run
+  pub updated : Leads (takenCall (Update 0 cell value) (next (Update 0 cell value) (later .board)) later) run
   pub left : Board
   pub recovered : Recovered run left
   pub wrong : ReadsCheckpointed (run .machine) left → ⊥
