@@ -7,7 +7,7 @@ use native.Mathlib.Omega.{arith}
 use borrow.Author.Tests.{leb-false, eqb-true, eqb-false}
 use Rattle.board.specs.declared.Phase.{Phase}
 use Rattle.board.specs.declared.Phase.the-variants.{Off, Formatting, Recovering, Running}
-use Rattle.board.specs.declared.Call.the-variants.{FormatStart, RecoveryStart, Read}
+use Rattle.board.specs.declared.Call.the-variants.{FormatStart, RecoveryStart, Request, Read}
 use Rattle.board.specs.Board.{Board, cells, epochOf, linesOf, workersOf}
 use Rattle.board.specs.State.{isRunning, isFormatting}
 use Rattle.board.specs.Causes.{causes}
@@ -15,7 +15,7 @@ use Rattle.board.specs.Next.{Taken, next, valueOf}
 use Rattle.board.specs.Machine.{Machine, beginning, formatSteps}
 use Rattle.board.specs.Sequence.{Begins, formatted, recoveryStarted, Run, cutRun, cuts, History, begun, further, rose, lastCheckpoint, recoverySteps}
 use Rattle.board.specs.Statements
-use Rattle.board.specs.Statements.{Reads, ReadsCheckpointed, Recovery, CutAndRecovered, ReadAlike, Demand3, LastCheckpoint, RecoveredSizes, Completes, formatStepIn, Completion, stepsFrom, FormatEnds, RecoveryEnds, CheckpointEnds, AwayHoldsUpNone, GoesAndComes, RecoveryStarts, OwnMemory, HistoryBegins, HasRecovery, UpdateEnds, SingleStores, SpareWords, FormatSpare}
+use Rattle.board.specs.Statements.{Reads, ReadsCheckpointed, Recovery, CutAndRecovered, ReadAlike, Demand3, LastCheckpoint, RecoveredSizes, Completes, formatStepIn, Completion, stepsFrom, FormatEnds, RecoveryEnds, CheckpointEnds, AwayHoldsUpNone, GoesAndComes, RecoveryStarts, OwnMemory, RequestAnswers, HistoryBegins, HasRecovery, UpdateEnds, SingleStores, SpareWords, FormatSpare}
 use Rattle.board.proofs.Laws.Bools.{on, not-off}
 use Rattle.board.proofs.Invariant.{Inv}
 use Rattle.board.proofs.Laws.Taken.{standsAt, passed, performed-number, performed-value, performed-taken, performing}
@@ -24,6 +24,7 @@ use Rattle.board.proofs.Laws.Reading.{in-phase, read-current}
 use Rattle.board.proofs.Checkpoint.Run.{is-running}
 use Rattle.board.proofs.Keeps.Every.{carried, history-inv}
 use Rattle.board.proofs.Keeps.Away
+use Rattle.board.proofs.Keeps.Request as Requests
 use Rattle.board.proofs.Recovery.Finishes.{Done, recovers}
 use Rattle.board.proofs.Keeps.RecoveryStart.{recovery-kept}
 use Rattle.board.proofs.Recovery.Starts.{start-taken, start-answer}
@@ -175,6 +176,9 @@ recovery-starts r h e = start-taken r (history-inv r h) e
 
 pub own-memory : OwnMemory
 own-memory r h number value b p = performed-number RecoveryStart (r .board) p ∙ start-answer r (history-inv r h)
+
+pub request-answers : RequestAnswers
+request-answers r h d e off number value b p = performed-number Request (r .board) p ∙ Requests.request-answer r (history-inv r h) d e off
 
 pub update-ends : UpdateEnds
 update-ends r h = Updates.update-ends r (history-inv r h)

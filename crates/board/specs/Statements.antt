@@ -10,9 +10,9 @@ use Rattle.line.specs.Line.{lineStart}
 use Rattle.board.specs.declared.State.{State}
 use Rattle.board.specs.declared.Call.{Call}
 use Rattle.board.specs.declared.Condition.the-variants.{Free, Waiting, Away}
-use Rattle.board.specs.declared.Call.the-variants.{FormatStart, RecoveryStart, Step, Update, RestartPoint, Advance, Read, GoAway, ComeBack}
+use Rattle.board.specs.declared.Call.the-variants.{FormatStart, RecoveryStart, Step, Update, RestartPoint, Advance, Request, Read, GoAway, ComeBack}
 use Rattle.board.specs.declared.Phase.{Phase}
-use Rattle.board.specs.Board.{Board, cells, epochOf, linesOf, workersOf}
+use Rattle.board.specs.Board.{Board, cells, epochOf, linesOf, workersOf, lastEpoch}
 use Rattle.board.specs.State.{conditionOf, isFree, isWaiting, isFormatting, isRunning}
 use Rattle.board.specs.Effects.{undo, writtenBack}
 use Rattle.board.specs.Next.{Taken, next, Kind, startsFormat, startsRecovery, stepping, writing, other, reading, kind, isStep, Performed}
@@ -210,6 +210,12 @@ RecoveryStarts = (r : Run) → History r → r .erased ≡ false → Taken Recov
 -- 02, ticket 4: a board's own memory is never turned down by 14: after any history a recovery's start returns 0, or 5 where a format took its first step and none has finished since.
 abbrev pub OwnMemory : Type 0
 OwnMemory = (r : Run) → History r → (number value : ℕ) (b : Board) → Performed RecoveryStart (r .board) number value b → number ≡ cond (r .erased) 5 0
+
+-- A history may begin in epoch 2^64 − 1, and a checkpoint may lead to it: while no request stands, a running board takes a request, but turns it down by 11 where memory's epoch is that one.
+abbrev pub RequestAnswers : Type 0
+RequestAnswers =
+    (r : Run) → History r → r .crashed ≡ false → isRunning (r .board .state .phase) ≡ true → r .board .state .requested ≡ false →
+    (number value : ℕ) (b : Board) → Performed Request (r .board) number value b → number ≡ cond (eqb (epochOf (r .board .memory)) lastEpoch) 11 0
 
 -- There are both beginnings: where a format's start is taken there is a finished format, and where a recovery's is taken a history begins at once.
 abbrev pub HistoryBegins : Type 0

@@ -1,20 +1,22 @@
--- A taken request keeps the invariant.
+-- A taken request keeps the invariant; when one is taken.
 use Prim.Native.Nat.{ℕ}
-use mathlib.Core.Path.{_≡_, refl}
-use mathlib.Core.Bool.{false}
+use mathlib.Core.Path.{_≡_, refl, ap, _∙_}
+use mathlib.Core.Bool.{true, false, cond}
+use lib.Dec.{eqb}
 use native.Mathlib.Omega.{arith}
 use borrow.Author.Tests.{eqb-false}
 use Rattle.board.specs.declared.Phase.the-variants.{Running}
 use Rattle.board.specs.declared.Call.the-variants.{Request}
 use Rattle.board.specs.Board.{Board, epochOf, lastEpoch}
 use Rattle.board.specs.State.{isRunning, requesting}
-use Rattle.board.specs.Causes.{causes, epochSpent}
+use Rattle.board.specs.Causes.{causes, firstStanding, cause, epochSpent}
 use Rattle.board.specs.Effects.{stated, effect}
 use Rattle.board.specs.Machine.{Machine, startedRequest, feed}
 use Rattle.board.specs.Sequence.{Run}
-use Rattle.board.proofs.Laws.Bools.{clash, not-off}
+use Rattle.board.proofs.Laws.Bools.{clash, passedOver, not-off}
 use Rattle.board.proofs.Invariant.{Early, Stage, early, gap, late, RunningInv, Inv}
 use Rattle.board.proofs.Laws.Taken.{standsAt, passed, afterTaken}
+use Rattle.board.proofs.Laws.Reading.{running-passes}
 use Rattle.board.proofs.Checkpoint.Run.{is-running, running-run, inv-running}
 use Rattle.board.specs.Next.{Taken}
 
@@ -68,3 +70,15 @@ keeps-request r inv d t =
     inv-running (afterTaken Request r) (s .on) run
     (record { limits = inv .sizes .limits; memory = inv .sizes .memory; cache = inv .sizes .cache; entries = inv .sizes .entries })
     (inv .kept (s .on)) (running-request b (r .machine) off room (s .running))
+
+-- ---- when it is taken
+
+-- With no request standing cache and memory have one epoch, and it alone decides.
+pub request-answer : (r : Run) → Inv r → r .crashed ≡ false → isRunning (r .board .state .phase) ≡ true → r .board .state .requested ≡ false → cause Request (r .board) ≡ cond (eqb (epochOf (r .board .memory)) lastEpoch) 11 0
+unfolding cause causes firstStanding
+request-answer r inv d e off =
+    let b = r .board in
+    let on = is-running (b .state .phase) e in
+    let y = running-passes r inv d on in
+    passedOver _ 2 _ (y .phase) ∙ passedOver _ 3 _ (y .state) ∙ passedOver _ 4 _ (y .rows) ∙ passedOver (b .state .requested) 10 _ off
+    ∙ ap (λ (n : ℕ). cond (eqb n lastEpoch) 11 0) (unrequested-early off (running-run r inv d on .running .stage) .epochs)
