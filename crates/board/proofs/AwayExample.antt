@@ -1,28 +1,27 @@
 -- An inhabited example of 02's ticket 2: a checkpoint is completed while a worker is away; a second one is cut in the middle while all are.
-use Prim.Native.Nat.{ℕ, _<_}
-use mathlib.Core.Path.{_≡_, refl, sym, subst, _∙_}
+use Prim.Native.Nat.{ℕ}
+use mathlib.Core.Path.{_≡_, refl}
 use mathlib.Core.List.{List, [], _∷_}
-use mathlib.Core.Bool.{true, false, _&&_}
+use mathlib.Core.Bool.{false}
 use native.Mathlib.Omega.{arith}
-use lib.ListN.{length, replicate}
+use lib.ListN.{replicate}
 use Rattle.line.specs.Line.{lineOf, withLine}
 use Rattle.line.specs.Cell.{fieldIndex, fieldOf, withField}
 use Rattle.board.specs.declared.State.{State}
 use Rattle.board.specs.declared.Condition.the-variants.{Away}
 use Rattle.board.specs.declared.Phase.the-variants.{Running}
 use Rattle.board.specs.declared.Call.{Call}
-use Rattle.board.specs.declared.Call.the-variants.{FormatStart, RecoveryStart, Step, Update, RestartPoint, Advance, Request, Read, GoAway, ComeBack}
-use Rattle.board.specs.Board.{Board, cells}
+use Rattle.board.specs.declared.Call.the-variants.{FormatStart, Step, Update, RestartPoint, Advance, Request, Read, GoAway, ComeBack}
+use Rattle.board.specs.Board.{Board, linesOf}
 use Rattle.board.specs.State.{conditionOf, anyUnder, started}
 use Rattle.board.specs.Causes.{badRecord, causes, firstStanding, cause}
 use Rattle.board.specs.Effects.{formatStep, recoveryStep, actAt, performAct, step, advance, advanceOf, effect}
-use Rattle.board.specs.Next.{taken, next, Performed}
+use Rattle.board.specs.Next.{next, Performed}
 use Rattle.board.specs.Machine.{beginning, changed, countUnder, fewer, advanced, checkpointStep, stepped, feed}
-use Rattle.board.specs.Sequence.{Begins, formatted, Run, opening, cutBoard, History, begun, undoSteps, recoverySteps}
-use Rattle.board.specs.Statements.{CutAndRecovered}
+use Rattle.board.specs.Sequence.{Begins, formatted, Run, opening, History, begun, undoSteps}
 use Rattle.board.specs.Bench.{blankFor, afterCalls}
 use Rattle.board.proofs.Laws.Taken.{performing}
-use Rattle.board.proofs.Laws.Playing.{made, madeAll, calls-history, byKind, takesTest, tested, cut-recovered}
+use Rattle.board.proofs.Laws.Playing.{made, madeAll, calls-history, byKind, takesTest, tested}
 use Rattle.board.proofs.PlayedReads.{cutAndPlayed, PlayedRecovery, played-reads}
 
 -- The board as the format (2, 2) left it.
@@ -93,8 +92,8 @@ unfolding takesTest byKind undoSteps recoveryCalls run midway first second garba
 run-takes = record { lengths = (refl, refl); test = refl; count = refl }
 
 -- What the machine held at the last completed checkpoint: 7 in cell 2.
-run-values : (recoveredBoard .state .lines ≡ 2) × (run .machine .checkpointed 2 ≡ 7)
-unfolding recoveredBoard recoveryCalls run midway first second garbage cutCache cutList fresh made madeAll afterCalls next cause causes firstStanding badRecord anyUnder effect step formatStep recoveryStep actAt performAct advance advanceOf lineOf withLine fieldIndex fieldOf withField feed changed countUnder fewer advanced checkpointStep stepped
+run-values : (linesOf (run .board .memory) ≡ 2) × (run .machine .checkpointed 2 ≡ 7)
+unfolding run midway first second fresh made madeAll afterCalls next cause causes firstStanding badRecord anyUnder effect step formatStep actAt performAct advance advanceOf lineOf withLine fieldIndex fieldOf withField feed changed countUnder fewer advanced checkpointStep stepped
 run-values = (refl, refl)
 
 -- "What a cut brings back is still the last checkpoint, whoever was away": a read of cell 2 returns 0 and gives 7.

@@ -1,28 +1,26 @@
 -- An inhabited example: a history with a cut in the middle of a checkpoint, pages of it taken and refused, and a recovery with write-backs and a refused call among its steps.
-use Prim.Native.Nat.{ℕ, _<_}
-use mathlib.Core.Path.{_≡_, refl, sym, subst, _∙_}
+use Prim.Native.Nat.{ℕ}
+use mathlib.Core.Path.{_≡_, refl}
 use mathlib.Core.List.{List, [], _∷_}
-use mathlib.Core.Bool.{true, _&&_}
 use native.Mathlib.Omega.{arith}
-use lib.ListN.{length, replicate}
+use lib.ListN.{replicate}
 use Rattle.line.specs.Line.{lineOf, withLine}
 use Rattle.line.specs.Cell.{fieldIndex, fieldOf, withField}
 use Rattle.board.specs.declared.State.{State}
 use Rattle.board.specs.declared.Phase.the-variants.{Running}
 use Rattle.board.specs.declared.Call.{Call}
-use Rattle.board.specs.declared.Call.the-variants.{FormatStart, RecoveryStart, Step, Update, RestartPoint, Advance, Request, WriteBack, Read}
-use Rattle.board.specs.Board.{Board, cells}
+use Rattle.board.specs.declared.Call.the-variants.{FormatStart, Step, Update, RestartPoint, Advance, Request, WriteBack, Read}
+use Rattle.board.specs.Board.{Board, linesOf}
 use Rattle.board.specs.State.{anyUnder, started}
 use Rattle.board.specs.Causes.{badRecord, causes, firstStanding, cause}
 use Rattle.board.specs.Effects.{formatStep, recoveryStep, actAt, performAct, step, advance, advanceOf, effect}
-use Rattle.board.specs.Next.{taken, next, Performed}
+use Rattle.board.specs.Next.{next, Performed}
 use Rattle.board.specs.Page.{pageCauses, pageCause, pageLeft}
 use Rattle.board.specs.Machine.{beginning, changed, countUnder, fewer, advanced, checkpointStep, stepped, writeBackSeen, feed}
-use Rattle.board.specs.Sequence.{Begins, formatted, Run, opening, cutBoard, pages, History, begun, further, undoSteps, recoverySteps}
-use Rattle.board.specs.Statements.{CutAndRecovered}
+use Rattle.board.specs.Sequence.{Begins, formatted, Run, opening, pages, History, begun, further, undoSteps}
 use Rattle.board.specs.Bench.{blankFor, afterCalls}
 use Rattle.board.proofs.Laws.Taken.{performing}
-use Rattle.board.proofs.Laws.Playing.{made, madeAll, calls-history, byKind, takesTest, tested, cut-recovered}
+use Rattle.board.proofs.Laws.Playing.{made, madeAll, calls-history, byKind, takesTest, tested}
 use Rattle.board.proofs.PlayedReads.{cutAndPlayed, PlayedRecovery, played-reads}
 
 -- ---- the history
@@ -88,8 +86,8 @@ unfolding takesTest byKind undoSteps recoveryCalls run calls garbage cutCache cu
 run-takes = record { lengths = (refl, refl); test = refl; count = refl }
 
 -- What the machine held at the last completed checkpoint: 7 in cell 1, on a board of one line.
-run-values : (recoveredBoard .state .lines ≡ 1) × (run .machine .checkpointed 1 ≡ 7)
-unfolding recoveredBoard recoveryCalls run calls garbage cutCache cutList fresh made madeAll afterCalls next cause causes firstStanding badRecord anyUnder effect step formatStep recoveryStep actAt performAct advance advanceOf lineOf withLine fieldIndex fieldOf withField feed changed countUnder fewer advanced checkpointStep stepped writeBackSeen
+run-values : (linesOf (run .board .memory) ≡ 1) × (run .machine .checkpointed 1 ≡ 7)
+unfolding run calls fresh made madeAll afterCalls next cause causes firstStanding badRecord anyUnder effect step formatStep actAt performAct advance advanceOf lineOf withLine fieldIndex fieldOf withField feed changed countUnder fewer advanced checkpointStep stepped writeBackSeen
 run-values = (refl, refl)
 
 -- A read of cell 1 then returns 0 and gives 7.

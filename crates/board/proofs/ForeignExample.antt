@@ -1,27 +1,24 @@
 -- An inhabited example of 02's ticket 4: a memory that no call of ours wrote, taken, worked on, cut and recovered.
-use Prim.Native.Nat.{ℕ, _<_}
-use mathlib.Core.Path.{_≡_, refl, sym, subst, _∙_}
+use Prim.Native.Nat.{ℕ}
+use mathlib.Core.Path.{_≡_, refl}
 use mathlib.Core.List.{List, [], _∷_}
-use mathlib.Core.Bool.{true, false, _&&_}
 use native.Mathlib.Omega.{arith}
-use lib.ListN.{length, getD, replicate}
+use lib.ListN.{getD, replicate}
 use Rattle.line.specs.Line.{lineOf, withLine}
 use Rattle.line.specs.Cell.{fieldIndex, fieldOf, withField}
 use Rattle.board.specs.declared.State.{State}
 use Rattle.board.specs.declared.Phase.the-variants.{Running}
 use Rattle.board.specs.declared.Call.{Call}
 use Rattle.board.specs.declared.Call.the-variants.{RecoveryStart, Step, Update, RestartPoint, Advance, Request, WriteBack, Read}
-use Rattle.board.specs.Board.{Board, cells, linesOf}
+use Rattle.board.specs.Board.{Board, linesOf}
 use Rattle.board.specs.State.{anyUnder, started}
 use Rattle.board.specs.Causes.{badRecord, causes, firstStanding, cause}
 use Rattle.board.specs.Effects.{undo, recoveryStep, actAt, performAct, step, advance, advanceOf, effect}
-use Rattle.board.specs.Next.{taken, next, Performed}
+use Rattle.board.specs.Next.{next, Performed}
 use Rattle.board.specs.Machine.{Machine, recoveryBeginning, changed, countUnder, fewer, advanced, checkpointStep, stepped, writeBackSeen, feed}
-use Rattle.board.specs.Sequence.{Begins, recoveryStarted, Run, opening, cutBoard, History, begun, undoSteps, recoverySteps}
-use Rattle.board.specs.Statements.{CutAndRecovered}
-use Rattle.board.specs.Bench.{afterCalls}
+use Rattle.board.specs.Sequence.{Begins, recoveryStarted, Run, opening, History, begun, undoSteps}
 use Rattle.board.proofs.Laws.Taken.{performing}
-use Rattle.board.proofs.Laws.Playing.{made, madeAll, calls-history, byKind, takesTest, cut-recovered}
+use Rattle.board.proofs.Laws.Playing.{made, madeAll, calls-history, byKind, takesTest}
 use Rattle.board.proofs.PlayedReads.{cutAndPlayed, PlayedRecovery, played-reads}
 
 -- ---- the module
@@ -69,8 +66,8 @@ cut-takes : PlayedRecovery cutShort garbage anyCache anyList (replicate 4 Step) 
 unfolding cutShort start machine foreign garbage anyCache anyList made madeAll takesTest byKind undoSteps next cause causes firstStanding badRecord anyUnder effect step recoveryStep lineOf withLine fieldIndex fieldOf withField feed stepped writeBackSeen
 cut-takes = record { lengths = (refl, refl); test = refl; count = refl }
 
-cut-values : (again .state .lines ≡ 1) × (cutShort .machine .checkpointed 1 ≡ 6)
-unfolding again cutShort start machine foreign garbage anyCache anyList made madeAll afterCalls next cause causes firstStanding badRecord anyUnder effect step recoveryStep lineOf withLine fieldIndex fieldOf withField feed stepped writeBackSeen
+cut-values : (linesOf (cutShort .board .memory) ≡ 1) × (cutShort .machine .checkpointed 1 ≡ 6)
+unfolding cutShort start machine foreign anyCache anyList made madeAll next cause causes firstStanding badRecord anyUnder effect step recoveryStep lineOf withLine fieldIndex fieldOf withField feed stepped writeBackSeen
 cut-values = (refl, refl)
 
 -- A read of cell 1 then returns 0 and gives 6, what undoing the module gives.
@@ -101,16 +98,12 @@ worked-takes : PlayedRecovery worked garbage anyCache anyList (replicate 4 Step)
 unfolding worked calls start machine foreign garbage anyCache anyList made madeAll takesTest byKind undoSteps next cause causes firstStanding badRecord anyUnder effect step recoveryStep actAt performAct advance advanceOf lineOf withLine fieldIndex fieldOf withField feed changed countUnder fewer advanced checkpointStep stepped writeBackSeen
 worked-takes = record { lengths = (refl, refl); test = refl; count = refl }
 
-worked-values : (recovered .state .lines ≡ 1) × (worked .machine .checkpointed 1 ≡ 9)
-unfolding recovered worked calls start machine foreign garbage anyCache anyList made madeAll afterCalls next cause causes firstStanding badRecord anyUnder effect step recoveryStep actAt performAct advance advanceOf lineOf withLine fieldIndex fieldOf withField feed changed countUnder fewer advanced checkpointStep stepped writeBackSeen
-worked-values = (refl, refl)
+-- At the cut 9 is checkpointed in cell 1, and words 6 and 7 of the module are still 77 and 88.
+pub worked-values : (linesOf (worked .board .memory) ≡ 1) × (worked .machine .checkpointed 1 ≡ 9) × (getD (worked .board .memory) 14 0 ≡ 77) × (getD (worked .board .memory) 15 0 ≡ 88)
+unfolding worked calls start machine foreign anyCache anyList made madeAll next cause causes firstStanding badRecord anyUnder effect step recoveryStep actAt performAct advance advanceOf lineOf withLine fieldIndex fieldOf withField feed changed countUnder fewer advanced checkpointStep stepped writeBackSeen
+worked-values = (refl, refl, refl, refl)
 
 -- A read of cell 1 then returns 0 and gives 9, the value of the last checkpoint.
 pub reads-nine : (number value : ℕ) (b : Board) → Performed (Read 1) recovered number value b → (number ≡ 0) × (value ≡ 9)
 unfolding recovered
 reads-nine = played-reads worked worked-history garbage anyCache anyList (replicate 4 Step) 4 worked-takes 1 9 (omega (arith, worked-values .0)) (worked-values .1)
-
--- Words 6 and 7 of the module are then still 77 and 88.
-pub spare-stays : (getD (recovered .memory) 14 0 ≡ 77) × (getD (recovered .memory) 15 0 ≡ 88)
-unfolding recovered worked calls start machine foreign garbage anyCache anyList made madeAll afterCalls next cause causes firstStanding badRecord anyUnder effect step recoveryStep actAt performAct advance advanceOf lineOf withLine fieldIndex fieldOf withField feed changed countUnder fewer advanced checkpointStep stepped writeBackSeen
-spare-stays = (refl, refl)

@@ -1,7 +1,6 @@
 -- A finished format, with refused calls among its steps, is where the invariant begins to hold.
 use Prim.Native.Nat.{ℕ, suc, _+_}
 use mathlib.Core.Path.{_≡_, refl, sym, ap, subst, _∙_}
-use mathlib.Core.List.{List}
 use mathlib.Core.Bool.{false, not, _||_, true≢false}
 use native.Mathlib.Omega.{arith}
 use native.Mathlib.Decide.{decLe}

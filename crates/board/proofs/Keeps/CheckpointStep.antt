@@ -15,7 +15,7 @@ use Rattle.board.specs.declared.Call.the-variants.{Step}
 use Rattle.board.specs.Board.{Board, cells, epochOf}
 use Rattle.board.specs.State.{conditionOf, quiescent, afterRelease, placed, released}
 use Rattle.board.specs.Effects.{writtenBack, cached, stated, Act, writeLine, storeEpoch, writeHeader, release, actAt, performAct}
-use Rattle.board.specs.Machine.{Unfinished, none, update, Machine, counted, completed, dropped, checkpointStep}
+use Rattle.board.specs.Machine.{Unfinished, Machine, counted, completed, dropped, checkpointStep}
 use Rattle.board.specs.Sequence.{Run}
 use Rattle.board.proofs.Laws.Bools.{chosen}
 use Rattle.board.proofs.Laws.View.{View, view, Sized, cell-line, view-backed, view-header}

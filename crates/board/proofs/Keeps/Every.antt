@@ -11,7 +11,7 @@ use Rattle.board.specs.declared.Call.the-variants.{FormatStart, Recovery
 use Rattle.board.specs.Board.{Board}
 use Rattle.board.specs.State.{isOff, isFormatting}
 use Rattle.board.specs.Effects.{effect}
-use Rattle.board.specs.Next.{Taken, taken, kind, isStart, isStep}
+use Rattle.board.specs.Next.{Taken, kind, isStart, isStep}
 use Rattle.board.specs.Causes.{causes}
 use Rattle.board.specs.Machine.{feed}
 use Rattle.board.specs.Sequence.{Run, takenCall, unfed, Happens, performs, pages, cuts, History, begun, further}

@@ -24,7 +24,6 @@ use Rattle.board.proofs.Invariant.{FormatMachine, InPhase, Inv}
 use Rattle.board.proofs.Laws.Taken.{afterTaken}
 use Rattle.board.proofs.Checkpoint.Run.{Carried}
 use Rattle.board.proofs.Format.Board.{Formats, Erased, Fresh, erasing, erasing-step, format-erases, finishing, finishing-step, format-finishes}
-use Rattle.board.specs.Next.{Taken}
 
 -- ---- the machine
 

@@ -14,7 +14,6 @@ use Rattle.line.specs.declared.Field.{Field}
 use Rattle.line.specs.Line.{lineStart}
 use Rattle.line.specs.Cell.{withField}
 use Rattle.line.proofs.Laws.{length-withField, header-withField, spare-withField}
-use Rattle.board.specs.declared.State.{State}
 use Rattle.board.specs.declared.Condition.{Condition}
 use Rattle.board.specs.declared.Condition.the-variants.{Free, Waiting, Updating, Away}
 use Rattle.board.specs.declared.Phase.{Phase}

@@ -1,5 +1,5 @@
 -- A taken step of a recovery keeps the invariant; the last one leaves a running board.
-use Prim.Native.Nat.{ℕ, zero, suc, _+_, _<_}
+use Prim.Native.Nat.{ℕ, _+_, _<_}
 use mathlib.Core.Path.{_≡_, refl, sym, ap, subst, _∙_}
 use mathlib.Core.Logic.{inl}
 use mathlib.Core.List.{List}
@@ -20,7 +20,7 @@ use Rattle.board.specs.declared.Call.the-variants.{Step}
 use Rattle.board.specs.Board.{Board, cells, epochOf}
 use Rattle.board.specs.State.{placed, opened}
 use Rattle.board.specs.Effects.{writtenBack, logged, restored, unmarked, pastCell, effect}
-use Rattle.board.specs.Machine.{Machine, countUnder, counted, stepped, feed}
+use Rattle.board.specs.Machine.{Machine, counted, stepped, feed}
 use Rattle.board.specs.Sequence.{Run, erasedBy}
 use Rattle.board.proofs.Laws.Bools.{passedOver, clash, and-off}
 use Rattle.board.proofs.Laws.View.{View, view, view-mark, view-backup, view-store, view-backed, cell-line}
@@ -32,7 +32,6 @@ use Rattle.board.proofs.Laws.Rows.{epoch-back-other, spare-back, own-sa
 use Rattle.board.specs.Statements.{Unchanged}
 use Rattle.board.proofs.Checkpoint.Run.{Carried, quiet}
 use Rattle.board.proofs.Recovery.Rows.{whole-epoch, whole-kept, Restoring, restoring-own, restoring-store, restoring-back, restoring-past}
-use Rattle.board.specs.Next.{Taken}
 
 -- ---- the machine
 

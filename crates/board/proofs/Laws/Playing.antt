@@ -5,14 +5,13 @@ use mathlib.Core.List.{List, [], _∷_}
 use mathlib.Core.Bool.{Bool, true, false, cond, not, _&&_, _||_, false≢true}
 use lib.Dec.{eqb}
 use borrow.Author.Tests.{eqb-true, eqb-false}
-use Rattle.board.specs.declared.State.{State}
 use Rattle.board.specs.declared.Call.{Call}
 use Rattle.board.specs.declared.Call.the-variants.{RecoveryStart, Step}
 use Rattle.board.specs.Board.{Board}
 use Rattle.board.specs.Causes.{cause}
 use Rattle.board.specs.Next.{Taken, taken, next, Kind, startsFormat, startsRecovery, stepping, writing, other, reading, kind, isStart, isStep, valueOf, Performed}
-use Rattle.board.specs.Sequence.{Takes, finished, steps, between, Run, takenCall, unfed, called, cutBoard, cutRun, KeepsLengths, Happens, performs, History, further, recoverySteps}
-use Rattle.board.specs.Statements.{Recovered, CutAndRecovered}
+use Rattle.board.specs.Sequence.{Takes, finished, steps, between, Run, takenCall, unfed, called, Happens, performs, History, further, recoverySteps}
+use Rattle.board.specs.Statements.{Recovered}
 use Rattle.board.specs.Bench.{afterCalls}
 use Rattle.board.proofs.Laws.Bools.{on, split, chosen, passedOver, and-off, and-left, and-right}
 use Rattle.board.proofs.Laws.Taken.{of-kind, performing}
@@ -96,7 +95,7 @@ tested (suc n) (k ∷ ks) b e =
     refused-call : (k : Call) (b : Board) → Performed k b (cause k b) (valueOf k b) (next k b)
     refused-call k b = refl
 
--- ---- one more cut and a finished recovery
+-- ---- a finished recovery
 
 -- The recovery that is played is finished.
 pub played-recovered : (r : Run) (ks : List Call) (n : ℕ) → taken RecoveryStart (r .board) && takesTest n ks (next RecoveryStart (r .board)) ≡ true → recoverySteps (r .board .memory) ≡ n → Recovered r (afterCalls ks (next RecoveryStart (r .board)))
@@ -111,10 +110,3 @@ played-recovered r ks n test count =
       begun = performing RecoveryStart b (eqb-true (cause RecoveryStart b) 0 (and-left t u test)) refl refl;
       ended = subst (λ (k : ℕ). Takes k start (afterCalls ks start)) (sym count) (tested n ks start (and-right t u test));
     }
-
--- So is one after a cut.
-pub cut-recovered : (r : Run) (s : State) (cache entries : List ℕ) (ks : List Call) (n : ℕ) → KeepsLengths cache entries (r .board) →
-    taken RecoveryStart (cutBoard s cache entries (r .board)) && takesTest n ks (next RecoveryStart (cutBoard s cache entries (r .board))) ≡ true →
-    recoverySteps (r .board .memory) ≡ n → CutAndRecovered r (afterCalls ks (next RecoveryStart (cutBoard s cache entries (r .board))))
-cut-recovered r s cache entries ks n lengths test count =
-    record { state = s; cache = cache; entries = entries; lengths = lengths; recovered = played-recovered (cutRun s cache entries r) ks n test count }

@@ -1,19 +1,18 @@
 -- What stores and write-backs do to the header and to words 6 and 7 of the cell lines.
-use Prim.Native.Nat.{ℕ, zero, suc, _+_, _≤_, _<_}
-use mathlib.Core.Path.{_≡_, refl, sym, ap, subst, _∙_}
-use mathlib.Core.Logic.{_⊎_, inl, inr, ⊎-elim}
+use Prim.Native.Nat.{ℕ, _+_, _≤_, _<_}
+use mathlib.Core.Path.{_≡_, refl, sym, subst, _∙_}
 use mathlib.Core.List.{List}
-use mathlib.Core.Bool.{Bool, true, false, not, _&&_}
+use mathlib.Core.Bool.{Bool, false, not, _&&_}
 use native.Mathlib.Omega.{arith}
 use native.Mathlib.Decide.{ℕ-discrete}
 use lib.Dec.{eqb}
-use lib.ListN.{length, getD, set, length-set}
+use lib.ListN.{getD, set, length-set}
 use lib.Seq.{getD-set-same, getD-set-other}
 use Rattle.line.specs.declared.Field.{Field}
 use Rattle.line.specs.Line.{lineStart, lineOf, withLine}
 use Rattle.line.specs.Cell.{withField}
 use Rattle.line.proofs.Laws.{length-lineOf, getD-lineOf, getD-withLine-in, getD-withLine-out, header-withField, header-withLine, spare-withField}
-use Rattle.board.specs.Board.{Board, workersOutside, epochOf, linesOf, workersOf, restNotZero}
+use Rattle.board.specs.Board.{Board, workersOutside, epochOf}
 use Rattle.board.specs.Statements.{SameSpare}
 use Rattle.board.proofs.Laws.View.{Sized, line-in}
 use Rattle.board.proofs.Invariant.{Header, SameSizes, Own}

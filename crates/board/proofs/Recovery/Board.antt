@@ -6,7 +6,7 @@ use mathlib.Core.Bool.{true, false, not, _&&_, _||_}
 use native.Mathlib.Omega.{arith}
 use lib.Dec.{leb, ltb, eqb}
 use lib.ListN.{length}
-use borrow.Author.Tests.{ltb-true, ltb-false, leb-true, eqb-true, eqb-false, le-leb}
+use borrow.Author.Tests.{ltb-true, ltb-false, leb-true, eqb-true, eqb-false}
 use Rattle.line.specs.Cell.{cellLine}
 use Rattle.board.specs.declared.State.{State}
 use Rattle.board.specs.declared.Condition.the-variants.{Free}
@@ -19,7 +19,7 @@ use Rattle.board.specs.Board.{Board, cells, rowWords, listWords, linesOu
 use Rattle.board.specs.State.{allFree, conditionOf, placed, opened}
 use Rattle.board.specs.Effects.{cached, stated, backed, logged, restored, unmarked, pastCell, recoveryStep, step, effect}
 use Rattle.board.specs.Causes.{causes, badRecoveryRows, badHeader}
-use Rattle.board.proofs.Laws.Bools.{on, or-left, or-right, and-left, and-right, and-both, not-off, not-on}
+use Rattle.board.proofs.Laws.Bools.{on, or-left, or-right, and-left, and-right, not-off}
 use Rattle.board.proofs.Invariant.{Sizes}
 use Rattle.board.proofs.Laws.Workers.{free-condition}
 use Rattle.board.proofs.Laws.Taken.{standsAt, passed, lines-in, in-lines}

@@ -1,6 +1,6 @@
 -- A recovery can be started where rows, header and marks pass: so on any memory of a history that no format has begun to erase.
-use Prim.Native.Nat.{ℕ, _+_, _-_, _/_, _%_, _≤_, _<_}
-use mathlib.Core.Path.{_≡_, refl, sym, ap, subst, _∙_}
+use Prim.Native.Nat.{ℕ, _-_, _/_, _%_, _≤_, _<_}
+use mathlib.Core.Path.{_≡_, refl, sym, subst, _∙_}
 use mathlib.Core.List.{List}
 use mathlib.Core.Bool.{Bool, true, false, cond, not, _&&_, _||_}
 use native.Mathlib.Omega.{arith}
@@ -9,13 +9,12 @@ use lib.ListN.{length}
 use borrow.Author.Tests.{eq-eqb, ne-eqb, le-leb, le-ltb}
 use Rattle.line.specs.declared.Field.the-variants.{Mark}
 use Rattle.line.specs.Cell.{fieldOf}
-use Rattle.board.specs.declared.Call.{Call}
 use Rattle.board.specs.declared.Call.the-variants.{RecoveryStart}
 use Rattle.board.specs.Board.{Board, cells, epochOf, linesOf, workersOf, workersOutside, restNotZero}
 use Rattle.board.specs.Causes.{causes, firstStanding, cause, badRecoveryRows, badHeader}
 use Rattle.board.specs.Sequence.{Run}
 use Rattle.board.proofs.Laws.Bools.{split, chosen, passedOver, or-none, and-both, not-on}
-use Rattle.board.proofs.Invariant.{Inv, Kept, Header, Sizes}
+use Rattle.board.proofs.Invariant.{Inv, Header, Sizes}
 use Rattle.board.proofs.Laws.View.{view-mark}
 use Rattle.board.proofs.Laws.Taken.{Clear, take, lines-in, bounds-later}
 use Rattle.board.specs.Next.{Taken}

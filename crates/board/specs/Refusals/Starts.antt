@@ -82,11 +82,11 @@ recoveryHeader =
     ∷ gives 5 RecoveryStart (offWith 1 (set (headerWords 1 1 1) 7 1))
     ∷ []
 
--- Taken: 16 and 520 words with lists of 2 and 128 (`RecoveryTakes` has every size); W = 2L − 1; a longer list; in every phase over any record.
+-- Taken: 16 and 72 words with lists of 2 and 16 (`RecoveryTakes` has every size); W = 2L − 1; a longer list; in every phase over any record.
 abbrev pub recoveryTaken : List Case
 recoveryTaken =
     gives 0 RecoveryStart (offWith 1 (headerWords 1 1 1))
-    ∷ gives 0 RecoveryStart (offWith 64 (headerWords 1 64 8))
+    ∷ gives 0 RecoveryStart (offWith 8 (headerWords 1 8 8))
     ∷ gives 0 RecoveryStart (offWith 2 (headerWords (2 ^ 64 - 1) 2 3))
     ∷ gives 0 RecoveryStart (entered (replicate 9 0) (offWith 1 (headerWords 1 1 1)))
     ∷ givesOn 0 RecoveryStart anyRecord
@@ -104,12 +104,12 @@ recoveryBeforeMarks =
     ∷ gives 5 RecoveryStart (holding 10 2 (offWith 1 (set (headerWords 1 1 1) 7 1)))
     ∷ []
 
--- Cause 14: a mark one past the epoch, in the first cell and in the last, of 2 and of 128; 2^64 − 1 past 2^64 − 2; with a later epoch in the cache.
+-- Cause 14: a mark one past the epoch, in the first cell and in the last, of 2 and of 16; 2^64 − 1 past 2^64 − 2; with a later epoch in the cache.
 abbrev pub recoveryMarks : List Case
 recoveryMarks =
     gives 14 RecoveryStart (holding 10 2 (offWith 1 (headerWords 1 1 1)))
     ∷ gives 14 RecoveryStart (holding 13 6 (offWith 1 (headerWords 5 1 1)))
-    ∷ gives 14 RecoveryStart (holding 517 8 (offWith 64 (headerWords 7 64 8)))
+    ∷ gives 14 RecoveryStart (holding 69 8 (offWith 8 (headerWords 7 8 8)))
     ∷ gives 14 RecoveryStart (holding 13 (2 ^ 64 - 1) (offWith 1 (headerWords (2 ^ 64 - 2) 1 1)))
     ∷ gives 14 RecoveryStart (epoch 9 (holding 10 2 (offWith 1 (headerWords 1 1 1))))
     ∷ []
