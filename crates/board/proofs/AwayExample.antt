@@ -7,13 +7,11 @@ use native.Mathlib.Omega.{arith}
 use lib.ListN.{replicate}
 use Rattle.line.specs.Line.{lineOf, withLine}
 use Rattle.line.specs.Cell.{fieldIndex, fieldOf, withField}
-use Rattle.board.specs.declared.State.{State}
 use Rattle.board.specs.declared.Condition.the-variants.{Away}
-use Rattle.board.specs.declared.Phase.the-variants.{Running}
 use Rattle.board.specs.declared.Call.{Call}
 use Rattle.board.specs.declared.Call.the-variants.{FormatStart, Step, Update, RestartPoint, Advance, Request, Read, GoAway, ComeBack}
 use Rattle.board.specs.Board.{Board, linesOf}
-use Rattle.board.specs.State.{conditionOf, anyUnder, started}
+use Rattle.board.specs.State.{conditionOf, anyUnder}
 use Rattle.board.specs.Causes.{badRecord, causes, firstStanding, cause}
 use Rattle.board.specs.Effects.{formatStep, recoveryStep, actAt, performAct, step, advance, advanceOf, effect}
 use Rattle.board.specs.Next.{next, Performed}
@@ -22,7 +20,7 @@ use Rattle.board.specs.Sequence.{Begins, formatted, Run, opening, Histor
 use Rattle.board.specs.Bench.{blankFor, afterCalls}
 use Rattle.board.proofs.Laws.Taken.{performing}
 use Rattle.board.proofs.Laws.Playing.{made, madeAll, calls-history, byKind, takesTest, tested}
-use Rattle.board.proofs.PlayedReads.{cutAndPlayed, PlayedRecovery, played-reads}
+use Rattle.board.proofs.PlayedReads.{garbage, cutAndPlayed, PlayedRecovery, played-reads}
 
 -- The board as the format (2, 2) left it.
 fresh : Board
@@ -45,10 +43,7 @@ midway = madeAll first (opening fresh (beginning 2))
 pub run : Run
 run = madeAll second midway
 
--- What the cut leaves.
-garbage : State
-garbage = started Running 9 200
-
+-- What the cut leaves in cache and list.
 cutCache : List ℕ
 cutCache = replicate 24 77
 
@@ -88,7 +83,7 @@ run-seen = (refl, refl, refl)
 
 -- The recovery's start is taken, and then six steps.
 run-takes : PlayedRecovery run garbage cutCache cutList recoveryCalls 6
-unfolding takesTest byKind undoSteps recoveryCalls run midway first second garbage cutCache cutList fresh made madeAll afterCalls next cause causes firstStanding badRecord anyUnder effect step formatStep recoveryStep actAt performAct advance advanceOf lineOf withLine fieldIndex fieldOf withField feed changed countUnder fewer advanced checkpointStep stepped
+unfolding takesTest byKind undoSteps recoveryCalls run midway first second cutCache cutList fresh made madeAll afterCalls next cause causes firstStanding badRecord anyUnder effect step formatStep recoveryStep actAt performAct advance advanceOf lineOf withLine fieldIndex fieldOf withField feed changed countUnder fewer advanced checkpointStep stepped
 run-takes = record { lengths = (refl, refl); test = refl; count = refl }
 
 -- What the machine held at the last completed checkpoint: 7 in cell 2.

@@ -6,12 +6,10 @@ use native.Mathlib.Omega.{arith}
 use lib.ListN.{replicate}
 use Rattle.line.specs.Line.{lineOf, withLine}
 use Rattle.line.specs.Cell.{fieldIndex, fieldOf, withField}
-use Rattle.board.specs.declared.State.{State}
-use Rattle.board.specs.declared.Phase.the-variants.{Running}
 use Rattle.board.specs.declared.Call.{Call}
 use Rattle.board.specs.declared.Call.the-variants.{FormatStart, Step, Update, RestartPoint, Advance, Request, WriteBack, Read}
 use Rattle.board.specs.Board.{Board, linesOf}
-use Rattle.board.specs.State.{anyUnder, started}
+use Rattle.board.specs.State.{anyUnder}
 use Rattle.board.specs.Causes.{badRecord, causes, firstStanding, cause}
 use Rattle.board.specs.Effects.{formatStep, recoveryStep, actAt, performAct, step, advance, advanceOf, effect}
 use Rattle.board.specs.Next.{next, Performed}
@@ -21,7 +19,7 @@ use Rattle.board.specs.Sequence.{Begins, formatted, Run, opening, pages,
 use Rattle.board.specs.Bench.{blankFor, afterCalls}
 use Rattle.board.proofs.Laws.Taken.{performing}
 use Rattle.board.proofs.Laws.Playing.{made, madeAll, calls-history, byKind, takesTest, tested}
-use Rattle.board.proofs.PlayedReads.{cutAndPlayed, PlayedRecovery, played-reads}
+use Rattle.board.proofs.PlayedReads.{garbage, cutAndPlayed, PlayedRecovery, played-reads}
 
 -- ---- the history
 
@@ -41,10 +39,7 @@ calls =
 pub run : Run
 run = madeAll calls (opening fresh (beginning 1))
 
--- What the cut leaves: a running state record of no sense, and words of no meaning in cache and list.
-garbage : State
-garbage = started Running 9 200
-
+-- What the cut leaves beside a state record of no sense: words of no meaning in cache and list.
 cutCache : List ℕ
 cutCache = replicate 16 77
 
@@ -82,7 +77,7 @@ paged = (refl, refl)
 
 -- The recovery's start is taken, and then six steps, with two taken write-backs and a refused read among them.
 run-takes : PlayedRecovery run garbage cutCache cutList recoveryCalls 6
-unfolding takesTest byKind undoSteps recoveryCalls run calls garbage cutCache cutList fresh made madeAll afterCalls next cause causes firstStanding badRecord anyUnder effect step formatStep recoveryStep actAt performAct advance advanceOf lineOf withLine fieldIndex fieldOf withField feed changed countUnder fewer advanced checkpointStep stepped writeBackSeen
+unfolding takesTest byKind undoSteps recoveryCalls run calls cutCache cutList fresh made madeAll afterCalls next cause causes firstStanding badRecord anyUnder effect step formatStep recoveryStep actAt performAct advance advanceOf lineOf withLine fieldIndex fieldOf withField feed changed countUnder fewer advanced checkpointStep stepped writeBackSeen
 run-takes = record { lengths = (refl, refl); test = refl; count = refl }
 
 -- What the machine held at the last completed checkpoint: 7 in cell 1, on a board of one line.

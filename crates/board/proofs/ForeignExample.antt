@@ -6,12 +6,10 @@ use native.Mathlib.Omega.{arith}
 use lib.ListN.{getD, replicate}
 use Rattle.line.specs.Line.{lineOf, withLine}
 use Rattle.line.specs.Cell.{fieldIndex, fieldOf, withField}
-use Rattle.board.specs.declared.State.{State}
-use Rattle.board.specs.declared.Phase.the-variants.{Running}
 use Rattle.board.specs.declared.Call.{Call}
 use Rattle.board.specs.declared.Call.the-variants.{RecoveryStart, Step, Update, RestartPoint, Advance, Request, WriteBack, Read}
 use Rattle.board.specs.Board.{Board, linesOf}
-use Rattle.board.specs.State.{anyUnder, started}
+use Rattle.board.specs.State.{anyUnder}
 use Rattle.board.specs.Causes.{badRecord, causes, firstStanding, cause}
 use Rattle.board.specs.Effects.{undo, recoveryStep, actAt, performAct, step, advance, advanceOf, effect}
 use Rattle.board.specs.Next.{next, Performed}
@@ -19,14 +17,11 @@ use Rattle.board.specs.Machine.{Machine, recoveryBeginning, changed, cou
 use Rattle.board.specs.Sequence.{Begins, recoveryStarted, Run, opening, History, begun, undoSteps}
 use Rattle.board.proofs.Laws.Taken.{performing}
 use Rattle.board.proofs.Laws.Playing.{made, madeAll, calls-history, byKind, takesTest}
-use Rattle.board.proofs.PlayedReads.{cutAndPlayed, PlayedRecovery, played-reads}
+use Rattle.board.proofs.PlayedReads.{garbage, cutAndPlayed, PlayedRecovery, played-reads}
 
 -- ---- the module
 
--- What the start finds beside the memory, and what each cut leaves: a state record, a cache and a list of no sense.
-garbage : State
-garbage = started Running 9 200
-
+-- What the start finds beside the memory, and what each cut leaves, with a state record of no sense: words of no meaning in cache and list.
 anyCache : List ℕ
 anyCache = replicate 16 99
 
@@ -63,7 +58,7 @@ unfolding cutShort
 cut-history = calls-history (Step ∷ Step ∷ WriteBack 1 ∷ []) (opening start machine) refl (begun begins)
 
 cut-takes : PlayedRecovery cutShort garbage anyCache anyList (replicate 4 Step) 4
-unfolding cutShort start machine foreign garbage anyCache anyList made madeAll takesTest byKind undoSteps next cause causes firstStanding badRecord anyUnder effect step recoveryStep lineOf withLine fieldIndex fieldOf withField feed stepped writeBackSeen
+unfolding cutShort start machine foreign anyCache anyList made madeAll takesTest byKind undoSteps next cause causes firstStanding badRecord anyUnder effect step recoveryStep lineOf withLine fieldIndex fieldOf withField feed stepped writeBackSeen
 cut-takes = record { lengths = (refl, refl); test = refl; count = refl }
 
 cut-values : (linesOf (cutShort .board .memory) ≡ 1) × (cutShort .machine .checkpointed 1 ≡ 6)
@@ -95,7 +90,7 @@ unfolding worked
 worked-history = calls-history calls (opening start machine) refl (begun begins)
 
 worked-takes : PlayedRecovery worked garbage anyCache anyList (replicate 4 Step) 4
-unfolding worked calls start machine foreign garbage anyCache anyList made madeAll takesTest byKind undoSteps next cause causes firstStanding badRecord anyUnder effect step recoveryStep actAt performAct advance advanceOf lineOf withLine fieldIndex fieldOf withField feed changed countUnder fewer advanced checkpointStep stepped writeBackSeen
+unfolding worked calls start machine foreign anyCache anyList made madeAll takesTest byKind undoSteps next cause causes firstStanding badRecord anyUnder effect step recoveryStep actAt performAct advance advanceOf lineOf withLine fieldIndex fieldOf withField feed changed countUnder fewer advanced checkpointStep stepped writeBackSeen
 worked-takes = record { lengths = (refl, refl); test = refl; count = refl }
 
 -- At the cut 9 is checkpointed in cell 1, and words 6 and 7 of the module are still 77 and 88.

@@ -4,15 +4,21 @@ use mathlib.Core.Path.{_≡_, sym, subst, _∙_}
 use mathlib.Core.List.{List}
 use mathlib.Core.Bool.{true, _&&_}
 use Rattle.board.specs.declared.State.{State}
+use Rattle.board.specs.declared.Phase.the-variants.{Running}
 use Rattle.board.specs.declared.Call.{Call}
 use Rattle.board.specs.declared.Call.the-variants.{RecoveryStart, Read}
 use Rattle.board.specs.Board.{Board, cells, linesOf}
+use Rattle.board.specs.State.{started}
 use Rattle.board.specs.Next.{taken, next, Performed}
 use Rattle.board.specs.Sequence.{Run, cutBoard, cutRun, KeepsLengths, cuts, History, further, recoverySteps}
 use Rattle.board.specs.Statements.{CutAndRecovered}
 use Rattle.board.specs.Bench.{afterCalls}
 use Rattle.board.proofs.Laws.Playing.{takesTest, played-recovered}
 use Rattle.board.proofs.Theorems.{demand3, recovered-sizes}
+
+-- A state record of no sense, as a cut may leave it.
+abbrev pub garbage : State
+garbage = started Running 9 200
 
 -- The board after a cut and the calls of a recovery.
 abbrev pub cutAndPlayed : Run → State → List ℕ → List ℕ → List Call → Board

@@ -2,7 +2,7 @@
 use Prim.Native.Nat.{ℕ, _+_, _/_, _≤_, _<_}
 use mathlib.Core.Path.{_≡_, refl, sym, subst, _∙_}
 use mathlib.Core.List.{List}
-use mathlib.Core.Bool.{false, cond, not, _&&_}
+use mathlib.Core.Bool.{false, cond}
 use native.Mathlib.Omega.{arith}
 use native.Mathlib.Decide.{ℕ-discrete}
 use lib.Dec.{eqb}
@@ -15,6 +15,7 @@ use Rattle.board.specs.Board.{cells, workersOutside, epochOf, headerWord
 use Rattle.board.specs.Statements.{Spare}
 use Rattle.board.proofs.Laws.Bools.{on, chosen, passedOver}
 use Rattle.board.proofs.Laws.View.{View, view, Sized, line-in, sized-line, view-line-out, view-erased}
+use Rattle.board.proofs.Laws.Rows.{rest-zero}
 use Rattle.board.proofs.Invariant.{Undo, Undoes, Header, Kept, Zeroed}
 
 -- The view of an erased cell.
@@ -98,9 +99,6 @@ module _ {l : ℕ} (row : List ℕ) (w : ℕ) (z : Sized l row) where
         workers = subst (λ (v : ℕ). workersOutside l v ≡ false) (sym (word-header 2 (omega arith))) o;
         rest = rest-zero (word-header 3 (omega arith)) (word-header 4 (omega arith)) (word-header 5 (omega arith)) (word-header 6 (omega arith)) (word-header 7 (omega arith));
       }
-    where
-      rest-zero : {a b c d e : ℕ} → a ≡ 0 → b ≡ 0 → c ≡ 0 → d ≡ 0 → e ≡ 0 → not (eqb a 0 && eqb b 0 && eqb c 0 && eqb d 0 && eqb e 0) ≡ false
-      rest-zero p q r s t = λ i. not (eqb (p i) 0 && eqb (q i) 0 && eqb (r i) 0 && eqb (s i) 0 && eqb (t i) 0)
 
   module _ (f : Zeroed l (l + 1) row) where
     -- Every cell is zeros.

@@ -19,6 +19,10 @@ use Rattle.board.proofs.Invariant.{Header, SameSizes, Own}
 
 -- ---- the header
 
+-- Words 3 to 7 that are zero pass the header's test.
+pub rest-zero : {a b c d e : ℕ} → a ≡ 0 → b ≡ 0 → c ≡ 0 → d ≡ 0 → e ≡ 0 → not (eqb a 0 && eqb b 0 && eqb c 0 && eqb d 0 && eqb e 0) ≡ false
+rest-zero p q r s t = λ i. not (eqb (p i) 0 && eqb (q i) 0 && eqb (r i) 0 && eqb (s i) 0 && eqb (t i) 0)
+
 -- A header with the same sizes and another epoch.
 pub header-epoch : {l : ℕ} (row row′ : List ℕ) → SameSizes row row′ → 0 < epochOf row′ → Header l row → Header l row′
 header-epoch {l} row row′ same p h =

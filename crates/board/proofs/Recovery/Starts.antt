@@ -16,7 +16,7 @@ use Rattle.board.specs.Sequence.{Run}
 use Rattle.board.proofs.Laws.Bools.{split, chosen, passedOver, or-none, and-both, not-on}
 use Rattle.board.proofs.Invariant.{Inv, Header, Sizes}
 use Rattle.board.proofs.Laws.View.{view-mark}
-use Rattle.board.proofs.Laws.Taken.{Clear, take, lines-in, bounds-later}
+use Rattle.board.proofs.Laws.Taken.{lines-in, bounds-later}
 use Rattle.board.specs.Next.{Taken}
 
 -- The rows of a board pass recovery's test.
@@ -48,9 +48,9 @@ header-passes l b z h =
 
 -- A recovery's start is taken on rows of the right lengths with such a header and such marks.
 pub recoverable-taken : (l : ℕ) (b : Board) → Sizes l b → Header l (b .memory) → ((c : ℕ) → c < cells l → fieldOf (b .memory) c Mark ≤ epochOf (b .memory)) → Taken RecoveryStart b
-unfolding Clear causes
+unfolding cause causes firstStanding
 recoverable-taken l b z h bounded =
-    take RecoveryStart b (rows-pass l b z, (header-passes l b z h, (bounds-later _ (b .memory) (λ c p. omega (arith, bounded c (omega (arith, p, h .lines)))), tt)))
+    rw (rows-pass l b z, header-passes l b z h) (passedOver _ 14 0 (bounds-later _ (b .memory) (λ c p. omega (arith, bounded c (omega (arith, p, h .lines))))))
 
 -- After any history it is taken unless memory is being erased.
 pub start-taken : (r : Run) → Inv r → r .erased ≡ false → Taken RecoveryStart (r .board)
@@ -69,7 +69,7 @@ pub start-answer : (r : Run) → Inv r → cause RecoveryStart (r .board) ≡ co
 unfolding cause causes firstStanding
 start-answer r i =
     split (r .erased)
-    (λ e. passedOver (badRecoveryRows b) 4 _ (rows-pass (r .machine .lines) b (i .sizes)) ∙ chosen (badHeader (b .memory)) 5 _ (erased-header (b .memory) (i .lost e)) ∙ sym (chosen (r .erased) 5 0 e))
+    (λ e. rw (rows-pass (r .machine .lines) b (i .sizes), erased-header (b .memory) (i .lost e)) (sym (chosen (r .erased) 5 0 e)))
     (λ e. start-taken r i e ∙ sym (passedOver (r .erased) 5 0 e))
   where
     b : Board

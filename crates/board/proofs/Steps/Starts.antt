@@ -2,12 +2,12 @@
 use Prim.Native.Nat.{ℕ, _+_, _≤_, _<_}
 use mathlib.Core.Path.{_≡_, refl, sym, ap, subst}
 use mathlib.Core.List.{List}
-use mathlib.Core.Bool.{Bool, true, false, _&&_}
+use mathlib.Core.Bool.{Bool, false, _&&_}
 use native.Mathlib.Omega.{arith}
 use lib.Dec.{eqb}
 use lib.ListN.{getD}
 use native.Mathlib.Decide.{ℕ-discrete}
-use borrow.Author.Tests.{eqb-true, eq-eqb}
+use borrow.Author.Tests.{eqb-true}
 use Rattle.line.specs.declared.Field.the-variants.{Mark}
 use Rattle.line.specs.Line.{lineStart}
 use Rattle.line.specs.Cell.{cellLine, cellWord, fieldOffset, fieldIndex, fieldOf}
@@ -19,7 +19,8 @@ use Rattle.board.specs.State.{started}
 use Rattle.board.specs.Effects.{cached, effect}
 use Rattle.board.specs.Steps.{Begun, FormatBegins, RecoveryBegins, markWord, Recoverable, RecoveryTakes}
 use Rattle.board.specs.Next.{Taken}
-use Rattle.board.proofs.Laws.Bools.{and-left, and-right, and-both, not-off, not-on}
+use Rattle.board.proofs.Laws.Bools.{and-left, and-right, not-off}
+use Rattle.board.proofs.Laws.Rows as Rows
 use Rattle.board.proofs.Laws.Taken.{taken-next, lines-in, workers-in, in-lines, in-workers}
 use Rattle.board.proofs.Recovery.Board.{started-header, started-rows}
 use Rattle.board.proofs.Recovery.Starts.{recoverable-taken}
@@ -97,15 +98,7 @@ module _ (row : List ℕ) where
   -- Where each is zero the test passes.
   zero-rest : ((k : ℕ) → 3 ≤ k → k < 8 → getD row k 0 ≡ 0) → restNotZero row ≡ false
   zero-rest f =
-      not-on (zero 3 && zero 4 && zero 5 && zero 6 && zero 7)
-      (and-both (zero 3 && zero 4 && zero 5 && zero 6) (zero 7)
-      (and-both (zero 3 && zero 4 && zero 5) (zero 6)
-      (and-both (zero 3 && zero 4) (zero 5) (and-both (zero 3) (zero 4) (test 3 (omega arith) (omega arith)) (test 4 (omega arith) (omega arith))) (test 5 (omega arith) (omega arith)))
-      (test 6 (omega arith) (omega arith)))
-      (test 7 (omega arith) (omega arith)))
-    where
-      test : (k : ℕ) → 3 ≤ k → k < 8 → zero k ≡ true
-      test k a b = eq-eqb (getD row k 0) 0 (f k a b)
+      Rows.rest-zero (f 3 (omega arith) (omega arith)) (f 4 (omega arith) (omega arith)) (f 5 (omega arith) (omega arith)) (f 6 (omega arith) (omega arith)) (f 7 (omega arith) (omega arith))
 
 -- A taken recovery start finds a board that can be recovered.
 taken-recoverable : (b : Board) → Taken RecoveryStart b → Recoverable (linesOf (b .memory)) (workersOf (b .memory)) b
