@@ -1,10 +1,12 @@
 -- The invariant of every run that a history leads to.
-use Prim.Native.Nat.{ℕ, _+_, _≤_, _<_}
+use Prim.Native.Nat.{ℕ, suc, _+_, _*_, _≤_, _<_}
 use mathlib.Core.Path.{_≡_}
 use mathlib.Core.List.{List}
-use mathlib.Core.Bool.{true, false, cond}
+use mathlib.Core.Bool.{Bool, true, false, cond, _||_}
 use lib.Dec.{eqb}
 use lib.ListN.{length, getD}
+use Rattle.bitset.specs.Passing.{countUnder}
+use Rattle.bitset.specs.Words.{empty, contains}
 use Rattle.line.specs.Line.{lineStart}
 use Rattle.line.specs.Cell.{cellLine}
 use Rattle.board.specs.declared.State.{State}
@@ -16,9 +18,9 @@ use Rattle.board.specs.declared.UndoStep.{UndoStep}
 use Rattle.board.specs.declared.UndoStep.the-variants.{Restore, Unmark, WriteLine}
 use Rattle.board.specs.declared.Phase.{Phase}
 use Rattle.board.specs.declared.Phase.the-variants.{Off, Formatting, Recovering, Running}
-use Rattle.board.specs.Board.{Board, cells, listWords, linesOutside, workersOutside, epochOf, linesOf, workersOf, restNotZero, lastEpoch}
-use Rattle.board.specs.State.{allFree, conditionOf, quiescent}
-use Rattle.board.specs.Machine.{Unfinished, none, update, Machine, markedCount}
+use Rattle.board.specs.Board.{Board, cells, linesOutside, workersOutside, epochOf, linesOf, workersOf, restNotZero, lastEpoch}
+use Rattle.board.specs.State.{allFree, conditionOf, quiescent, dirtyCount}
+use Rattle.board.specs.Machine.{Unfinished, none, update, Machine}
 use Rattle.board.specs.Sequence.{Run}
 use Rattle.board.specs.Statements.{SameSpare}
 use Rattle.board.proofs.Laws.View.{View, view, Sized}
@@ -75,8 +77,6 @@ pub record Sizes (l : ℕ) (b : Board) : Type 0 where
   pub memory : Sized l (b .memory)
   -- so has the cache
   pub cache : Sized l (b .cache)
-  -- the list has room for every cell
-  pub entries : listWords l ≤ length (b .entries)
 
 -- ---- formatting
 
@@ -129,8 +129,8 @@ pub record RecoveryInv (l : ℕ) (xs : ℕ → ℕ) (b : Board) : Type 0 where
   pub lines : b .state .lines ≡ l
   -- its W is within the limits
   pub workers : workersOutside l (b .state .workers) ≡ false
-  -- the list is empty
-  pub listed : b .state .listed ≡ 0
+  -- no line is dirty
+  pub clean : b .state .dirty ≡ empty
   -- no checkpoint is requested
   pub request : b .state .requested ≡ false
   -- all workers are free
@@ -201,6 +201,19 @@ Touches (Updating next c v) d = c ≡ d
 abbrev pub progress : State → ℕ
 progress s = cond (s .requested) (s .place) 0
 
+-- How many dirty lines stand before line `l`: the place at which a checkpoint writes it.
+abbrev pub rank : State → ℕ → ℕ
+rank s l = countUnder l (contains (s .dirty))
+
+-- The dirty lines of a board of `l` lines are those with a marked cell.
+pub record Dirty (l : ℕ) (words : List ℕ) (marked : ℕ → Bool) : Type 0 where
+  -- the set has eight words
+  pub eight : length words ≡ 8
+  -- the bit of a cell line says whether one of its cells is marked
+  pub lines : (i : ℕ) → i < l → contains words (suc i) ≡ marked (2 * i) || marked (2 * i + 1)
+  -- there is no other bit
+  pub own : (i : ℕ) → contains words i ≡ true → (1 ≤ i) × (i ≤ l)
+
 -- Every worker under W waits or is away.
 abbrev pub AllQuiescent : State → Type 0
 AllQuiescent s = (w : ℕ) → w < s .workers → quiescent (conditionOf s w) ≡ true
@@ -217,12 +230,10 @@ pub record Early (l : ℕ) (b : Board) (m : Machine) : Type 0 where
   pub marks : (c : ℕ) → c < cells l → m .marked c ≡ eqb (view (b .cache) c .mark) (epochOf (b .memory))
   -- a cell not logged in this epoch has its record in memory
   pub clean : (c : ℕ) → c < cells l → (view (b .cache) c .mark ≡ epochOf (b .memory) → ⊥) → view (b .memory) c .value ≡ view (b .cache) c .value
-  -- a cell logged in this epoch is on the list
-  pub listing : (c : ℕ) → c < cells l → view (b .cache) c .mark ≡ epochOf (b .memory) → (i : ℕ) × (i < b .state .listed) × (getD (b .entries) i 0 ≡ c)
-  -- the list's cells before the checkpoint's place have their records in memory
-  pub written : (i : ℕ) → i < progress (b .state) → view (b .memory) (getD (b .entries) i 0) .value ≡ view (b .cache) (getD (b .entries) i 0) .value
-  -- the place is at most the list's length
-  pub within : progress (b .state) ≤ b .state .listed
+  -- of a dirty line that the checkpoint has passed, the cells have their records in memory
+  pub written : (c : ℕ) → c < cells l → contains (b .state .dirty) (cellLine c) ≡ true → rank (b .state) (cellLine c) < progress (b .state) → view (b .memory) c .value ≡ view (b .cache) c .value
+  -- the place is at most the number of dirty lines
+  pub within : progress (b .state) ≤ dirtyCount (b .state)
   -- once the first step is taken all workers wait or are away
   pub waiting : 0 < progress (b .state) → AllQuiescent (b .state)
   -- a requested checkpoint has an epoch to go to
@@ -233,7 +244,7 @@ pub record Gap (l : ℕ) (b : Board) : Type 0 where
   -- a request stands
   pub request : b .state .requested ≡ true
   -- the place is line 0's write-back
-  pub place : b .state .place ≡ b .state .listed + 1
+  pub place : b .state .place ≡ dirtyCount (b .state) + 1
   -- the cache is one epoch ahead of memory
   pub epochs : epochOf (b .cache) ≡ epochOf (b .memory) + 1
   -- every record is in memory
@@ -246,9 +257,9 @@ pub record Late (l : ℕ) (b : Board) (m : Machine) : Type 0 where
   -- a request stands
   pub request : b .state .requested ≡ true
   -- the epoch's store is behind
-  pub low : b .state .listed + 1 ≤ b .state .place
+  pub low : dirtyCount (b .state) + 1 ≤ b .state .place
   -- the release is not
-  pub high : b .state .place ≤ b .state .listed + 2
+  pub high : b .state .place ≤ dirtyCount (b .state) + 2
   -- cache and memory have one epoch
   pub epochs : epochOf (b .cache) ≡ epochOf (b .memory)
   -- every record is in memory
@@ -286,10 +297,8 @@ pub record RunningInv (l : ℕ) (b : Board) (m : Machine) : Type 0 where
   pub current : (c : ℕ) → c < cells l → view (b .cache) c .value ≡ m .current c
   -- words 6 and 7 are memory's
   pub spare : SameSpare l (b .memory) (b .cache)
-  -- the list is as long as there are marked cells, and names cells
-  pub count : b .state .listed ≡ markedCount m
-  -- the list names cells
-  pub listed : (i : ℕ) → i < b .state .listed → getD (b .entries) i 0 < cells l
+  -- the dirty lines are those with a marked cell
+  pub dirty : Dirty l (b .state .dirty) (m .marked)
   -- the machine has counted the steps to the place
   pub steps : b .state .requested ≡ true → m .steps ≡ b .state .place
   -- the checkpoint's stage

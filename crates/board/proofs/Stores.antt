@@ -16,7 +16,7 @@ use Rattle.board.specs.declared.Phase.the-variants.{Off, Formatting, Rec
 use Rattle.board.specs.declared.Call.{Call}
 use Rattle.board.specs.declared.Call.the-variants.{FormatStart, RecoveryStart, Step, Update, RestartPoint, Advance, Request, WriteBack, Read, GoAway, ComeBack}
 use Rattle.board.specs.Board.{Board, epochOf}
-use Rattle.board.specs.State.{placed, conditionOf, isFormatting}
+use Rattle.board.specs.State.{placed, conditionOf, isFormatting, dirtyCount}
 use Rattle.board.specs.Next.{kind}
 use Rattle.board.specs.Effects.{Act, writeLine, storeEpoch, writeHeader, release, cached, stated, logged, restored, pastCell, recoveryStep, actAt, listedLine, performAct, step, advance, advanceOf, effect}
 use Rattle.board.specs.Statements.{OneStore, noStore, oneWord, oneLine, several, SingleStores}
@@ -52,7 +52,7 @@ unfolding step
 step-stores Off s b e = noStore refl refl
 step-stores Formatting s b e = absurd (true≢false e)
 step-stores Recovering s b e = recovery-stores (s .undo) s b
-step-stores Running s b e = checkpoint-stores (actAt (s .listed) (s .place)) s b
+step-stores Running s b e = checkpoint-stores (actAt (dirtyCount s) (s .place)) s b
 
 -- An advance by its next store.
 advance-stores : (n : Store) (w c v : ℕ) (s : State) (b : Board) → OneStore b (advance n w c v s b)

@@ -9,7 +9,7 @@ use Rattle.board.specs.declared.Phase.{Phase}
 use Rattle.board.specs.declared.Phase.the-variants.{Off, Formatting, Recovering, Running}
 use Rattle.board.specs.declared.Call.the-variants.{FormatStart, RecoveryStart, Request, Read}
 use Rattle.board.specs.Board.{Board, cells, epochOf, linesOf, workersOf}
-use Rattle.board.specs.State.{isRunning, isFormatting}
+use Rattle.board.specs.State.{isRunning, isFormatting, dirtyCount}
 use Rattle.board.specs.Causes.{causes}
 use Rattle.board.specs.Next.{Taken, next, valueOf}
 use Rattle.board.specs.Machine.{Machine, beginning, formatSteps}
@@ -163,7 +163,7 @@ pub recovery-ends : RecoveryEnds
 recovery-ends = RecoverySteps.recovery-ends
 
 pub checkpoint-ends : CheckpointEnds
-checkpoint-ends r h d e on first wait = CheckpointSteps.checkpoint-ends r (history-inv r h) d e on wait (r .board .state .listed + 3) (omega arith) .0
+checkpoint-ends r h d e on first wait = CheckpointSteps.checkpoint-ends r (history-inv r h) d e on wait (dirtyCount (r .board .state) + 3) (omega arith) .0
 
 pub away-holds-up-none : AwayHoldsUpNone
 away-holds-up-none r h = CheckpointSteps.checkpoint-ends r (history-inv r h)

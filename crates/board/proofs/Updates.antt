@@ -15,7 +15,7 @@ use Rattle.board.specs.declared.Phase.the-variants.{Running}
 use Rattle.board.specs.declared.Call.{Call}
 use Rattle.board.specs.declared.Call.the-variants.{Update, RestartPoint, Advance, Read}
 use Rattle.board.specs.Board.{Board, cells}
-use Rattle.board.specs.State.{conditionOf, isFree, isWaiting, isUpdating, mustList, isRunning}
+use Rattle.board.specs.State.{conditionOf, isFree, isWaiting, isUpdating, mustList, isRunning, dirtyCount}
 use Rattle.board.specs.Causes.{causes, badRecord, badRows, listFull}
 use Rattle.board.specs.Effects.{logged, firstStore, noted, afterLast, advance, advanceOf, effect}
 use Rattle.board.specs.Next.{Taken, next, valueOf, Performed}
@@ -55,13 +55,13 @@ module _ {r : Run} {w c v : ℕ} {next : Store} (u : Before r w c v next) where
   own = subst (λ (k : Condition). WorkerInv (r .machine .lines) (r .board .cache) k (r .machine .unfinished w)) (u .here) (now .run .worker w (u .under))
 
   -- There is room in the list for a cell that must be added.
-  room : (s : Store) → WorkerInv (r .machine .lines) (r .board .cache) (Updating s c v) (r .machine .unfinished w) → mustList (Updating s c v) && eqb (r .board .state .listed) (cells (r .board .state .lines)) ≡ false
+  room : (s : Store) → WorkerInv (r .machine .lines) (r .board .cache) (Updating s c v) (r .machine .unfinished w) → mustList (Updating s c v) && eqb (dirtyCount (r .board .state)) (cells (r .board .state .lines)) ≡ false
   room Backup i = refl
   room Mark i =
       let m = r .machine in
       let n = cells (m .lines) in
       let off : m .marked c ≡ false = marked-logged r now c (i .1) ∙ ne-eqb _ _ (λ e. i .2 .0 (sym (view-mark (r .board .cache) c) ∙ e)) in
-      ne-eqb (r .board .state .listed) (cells (r .board .state .lines)) (λ e. omega (arith, e, now .run .lines, now .run .count, count-more n c (m .marked) (i .1) off, count-most n (changed (m .marked) c true)))
+      ne-eqb (dirtyCount (r .board .state)) (cells (r .board .state .lines)) (λ e. omega (arith, e, now .run .lines, now .run .count, count-more n c (m .marked) (i .1) off, count-most n (changed (m .marked) c true)))
   room Record i = refl
 
   -- The advance is taken.
@@ -75,8 +75,8 @@ module _ {r : Run} {w c v : ℕ} {next : Store} (u : Before r w c v next) where
         (
           or-none (badRecord s) (listFull s w)
               (running-record l (r .board) (r .machine) (u .inv .sizes .limits) (u .phase) (now .run) refl)
-              (three-off (ltb w (s .workers)) (mustList (conditionOf s w)) (eqb (s .listed) (cells (s .lines)))
-              (subst (λ (k : Condition). mustList k && eqb (s .listed) (cells (s .lines)) ≡ false) (sym (u .here)) (room next own))),
+              (three-off (ltb w (s .workers)) (mustList (conditionOf s w)) (eqb (dirtyCount s) (cells (s .lines)))
+              (subst (λ (k : Condition). mustList k && eqb (dirtyCount s) (cells (s .lines)) ≡ false) (sym (u .here)) (room next own))),
           (
             subst (λ (k : ℕ). badRows k (r .board) ≡ false) (sym (now .run .lines)) (rows-fine l (r .board) (u .inv .sizes)),
             (lt-leb (s .workers) w (u .under), (not-on (isUpdating (conditionOf s w)) (ap isUpdating (u .here)), tt)),

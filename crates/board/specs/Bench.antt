@@ -4,34 +4,35 @@ use mathlib.Core.Path.{_≡_}
 use mathlib.Core.List.{List, [], _∷_, _++_, map}
 use mathlib.Core.Bool.{Bool, true, false, cond, not, _&&_}
 use lib.Dec.{eqb}
-use lib.ListN.{length, getD, take, set, replicate}
+use lib.ListN.{replicate}
 use Rattle.line.specs.Line.{lineOf}
 use Rattle.board.specs.declared.State.{State}
 use Rattle.board.specs.declared.Phase.{Phase}
 use Rattle.board.specs.declared.Phase.the-variants.{Off, Formatting, Recovering, Running}
 use Rattle.board.specs.declared.Call.{Call}
 use Rattle.board.specs.declared.Call.the-variants.{FormatStart, RecoveryStart, Step, Update, RestartPoint, Advance, Request, WriteBack, Read}
-use Rattle.board.specs.Board.{Board, rowWords, listWords}
+use Rattle.board.specs.Board.{Board, rowWords}
 use Rattle.board.specs.State.{started, opened, requesting, isRunning}
 use Rattle.board.specs.Causes.{cause}
-use Rattle.board.specs.Next.{taken, next, valueRead}
+use Rattle.board.specs.Next.{taken, next, valueRead, valueCounted}
 use Rattle.board.specs.Sequence.{cutBoard}
 
 -- ---- what a case is
 
--- What is done in a case: a call, or a cut with what it leaves of record, cache and list.
+-- What is done in a case: a call, or a cut with what it leaves of record and cache.
 pub data Event : Type 0 where
   call : Call → Event
-  cut : State → List ℕ → List ℕ → Event
+  cut : State → List ℕ → Event
 
 -- What is then seen.
 pub data Seen : Type 0 where
   answers : Call → ℕ → Seen
   memoryLine : ℕ → List ℕ → Seen
   cacheLine : ℕ → List ℕ → Seen
-  listed : List ℕ → Seen
+  dirtyWords : List ℕ → Seen
   reads : ℕ → ℕ → Seen
   valued : ℕ → ℕ → Seen
+  counted : ℕ → Seen
   endsIn : Call → ℕ → Seen
 
 -- A bench case: a board, calls that are all taken with cuts among them, and what is then seen.
@@ -54,13 +55,13 @@ same (x ∷ xs) (y ∷ ys) = eqb x y && same xs ys
 unfoldable pub allTakenIn : List Event → Board → Bool
 allTakenIn [] b = true
 allTakenIn (call k ∷ es) b = taken k b && allTakenIn es (next k b)
-allTakenIn (cut s cache entries ∷ es) b = allTakenIn es (cutBoard s cache entries b)
+allTakenIn (cut s cache ∷ es) b = allTakenIn es (cutBoard s cache b)
 
 -- The board after the calls and cuts.
 unfoldable pub afterEvents : List Event → Board → Board
 afterEvents [] b = b
 afterEvents (call k ∷ es) b = afterEvents es (next k b)
-afterEvents (cut s cache entries ∷ es) b = afterEvents es (cutBoard s cache entries b)
+afterEvents (cut s cache ∷ es) b = afterEvents es (cutBoard s cache b)
 
 -- The board after the calls.
 unfoldable pub afterCalls : List Call → Board → Board
@@ -77,9 +78,10 @@ unfoldable pub sees : Seen → Board → Bool
 sees (answers k n) b = eqb (cause k b) n
 sees (memoryLine l words) b = same (lineOf (b .memory) l) words
 sees (cacheLine l words) b = same (lineOf (b .cache) l) words
-sees (listed cs) b = same (take (b .state .listed) (b .entries)) cs
+sees (dirtyWords words) b = same (b .state .dirty) words
 sees (reads c v) b = taken (Read c) b && eqb (valueRead c b) v
 sees (valued c v) b = eqb (valueRead c b) v
+sees (counted n) b = eqb (valueCounted b) n
 sees (endsIn k n) b = taken k b && runsIn n (next k b)
 
 -- All of the things are seen.
@@ -93,19 +95,18 @@ holds k = allTakenIn (k .events) (k .board) && allSeen (k .seen) (afterEvents (k
 
 -- ---- the boards
 
--- A board that is off, with rows of the given lengths, all zeros.
-abbrev pub blank : ℕ → ℕ → Board
-blank words entries =
-    record { state = started Off 0 0; memory = replicate words 0; cache = replicate words 0; entries = replicate entries 0 }
+-- A board that is off, with rows of the given length, all zeros.
+abbrev pub blank : ℕ → Board
+blank words = record { state = started Off 0 0; memory = replicate words 0; cache = replicate words 0 }
 
 -- A board with rows for L lines.
 abbrev pub blankFor : ℕ → Board
-blankFor l = blank (rowWords l) (listWords l)
+blankFor l = blank (rowWords l)
 
 -- A running board (1, 1) with the given epoch in both rows.
 abbrev pub runningAt : ℕ → Board
 runningAt epoch =
-    record { state = started Running 1 1; memory = epoch ∷ 1 ∷ 1 ∷ replicate 13 0; cache = epoch ∷ 1 ∷ 1 ∷ replicate 13 0; entries = replicate 2 0 }
+    record { state = started Running 1 1; memory = epoch ∷ 1 ∷ 1 ∷ replicate 13 0; cache = epoch ∷ 1 ∷ 1 ∷ replicate 13 0 }
 
 -- ---- the calls
 
@@ -137,9 +138,9 @@ calls8 n = calls5 ++ (Request ∷ RestartPoint 0 3 ∷ Advance 0 ∷ Advance 0 �
 abbrev pub recovery : ℕ → List Call
 recovery n = RecoveryStart ∷ replicate n Step
 
--- A cut of a board (1, 1) that leaves words of no meaning in cache and list, and a running record with a request.
+-- A cut of a board (1, 1) that leaves words of no meaning in the cache, and a running record with a request.
 abbrev pub cutWithGarbage : Event
-cutWithGarbage = cut (requesting (started Running 9 200)) (replicate 16 77) (5 ∷ 6 ∷ [])
+cutWithGarbage = cut (requesting (started Running 9 200)) (replicate 16 77)
 
 -- ---- the table
 
@@ -157,19 +158,19 @@ table =
     from 1 (blankFor 1) [] (endsIn (FormatStart 1 1) 3 ∷ [])
     ∷ from 1 (blankFor 1) (format 1 1) (memoryLine 0 (1 ∷ 1 ∷ 1 ∷ 0 ∷ 0 ∷ 0 ∷ 0 ∷ 0 ∷ []) ∷ [])
     ∷ from 2 (blankFor 1) [] (answers (FormatStart 1 2) 1 ∷ answers (FormatStart 512 1) 1 ∷ [])
-    ∷ from 2 (blank 4096 1022) [] (answers (FormatStart 511 8) 0 ∷ [])
-    ∷ from 3 (blank 15 2) [] (answers RecoveryStart 4 ∷ [])
-    ∷ from 3 (blank 16 2) [] (answers RecoveryStart 5 ∷ [])
-    ∷ from 4 (blankFor 1) calls4 (cacheLine 1 (0 ∷ 0 ∷ 0 ∷ 0 ∷ 0 ∷ 1 ∷ 0 ∷ 0 ∷ []) ∷ listed (1 ∷ []) ∷ [])
+    ∷ from 2 (blank 4096) [] (answers (FormatStart 511 8) 0 ∷ [])
+    ∷ from 3 (blank 15) [] (answers RecoveryStart 4 ∷ [])
+    ∷ from 3 (blank 16) [] (answers RecoveryStart 5 ∷ [])
+    ∷ from 4 (blankFor 1) calls4 (cacheLine 1 (0 ∷ 0 ∷ 0 ∷ 0 ∷ 0 ∷ 1 ∷ 0 ∷ 0 ∷ []) ∷ dirtyWords (2 ∷ replicate 7 0) ∷ [])
     ∷ from 5 (blankFor 1) calls5 (cacheLine 1 (0 ∷ 0 ∷ 0 ∷ 7 ∷ 0 ∷ 1 ∷ 0 ∷ 0 ∷ []) ∷ memoryLine 1 (replicate 8 0) ∷ [])
     ∷ from 6 (blankFor 1) calls6 (endsIn RecoveryStart 4 ∷ [])
     ∷ from 6 (blankFor 1) (calls6 ++ recovery 4) (memoryLine 1 (replicate 8 0) ∷ [])
     ∷ from 7 (blankFor 1) calls7 (cacheLine 1 (0 ∷ 0 ∷ 0 ∷ 9 ∷ 0 ∷ 1 ∷ 0 ∷ 0 ∷ []) ∷ answers (Advance 0) 8 ∷ [])
-    ∷ from 8 (blankFor 1) (calls8 5) (memoryLine 0 (2 ∷ 1 ∷ 1 ∷ 0 ∷ 0 ∷ 0 ∷ 0 ∷ 0 ∷ []) ∷ memoryLine 1 (3 ∷ 0 ∷ 1 ∷ 7 ∷ 0 ∷ 1 ∷ 0 ∷ 0 ∷ []) ∷ answers Step 10 ∷ [])
-    ∷ from 9 (blankFor 1) (calls8 5) (endsIn RecoveryStart 2 ∷ [])
-    ∷ from 9 (blankFor 1) (calls8 5 ++ recovery 2) (reads 1 7 ∷ [])
-    ∷ fromEvents 10 (blankFor 1) (map call (calls8 3) ++ (cutWithGarbage ∷ map call (recovery 6))) (reads 0 0 ∷ reads 1 0 ∷ [])
-    ∷ fromEvents 10 (blankFor 1) (map call (calls8 3 ++ (WriteBack 0 ∷ [])) ++ (cutWithGarbage ∷ map call (recovery 2))) (reads 1 7 ∷ [])
+    ∷ from 8 (blankFor 1) (calls8 4) (memoryLine 0 (2 ∷ 1 ∷ 1 ∷ 0 ∷ 0 ∷ 0 ∷ 0 ∷ 0 ∷ []) ∷ memoryLine 1 (3 ∷ 0 ∷ 1 ∷ 7 ∷ 0 ∷ 1 ∷ 0 ∷ 0 ∷ []) ∷ answers Step 10 ∷ [])
+    ∷ from 9 (blankFor 1) (calls8 4) (endsIn RecoveryStart 2 ∷ [])
+    ∷ from 9 (blankFor 1) (calls8 4 ++ recovery 2) (reads 1 7 ∷ [])
+    ∷ fromEvents 10 (blankFor 1) (map call (calls8 2) ++ (cutWithGarbage ∷ map call (recovery 6))) (reads 0 0 ∷ reads 1 0 ∷ [])
+    ∷ fromEvents 10 (blankFor 1) (map call (calls8 2 ++ (WriteBack 0 ∷ [])) ++ (cutWithGarbage ∷ map call (recovery 2))) (reads 1 7 ∷ [])
     ∷ from 11 (runningAt (2 ^ 64 - 1)) [] (answers Request 11 ∷ [])
     ∷ from 11 (runningAt (2 ^ 64 - 2)) [] (answers Request 0 ∷ [])
     ∷ []

@@ -6,12 +6,11 @@ use lib.Dec.{leb, ltb, eqb}
 use lib.ListN.{getD}
 use Rattle.board.specs.declared.State.{State}
 
--- All that a call is given and leaves: the state record and the three lent rows.
+-- All that a call is given and leaves: the state record and the two lent rows.
 pub record Board : Type 0 where
   pub state : State
   pub memory : List ℕ
   pub cache : List ℕ
-  pub entries : List ℕ
 
 -- "Lines 1 to L hold two cells each": the number of cells.
 abbrev pub cells : ℕ → ℕ
@@ -20,10 +19,6 @@ cells l = 2 * l
 -- "two rows of words of equal length, 8×(L+1) words".
 abbrev pub rowWords : ℕ → ℕ
 rowWords l = 8 * (l + 1)
-
--- "The list is a third lent row, at least 2L of them".
-abbrev pub listWords : ℕ → ℕ
-listWords l = cells l
 
 -- "L, the cell lines, is 1 to 511".
 abbrev pub linesOutside : ℕ → Bool

@@ -1,19 +1,21 @@
--- Document 01, "Why a call is turned down", and document 02, tickets 2 and 4: the cause table, one test a row, and for each call its rows in the order tested.
+-- Document 01, "Why a call is turned down", and document 02, tickets 2, 4 and 5: the cause table, one test a row, and for each call its rows in the order tested.
 use Prim.Native.Nat.{ℕ, _+_, _-_, _/_, _%_}
 use mathlib.Core.List.{List, [], _∷_}
 use mathlib.Core.Bool.{Bool, true, false, cond, not, _&&_, _||_}
 use lib.Dec.{leb, ltb, eqb}
-use lib.ListN.{length, getD}
+use lib.ListN.{length}
 use Rattle.board.specs.declared.State.{State}
 use Rattle.board.specs.declared.Phase.{Phase}
 use Rattle.board.specs.declared.Phase.the-variants.{Off, Formatting, Recovering, Running}
 use Rattle.board.specs.declared.Call.{Call}
-use Rattle.board.specs.declared.Call.the-variants.{FormatStart, RecoveryStart, Step, Update, RestartPoint, Advance, Request, WriteBack, Read, GoAway, ComeBack}
+use Rattle.board.specs.declared.Call.the-variants.{FormatStart, RecoveryStart, Step, Update, RestartPoint, Advance, Request, WriteBack, Read, GoAway, ComeBack, Count}
 use Rattle.line.specs.declared.Field.{Field}
+use Rattle.bitset.specs.Passing.{anyUnder}
+use Rattle.bitset.specs.Words.{strays}
 use Rattle.line.specs.Cell.{fieldOf}
 use Rattle.board.specs.Board
-use Rattle.board.specs.Board.{Board, cells, rowWords, listWords, outside, workersOutside, epochOf, linesOf, workersOf, restNotZero, lastEpoch}
-use Rattle.board.specs.State.{conditionOf, isFree, isUpdating, isAway, quiescent, updates, mustList, anyUnder, anyWorker, othersUpdate, isOff, isFormatting, isRunning}
+use Rattle.board.specs.Board.{Board, cells, rowWords, outside, workersOutside, epochOf, linesOf, workersOf, restNotZero, lastEpoch}
+use Rattle.board.specs.State.{conditionOf, isFree, isUpdating, isAway, quiescent, updates, anyWorker, othersUpdate, isOff, isFormatting, isRunning, dirtyCount}
 
 -- A row of the table: the cause's number, and whether it stands.
 pub record Cause : Type 0 where
@@ -41,46 +43,29 @@ abbrev pub placePast : Phase → State → Bool
 placePast Off s = false
 placePast Formatting s = ltb (s .lines + 1) (s .place)
 placePast Recovering s = leb (cells (s .lines)) (s .place)
-placePast Running s = s .requested && ltb (s .listed + 2) (s .place)
+placePast Running s = s .requested && ltb (dirtyCount s + 2) (s .place)
 
--- "L or W outside the limits, list length over 2L; place ..; cell 2L or more in an update of a worker under W".
+-- "L or W outside the limits; place ..; cell 2L or more in an update of a worker under W"; 02: "A bit set for line 0 or past L".
 unfoldable pub badRecord : State → Bool
 badRecord s =
     outside (s .lines) (s .workers)
-    || ltb (cells (s .lines)) (s .listed)
+    || strays (s .dirty) (s .lines)
     || placePast (s .phase) s
     || anyWorker s (updates (leb (cells (s .lines))))
 
--- "an advance by a worker under W must add a cell and the length is 2L".
-abbrev pub listFull : State → ℕ → Bool
-listFull s w = ltb w (s .workers) && mustList (conditionOf s w) && eqb (s .listed) (cells (s .lines))
-
 -- ---- cause 4: "rows"
 
--- "cache or memory not 8×(L+1) words, list under 2L".
+-- "cache or memory not 8×(L+1) words".
 abbrev pub badRows : ℕ → Board → Bool
 badRows l b =
     not (eqb (length (b .cache)) (rowWords l))
     || not (eqb (length (b .memory)) (rowWords l))
-    || ltb (length (b .entries)) (listWords l)
 
--- The step at hand is one of a requested checkpoint.
-abbrev pub checkpointing : State → Bool
-checkpointing s = isRunning (s .phase) && s .requested
-
--- "a list entry that this step uses is 2L or more".
-abbrev pub badEntry : Board → Bool
-badEntry b =
-    checkpointing (b .state)
-    && ltb (b .state .place) (b .state .listed)
-    && leb (cells (b .state .lines)) (getD (b .entries) (b .state .place) 0)
-
--- "at recovery's start: memory not a multiple of 8 in 16 to 4,096 words, cache of another length, list under (words div 4) − 2".
+-- "at recovery's start: memory not a multiple of 8 in 16 to 4,096 words, cache of another length".
 abbrev pub badRecoveryRows : Board → Bool
 badRecoveryRows b =
     not (eqb (length (b .memory) % 8) 0 && leb 16 (length (b .memory)) && leb (length (b .memory)) 4096)
     || not (eqb (length (b .cache)) (length (b .memory)))
-    || ltb (length (b .entries)) (length (b .memory) / 4 - 2)
 
 -- ---- cause 5
 
@@ -144,9 +129,13 @@ notReady s = isRunning (s .phase) && (not (s .requested) || anyWorker s (λ cond
 abbrev pub epochSpent : Board → Bool
 epochSpent b = eqb (epochOf (b .cache)) lastEpoch
 
+-- The step at hand is one of a requested checkpoint.
+abbrev pub checkpointing : State → Bool
+checkpointing s = isRunning (s .phase) && s .requested
+
 -- "or at the epoch's store".
 abbrev pub storesSpentEpoch : Board → Bool
-storesSpentEpoch b = checkpointing (b .state) && eqb (b .state .place) (b .state .listed) && epochSpent b
+storesSpentEpoch b = checkpointing (b .state) && eqb (b .state .place) (dirtyCount (b .state)) && epochSpent b
 
 -- ---- the table
 
@@ -168,7 +157,7 @@ causes RecoveryStart b =
 causes Step b =
     row 2 (notOn b)
     ∷ row 3 (badRecord (b .state))
-    ∷ row 4 (badRows (b .state .lines) b || badEntry b)
+    ∷ row 4 (badRows (b .state .lines) b)
     ∷ row 10 (notReady (b .state))
     ∷ row 11 (storesSpentEpoch b)
     ∷ []
@@ -191,7 +180,7 @@ causes (RestartPoint w v) b =
     ∷ []
 causes (Advance w) b =
     row 2 (notRunning b)
-    ∷ row 3 (badRecord (b .state) || listFull (b .state) w)
+    ∷ row 3 (badRecord (b .state))
     ∷ row 4 (badRows (b .state .lines) b)
     ∷ row 6 (noWorker (b .state) w)
     ∷ row 8 (idle (b .state) w)
@@ -229,6 +218,11 @@ causes (ComeBack w) b =
     ∷ row 6 (noWorker (b .state) w)
     ∷ row 8 (notAway (b .state) w)
     ∷ row 13 (checkpointBegun (b .state))
+    ∷ []
+causes Count b =
+    row 2 (notRunning b)
+    ∷ row 3 (badRecord (b .state))
+    ∷ row 4 (badRows (b .state .lines) b)
     ∷ []
 
 -- The number of the first cause that stands, 0 where none does.

@@ -1,9 +1,9 @@
--- Document 01, "Steps", and document 02, tickets 2 and 4: what a taken call does, store by store.
+-- Document 01, "Steps", and document 02, tickets 2, 4 and 5: what a taken call does, store by store.
 use Prim.Native.Nat.{ℕ, _+_}
 use mathlib.Core.List.{List}
 use mathlib.Core.Bool.{Bool, true, false, cond, not, _&&_}
 use lib.Dec.{leb, ltb, eqb}
-use lib.ListN.{getD, set}
+use lib.ListN.{set}
 use Rattle.board.specs.declared.State.{State}
 use Rattle.board.specs.declared.Condition.{Condition}
 use Rattle.board.specs.declared.Condition.the-variants.{Free, Waiting, Updating, Away}
@@ -14,12 +14,13 @@ use Rattle.board.specs.declared.UndoStep.the-variants.{Restore, Unmark, 
 use Rattle.board.specs.declared.Phase.{Phase}
 use Rattle.board.specs.declared.Phase.the-variants.{Off, Formatting, Recovering, Running}
 use Rattle.board.specs.declared.Call.{Call}
-use Rattle.board.specs.declared.Call.the-variants.{FormatStart, RecoveryStart, Step, Update, RestartPoint, Advance, Request, WriteBack, Read, GoAway, ComeBack}
+use Rattle.board.specs.declared.Call.the-variants.{FormatStart, RecoveryStart, Step, Update, RestartPoint, Advance, Request, WriteBack, Read, GoAway, ComeBack, Count}
+use Rattle.bitset.specs.Words.{empty, nth}
 use Rattle.line.specs.declared.Field.{Field}
 use Rattle.line.specs.Line.{lineOf, withLine}
 use Rattle.line.specs.Cell.{cellLine, fieldOf, withField}
 use Rattle.board.specs.Board.{Board, cells, epochOf, linesOf, workersOf, headerWords, zeroWords}
-use Rattle.board.specs.State.{conditionOf, started, placed, opened, requesting, released, conditioned, relisted}
+use Rattle.board.specs.State.{conditionOf, started, placed, opened, requesting, released, conditioned, dirtied, dirtyCount}
 
 -- ---- what a step does to the rows
 
@@ -30,19 +31,19 @@ writtenBack l b = withLine (b .memory) l (lineOf (b .cache) l)
 -- The board with the given words in line `l`, "in both" rows.
 abbrev pub inBoth : ℕ → List ℕ → State → Board → Board
 inBoth l words s b =
-    record { state = s; memory = withLine (b .memory) l words; cache = withLine (b .cache) l words; entries = b .entries }
+    record { state = s; memory = withLine (b .memory) l words; cache = withLine (b .cache) l words }
 
 -- The board with line `l` written back.
 abbrev pub backed : ℕ → State → Board → Board
-backed l s b = record { state = s; memory = writtenBack l b; cache = b .cache; entries = b .entries }
+backed l s b = record { state = s; memory = writtenBack l b; cache = b .cache }
 
 -- The board with another cache.
 abbrev pub cached : List ℕ → State → Board → Board
-cached cache s b = record { state = s; memory = b .memory; cache = cache; entries = b .entries }
+cached cache s b = record { state = s; memory = b .memory; cache = cache }
 
 -- The board with another state record.
 abbrev pub stated : State → Board → Board
-stated s b = record { state = s; memory = b .memory; cache = b .cache; entries = b .entries }
+stated s b = record { state = s; memory = b .memory; cache = b .cache }
 
 -- ---- a cell's log
 
@@ -81,7 +82,7 @@ unfoldable pub formatStep : State → Board → Board
 formatStep s b =
     cond (leb (s .place) (s .lines))
     (inBoth (s .place) zeroWords (placed s (s .place + 1) (s .undo)) b)
-    (inBoth 0 (headerWords 1 (s .lines) (s .workers)) (opened s 0) b)
+    (inBoth 0 (headerWords 1 (s .lines) (s .workers)) (opened s empty) b)
 
 -- ---- recovery
 
@@ -90,7 +91,7 @@ abbrev pub pastCell : State → State
 pastCell s =
     cond (ltb (s .place + 1) (cells (s .lines)))
     (placed s (s .place + 1) Restore)
-    (opened s (s .listed))
+    (opened s (s .dirty))
 
 -- "record := backup; mark := 0; its line written back"; any other cell, "one step that stores nothing". The mark is looked at only before the first.
 unfoldable pub recoveryStep : UndoStep → State → Board → Board
@@ -107,17 +108,13 @@ recoveryStep WriteLine s b = backed (cellLine (s .place)) (pastCell s) b
 pub data Act : Type 0 where
   writeLine storeEpoch writeHeader release : Act
 
--- "one step for each list entry in list order ..; epoch := epoch + 1 in the cache; line 0 written back; release".
+-- 02: "A checkpoint writes the set lines in rising order; n is their count"; "epoch := epoch + 1 in the cache; line 0 written back; release".
 unfoldable pub actAt : ℕ → ℕ → Act
 actAt n place = cond (ltb place n) writeLine (cond (eqb place n) storeEpoch (cond (eqb place (n + 1)) writeHeader release))
 
--- "writing that cell's line back": the line that the step at a place before the list's end writes.
-abbrev pub listedLine : ℕ → List ℕ → ℕ
-listedLine place entries = cellLine (getD entries place 0)
-
 -- What each act does.
 unfoldable pub performAct : Act → State → Board → Board
-performAct writeLine s b = backed (listedLine (s .place) (b .entries)) (placed s (s .place + 1) (s .undo)) b
+performAct writeLine s b = backed (nth (s .dirty) (s .place)) (placed s (s .place + 1) (s .undo)) b
 performAct storeEpoch s b = cached (set (b .cache) 0 (epochOf (b .cache) + 1)) (placed s (s .place + 1) (s .undo)) b
 performAct writeHeader s b = backed 0 (placed s (s .place + 1) (s .undo)) b
 performAct release s b = stated (released s) b
@@ -129,7 +126,7 @@ unfoldable pub step : Phase → State → Board → Board
 step Off s b = b
 step Formatting s b = formatStep s b
 step Recovering s b = recoveryStep (s .undo) s b
-step Running s b = performAct (actAt (s .listed) (s .place)) s b
+step Running s b = performAct (actAt (dirtyCount s) (s .place)) s b
 
 -- ---- updates and restart points
 
@@ -145,11 +142,10 @@ noted w c v b = stated (conditioned (b .state) w (Updating (firstStore (b .cache
 abbrev pub afterLast : State → ℕ → Condition
 afterLast s c = cond (ltb c (s .workers) && s .requested) Waiting Free
 
--- "backup := record; mark := epoch, and the cell is added to the list; record := value".
+-- "backup := record; mark := epoch; record := value"; 02: "Marking a cell now promises its line's bit too".
 unfoldable pub advance : Store → ℕ → ℕ → ℕ → State → Board → Board
 advance Backup w c v s b = cached (backedUp (b .cache) c) (conditioned s w (Updating Mark c v)) b
-advance Mark w c v s b =
-    record { state = relisted (conditioned s w (Updating Record c v)) (s .listed + 1); memory = b .memory; cache = markedNow (b .cache) c; entries = set (b .entries) (s .listed) c }
+advance Mark w c v s b = cached (markedNow (b .cache) c) (dirtied (conditioned s w (Updating Record c v)) (cellLine c)) b
 advance Record w c v s b = cached (recorded (b .cache) c v) (conditioned s w (afterLast s c)) b
 
 -- An advance of a worker, by its condition; of one free, waiting or away there is none.
@@ -174,3 +170,4 @@ effect (WriteBack l) b = backed l (b .state) b
 effect (Read c) b = b
 effect (GoAway w) b = stated (conditioned (b .state) w Away) b
 effect (ComeBack w) b = stated (conditioned (b .state) w Free) b
+effect Count b = b

@@ -9,6 +9,7 @@ pub mod Machine
 pub mod Sequence
 pub mod Statements
 pub mod Steps
+pub mod Foretold
 pub mod LaterMark
 pub mod Bench
 pub mod Refusals

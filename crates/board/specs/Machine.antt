@@ -1,10 +1,10 @@
--- Document 01, "The simple machine", and document 02, ticket 4: what demand 2 compares the board with. It never sees the board.
-use Prim.Native.Nat.{ℕ, zero, suc, _+_, _-_}
+-- Document 01, "The simple machine", and document 02, tickets 4 and 5: what demand 2 compares the board with. It never sees the board.
+use Prim.Native.Nat.{ℕ, zero, suc, _+_, _-_, _*_}
 use mathlib.Core.Bool.{Bool, true, false, cond, not, _&&_, _||_}
 use lib.Dec.{leb, eqb}
 use Rattle.board.specs.declared.Call.{Call}
-use Rattle.board.specs.declared.Call.the-variants.{FormatStart, RecoveryStart, Step, Update, RestartPoint, Advance, Request, WriteBack, Read, GoAway, ComeBack}
-use Rattle.board.specs.Board.{cells}
+use Rattle.board.specs.declared.Call.the-variants.{FormatStart, RecoveryStart, Step, Update, RestartPoint, Advance, Request, WriteBack, Read, GoAway, ComeBack, Count}
+pub use Rattle.bitset.specs.Passing.{countUnder}
 
 -- "for each worker an unfinished update (cell, value, stores left)".
 pub data Unfinished : Type 0 where
@@ -41,14 +41,13 @@ recoveryBeginning l values =
 unfoldable pub changed {ℓ} : {A : Type ℓ} → (ℕ → A) → ℕ → A → ℕ → A
 changed f i a j = cond (eqb j i) a (f j)
 
--- How many numbers below `n` pass the test.
-unfoldable pub countUnder : ℕ → (ℕ → Bool) → ℕ
-countUnder zero test = 0
-countUnder (suc n) test = cond (test n) (suc (countUnder n test)) (countUnder n test)
+-- Line i + 1 has a marked cell: its cells are 2i and 2i + 1.
+abbrev pub markedLine : Machine → ℕ → Bool
+markedLine m i = m .marked (2 * i) || m .marked (2 * i + 1)
 
--- "n cells being marked".
+-- 02, ticket 5: n is "that of the lines with a marked cell".
 abbrev pub markedCount : Machine → ℕ
-markedCount m = countUnder (cells (m .lines)) (m .marked)
+markedCount m = countUnder (m .lines) (markedLine m)
 
 -- "A start drops updates and request."
 abbrev pub startedFormat : ℕ → Machine → Machine
@@ -127,7 +126,7 @@ stepped m = cond (m .requested) (checkpointStep m) (cond (finishesFormat m) (beg
 unfoldable pub writeBackSeen : ℕ → Machine → Machine
 writeBackSeen l m = cond (eqb l 0 && m .requested && leb (markedCount m + 1) (m .steps)) (completed m) m
 
--- What a taken call does to the machine; going away and coming back it does not see, since it holds no conditions.
+-- What a taken call does to the machine; going away and coming back it does not see, since it holds no conditions, nor the count.
 unfoldable pub feed : Call → Machine → Machine
 feed (FormatStart l w) m = startedFormat l m
 feed RecoveryStart m = startedRecovery m
@@ -140,3 +139,4 @@ feed (WriteBack l) m = writeBackSeen l m
 feed (Read c) m = m
 feed (GoAway w) m = m
 feed (ComeBack w) m = m
+feed Count m = m

@@ -1,15 +1,16 @@
--- Document 01, "Why a call is turned down": every call as one function, taken or refused.
-use Prim.Native.Nat.{ℕ}
+-- Document 01, "Why a call is turned down", and document 02, ticket 5: every call as one function, taken or refused.
+use Prim.Native.Nat.{ℕ, _+_}
 use mathlib.Core.Path.{_≡_}
 use mathlib.Core.Bool.{Bool, true, false, cond}
 use lib.Dec.{eqb}
 use mathlib.Core.List.{List}
 use Rattle.board.specs.declared.State.{State}
 use Rattle.board.specs.declared.Call.{Call}
-use Rattle.board.specs.declared.Call.the-variants.{FormatStart, RecoveryStart, Step, Update, RestartPoint, Advance, Request, WriteBack, Read, GoAway, ComeBack}
+use Rattle.board.specs.declared.Call.the-variants.{FormatStart, RecoveryStart, Step, Update, RestartPoint, Advance, Request, WriteBack, Read, GoAway, ComeBack, Count}
 use Rattle.line.specs.declared.Field.{Field}
 use Rattle.line.specs.Cell.{fieldOf}
 use Rattle.board.specs.Board.{Board}
+use Rattle.board.specs.State.{dirtyCount}
 use Rattle.board.specs.Causes.{cause}
 use Rattle.board.specs.Effects.{effect}
 
@@ -29,9 +30,17 @@ next k b = cond (taken k b) (effect k b) b
 unfoldable pub valueRead : ℕ → Board → ℕ
 valueRead c b = cond (taken (Read c) b) (fieldOf (b .cache) c Field.Record) 0
 
--- What a call is to a sequence: a start of format or recovery, the step, a write-back, a read of a cell, or one of the others.
+-- 02, ticket 5: "the count of set bits plus 3": the steps that a checkpoint of these lines takes.
+abbrev pub stepsOf : Board → ℕ
+stepsOf b = dirtyCount (b .state) + 3
+
+-- "turned down, it gets 0".
+unfoldable pub valueCounted : Board → ℕ
+valueCounted b = cond (taken Count b) (stepsOf b) 0
+
+-- What a call is to a sequence: a start of format or recovery, the step, a write-back, a read of a cell, the count, or one of the others.
 pub data Kind : Type 0 where
-  startsFormat startsRecovery stepping writing other : Kind
+  startsFormat startsRecovery stepping writing counting other : Kind
   reading : ℕ → Kind
 
 -- The kind of a call.
@@ -47,6 +56,7 @@ kind (WriteBack l) = writing
 kind (Read c) = reading c
 kind (GoAway w) = other
 kind (ComeBack w) = other
+kind Count = counting
 
 -- A start of format or recovery.
 abbrev pub isStart : Kind → Bool
@@ -54,6 +64,7 @@ isStart startsFormat = true
 isStart startsRecovery = true
 isStart stepping = false
 isStart writing = false
+isStart counting = false
 isStart other = false
 isStart (reading c) = false
 
@@ -63,21 +74,23 @@ isStep startsFormat = false
 isStep startsRecovery = false
 isStep stepping = true
 isStep writing = false
+isStep counting = false
 isStep other = false
 isStep (reading c) = false
 
 -- ---- what a contract says
 
--- The board that a call is lent: the state record by value and the contents of the three rows.
-abbrev pub lent : State → List ℕ → List ℕ → List ℕ → Board
-lent state memory cache entries = record { state = state; memory = memory; cache = cache; entries = entries }
+-- The board that a call is lent: the state record by value and the contents of the two rows.
+abbrev pub lent : State → List ℕ → List ℕ → Board
+lent state memory cache = record { state = state; memory = memory; cache = cache }
 
--- What a call of each kind gives back: a read the value read, every other call 0.
+-- What a call of each kind gives back: a read the value read, the count the steps counted, every other call 0.
 abbrev pub givenBy : Kind → Board → ℕ
 givenBy startsFormat b = 0
 givenBy startsRecovery b = 0
 givenBy stepping b = 0
 givenBy writing b = 0
+givenBy counting b = valueCounted b
 givenBy other b = 0
 givenBy (reading c) b = valueRead c b
 
@@ -85,7 +98,7 @@ givenBy (reading c) b = valueRead c b
 unfoldable pub valueOf : Call → Board → ℕ
 valueOf k b = givenBy (kind k) b
 
--- "its complete outcome: number, state and each lent word", with the value read.
+-- "its complete outcome: number, state and each lent word", with the value read or counted.
 pub record Outcome : Type 0 where
   pub number : ℕ
   pub value : ℕ

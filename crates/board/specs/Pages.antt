@@ -11,7 +11,7 @@ use Rattle.board.specs.Board.{Board, headerWords}
 use Rattle.board.specs.State.{started}
 use Rattle.board.specs.Page.{pageText, pageCause, pageLeft}
 use Rattle.board.specs.Bench.{same}
-use Rattle.board.specs.Refusals.Boards.{sound, shortCache, listing, misfits, badRecords, quietEdges, requestedEdges, notRunningOf}
+use Rattle.board.specs.Refusals.Boards.{sound, shortCache, straying, misfits, badRecords, quietEdges, requestedEdges, notRunningOf}
 
 -- ---- a page worked out
 
@@ -19,7 +19,7 @@ use Rattle.board.specs.Refusals.Boards.{sound, shortCache, listing, misf
 abbrev pub workedBoard : Board
 workedBoard =
     let cache = headerWords 2 2 1 ++ (10 ∷ 0 ∷ 1 ∷ 99 ∷ 0 ∷ 2 ∷ 0 ∷ 0 ∷ []) ++ (100 ∷ 0 ∷ 1 ∷ 7 ∷ (2 ^ 64 - 1) ∷ 2 ∷ 0 ∷ 0 ∷ []) in
-    record { state = started Running 2 1; memory = cache; cache = cache; entries = replicate 4 0 }
+    record { state = started Running 2 1; memory = cache; cache = cache }
 
 -- Its page, as the second program prints it.
 abbrev pub workedLines : List (List ℕ)
@@ -51,7 +51,7 @@ pages number room b = record { board = b; room = room; number = number }
 unfoldable pub pageTable : List PageCase
 pageTable =
     map (pages 2 0) (notRunningOf (sound Running 1 1))
-    ++ map (pages 3 0) (listing 3 (shortCache (sound Running 1 1)) ∷ badRecords)
+    ++ map (pages 3 0) (straying (shortCache (sound Running 1 1)) ∷ badRecords)
     ++ map (pages 4 203) (misfits (sound Running 1 1))
     ++ (pages 12 0 (sound Running 1 1) ∷ pages 12 203 (sound Running 1 1) ∷ pages 12 339 (sound Running 2 3) ∷ pages 12 1019 (sound Running 7 8) ∷ [])
     ++ map (pages 0 204) quietEdges

@@ -24,7 +24,7 @@ pub data Takes : ℕ → Board → Board → Type 0 where
   paged : {n number : ℕ} (text left : List ℕ) {b d b′ : Board} → PagePerformed b text number d left → Takes (suc n) d b′ → Takes (suc n) b b′
 
 -- "A sequence begins with state and rows as a finished format left them, whatever they were before its start"; 02, ticket 4: or as a recovery's start left them that took the memory,
--- whatever memory, state, cache and list were: there the machine begins with the undo of that memory.
+-- whatever memory, state and cache were: there the machine begins with the undo of that memory.
 pub data Begins : Board → Machine → Type 0 where
   formatted : (l w value : ℕ) (b d b′ : Board) → Performed (FormatStart l w) b 0 value d → Takes (formatSteps l) d b′ → Begins b′ (beginning l)
   recoveryStarted : (value : ℕ) (b b′ : Board) → Performed RecoveryStart b 0 value b′ → Begins b′ (recoveryBeginning (linesOf (b .memory)) (undo (b .memory)))
@@ -59,24 +59,24 @@ unfed b r = record { board = b; machine = r .machine; crashed = r .crashed; eras
 abbrev pub called : Call → ℕ → Board → Run → Run
 called k number b r = cond (eqb number 0) (takenCall k b r) (unfed b r)
 
--- The board that a cut leaves: "any words in cache and list and any state record; memory stays".
-abbrev pub cutBoard : State → List ℕ → List ℕ → Board → Board
-cutBoard s cache entries b = record { state = s; memory = b .memory; cache = cache; entries = entries }
+-- The board that a cut leaves: "any words in cache .. and any state record; memory stays".
+abbrev pub cutBoard : State → List ℕ → Board → Board
+cutBoard s cache b = record { state = s; memory = b .memory; cache = cache }
 
 -- After a cut.
-abbrev pub cutRun : State → List ℕ → List ℕ → Run → Run
-cutRun s cache entries r =
-    record { board = cutBoard s cache entries (r .board); machine = r .machine; crashed = true; erased = r .erased }
+abbrev pub cutRun : State → List ℕ → Run → Run
+cutRun s cache r =
+    record { board = cutBoard s cache (r .board); machine = r .machine; crashed = true; erased = r .erased }
 
--- What a cut leaves of the rows has their lengths: "rows keep their lengths".
-abbrev pub KeepsLengths : List ℕ → List ℕ → Board → Type 0
-KeepsLengths cache entries b = (length cache ≡ length (b .cache)) × (length entries ≡ length (b .entries))
+-- What a cut leaves of the cache has its length: "rows keep their lengths".
+abbrev pub KeepsLength : List ℕ → Board → Type 0
+KeepsLength cache b = length cache ≡ length (b .cache)
 
 -- `Happens r r′`: a call leads from run `r` to run `r′`, where "after a cut its next taken call is a start of format or recovery"; or a page does, taken or refused, even after a cut; or a cut does.
 pub data Happens : Run → Run → Type 0 where
   performs : {r : Run} (k : Call) (number value : ℕ) (b : Board) → Performed k (r .board) number value b → (r .crashed ≡ true → number ≡ 0 → isStart (kind k) ≡ true) → Happens r (called k number b r)
   pages : {r : Run} (text left : List ℕ) (number : ℕ) (b : Board) → PagePerformed (r .board) text number b left → Happens r (unfed b r)
-  cuts : {r : Run} (s : State) (cache entries : List ℕ) → KeepsLengths cache entries (r .board) → Happens r (cutRun s cache entries r)
+  cuts : {r : Run} (s : State) (cache : List ℕ) → KeepsLength cache (r .board) → Happens r (cutRun s cache r)
 
 -- `History r`: from one of the two beginnings on, one thing after the other led to run `r`, "each call getting what the last one left and nobody else writing it".
 pub data History : Run → Type 0 where

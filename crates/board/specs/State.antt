@@ -1,15 +1,15 @@
--- Document 01, "Lines and cells" and "Steps", and document 02, ticket 2: the state record, its workers, and every way in which a call makes a new one.
-use Prim.Native.Nat.{ℕ, zero, suc, _+_}
+-- Document 01, "Lines and cells" and "Steps", and document 02, tickets 2 and 5: the state record, its workers, and every way in which a call makes a new one.
+use Prim.Native.Nat.{ℕ}
 use mathlib.Core.List.{List, [], _∷_}
-use mathlib.Core.Bool.{Bool, true, false, not, _&&_, _||_}
+use mathlib.Core.Bool.{Bool, true, false, not, _&&_}
 use lib.Dec.{ltb, eqb}
 use lib.ListN.{getD, set, replicate}
+pub use Rattle.bitset.specs.Passing.{anyUnder}
+use Rattle.bitset.specs.Words.{empty, inserted, size}
 use Rattle.board.specs.declared.State.{State}
 use Rattle.board.specs.declared.Worker.{Worker}
 use Rattle.board.specs.declared.Condition.{Condition}
 use Rattle.board.specs.declared.Condition.the-variants.{Free, Waiting, Updating, Away}
-use Rattle.board.specs.declared.Store.{Store}
-use Rattle.board.specs.declared.Store.the-variants.{Backup, Mark, Record}
 use Rattle.board.specs.declared.UndoStep.{UndoStep}
 use Rattle.board.specs.declared.UndoStep.the-variants.{Restore, Unmark, WriteLine}
 use Rattle.board.specs.declared.Phase.{Phase}
@@ -71,24 +71,6 @@ updates test Waiting = false
 updates test (Updating next c v) = test c
 updates test Away = false
 
--- The next store of an update is the mark's.
-abbrev pub isMarkStore : Store → Bool
-isMarkStore Backup = false
-isMarkStore Mark = true
-isMarkStore Record = false
-
--- The worker's next advance "must add a cell" to the list.
-abbrev pub mustList : Condition → Bool
-mustList Free = false
-mustList Waiting = false
-mustList (Updating next c v) = isMarkStore next
-mustList Away = false
-
--- Some number below `n` passes the test.
-unfoldable pub anyUnder : ℕ → (ℕ → Bool) → Bool
-anyUnder zero test = false
-anyUnder (suc n) test = anyUnder n test || test n
-
 -- Some worker under W has a condition that passes the test.
 abbrev pub anyWorker : State → (Condition → Bool) → Bool
 anyWorker s test = anyUnder 8 (λ i. ltb i (s .workers) && test (conditionOf s i))
@@ -129,25 +111,25 @@ isRecovering Running = false
 
 -- ---- the records that steps leave
 
--- "Each of the two starts sets every field": its phase, L and W, list empty, the place at its beginning, no request, all free.
+-- "Each of the two starts sets every field": its phase, L and W, no line dirty, the place at its beginning, no request, all free.
 abbrev pub started : Phase → ℕ → ℕ → State
 started phase l w =
-    record { phase = phase; lines = l; workers = w; listed = 0; place = 0; undo = Restore; requested = false; worker = allFree }
+    record { phase = phase; lines = l; workers = w; place = 0; undo = Restore; requested = false; dirty = empty; worker = allFree }
 
 -- The record with the place, and a recovery's step there, put anew.
 abbrev pub placed : State → ℕ → UndoStep → State
 placed s place undo =
-    record { phase = s .phase; lines = s .lines; workers = s .workers; listed = s .listed; place = place; undo = undo; requested = s .requested; worker = s .worker }
+    record { phase = s .phase; lines = s .lines; workers = s .workers; place = place; undo = undo; requested = s .requested; dirty = s .dirty; worker = s .worker }
 
--- "Then running, all free": the end of a format or recovery sets the place to 0; a format's empties the list.
-abbrev pub opened : State → ℕ → State
-opened s listed =
-    record { phase = Running; lines = s .lines; workers = s .workers; listed = listed; place = 0; undo = Restore; requested = s .requested; worker = allFree }
+-- "Then running, all free": the end of a format or recovery sets the place to 0; 02: a format's clears the lines' bits.
+abbrev pub opened : State → List ℕ → State
+opened s dirty =
+    record { phase = Running; lines = s .lines; workers = s .workers; place = 0; undo = Restore; requested = s .requested; dirty = dirty; worker = allFree }
 
 -- "A request sets the place to 0".
 abbrev pub requesting : State → State
 requesting s =
-    record { phase = s .phase; lines = s .lines; workers = s .workers; listed = s .listed; place = 0; undo = Restore; requested = true; worker = s .worker }
+    record { phase = s .phase; lines = s .lines; workers = s .workers; place = 0; undo = Restore; requested = true; dirty = s .dirty; worker = s .worker }
 
 -- "release, with all eight workers free"; 02: "Release leaves it away": the condition that it leaves a worker in.
 abbrev pub afterRelease : Condition → Condition
@@ -166,17 +148,21 @@ releasedWorkers s =
     releasedWorker s 0 ∷ releasedWorker s 1 ∷ releasedWorker s 2 ∷ releasedWorker s 3
     ∷ releasedWorker s 4 ∷ releasedWorker s 5 ∷ releasedWorker s 6 ∷ releasedWorker s 7 ∷ []
 
--- "release, with all eight workers free" but those that are away, "list empty, request gone", the place 0.
+-- "release, with all eight workers free" but those that are away, "request gone", the place 0; 02: the bits "stay set until release".
 abbrev pub released : State → State
 released s =
-    record { phase = s .phase; lines = s .lines; workers = s .workers; listed = 0; place = 0; undo = Restore; requested = false; worker = releasedWorkers s }
+    record { phase = s .phase; lines = s .lines; workers = s .workers; place = 0; undo = Restore; requested = false; dirty = empty; worker = releasedWorkers s }
 
 -- The record with worker `w` in another condition.
 abbrev pub conditioned : State → ℕ → Condition → State
 conditioned s w condition =
-    record { phase = s .phase; lines = s .lines; workers = s .workers; listed = s .listed; place = s .place; undo = s .undo; requested = s .requested; worker = set (s .worker) w (record { condition = condition }) }
+    record { phase = s .phase; lines = s .lines; workers = s .workers; place = s .place; undo = s .undo; requested = s .requested; dirty = s .dirty; worker = set (s .worker) w (record { condition = condition }) }
 
--- The record with another length of the list.
-abbrev pub relisted : State → ℕ → State
-relisted s listed =
-    record { phase = s .phase; lines = s .lines; workers = s .workers; listed = listed; place = s .place; undo = s .undo; requested = s .requested; worker = s .worker }
+-- 02, ticket 5: "a bit for each line": the record with the bit of line `l` set.
+abbrev pub dirtied : State → ℕ → State
+dirtied s l =
+    record { phase = s .phase; lines = s .lines; workers = s .workers; place = s .place; undo = s .undo; requested = s .requested; dirty = inserted (s .dirty) l; worker = s .worker }
+
+-- 02, ticket 5: "n is their count": how many lines the next checkpoint writes.
+abbrev pub dirtyCount : State → ℕ
+dirtyCount s = size (s .dirty)

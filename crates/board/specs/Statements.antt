@@ -13,11 +13,11 @@ use Rattle.board.specs.declared.Condition.the-variants.{Free, Waiting, A
 use Rattle.board.specs.declared.Call.the-variants.{FormatStart, RecoveryStart, Step, Update, RestartPoint, Advance, Request, Read, GoAway, ComeBack}
 use Rattle.board.specs.declared.Phase.{Phase}
 use Rattle.board.specs.Board.{Board, cells, epochOf, linesOf, workersOf, lastEpoch}
-use Rattle.board.specs.State.{conditionOf, isFree, isWaiting, isFormatting, isRunning}
+use Rattle.board.specs.State.{conditionOf, isFree, isWaiting, isFormatting, isRunning, dirtyCount}
 use Rattle.board.specs.Effects.{undo, writtenBack}
-use Rattle.board.specs.Next.{Taken, next, Kind, startsFormat, startsRecovery, stepping, writing, other, reading, kind, isStep, Performed}
+use Rattle.board.specs.Next.{Taken, next, Kind, startsFormat, startsRecovery, stepping, writing, counting, other, reading, kind, isStep, Performed}
 use Rattle.board.specs.Machine.{Machine, beginning, recoveryBeginning, formatSteps}
-use Rattle.board.specs.Sequence.{Takes, Begins, Run, called, cutRun, KeepsLengths, Happens, performs, pages, cuts, History, begun, further, lastCheckpoint, recoverySteps}
+use Rattle.board.specs.Sequence.{Takes, Begins, Run, called, cutRun, KeepsLength, Happens, performs, pages, cuts, History, begun, further, lastCheckpoint, recoverySteps}
 
 -- ---- 1. reads
 
@@ -46,13 +46,12 @@ pub record Recovered (r : Run) (b : Board) : Type 0 where
 abbrev pub Recovery : Type 0
 Recovery = (r : Run) → History r → (b : Board) → Recovered r b → ReadsCheckpointed (r .machine) b
 
--- One more cut, which may leave anything in cache, list and state record, and a finished recovery.
+-- One more cut, which may leave anything in cache and state record, and a finished recovery.
 pub record CutAndRecovered (r : Run) (b : Board) : Type 0 where
   pub state : State
   pub cache : List ℕ
-  pub entries : List ℕ
-  pub lengths : KeepsLengths cache entries (r .board)
-  pub recovered : Recovered (cutRun state cache entries r) b
+  pub sameLength : KeepsLength cache (r .board)
+  pub recovered : Recovered (cutRun state cache r) b
 
 -- A cell reads alike on two boards exactly when the values checkpointed in their machines are equal.
 abbrev pub ReadAlike : Machine → Board → Machine → Board → Type 0
@@ -92,7 +91,7 @@ RecoveredSizes =
 unfoldable pub formatStepIn : {r r′ : Run} → Happens r r′ → Bool
 formatStepIn (performs {r = r} k number value b p a) = eqb number 0 && isStep (kind k) && isFormatting (r .board .state .phase)
 formatStepIn (pages text left number b p) = false
-formatStepIn (cuts s cache entries p) = false
+formatStepIn (cuts s cache p) = false
 
 -- Words 6 and 7 of every cell line of a row are the given ones.
 abbrev pub Spare : ℕ → (ℕ → ℕ) → List ℕ → Type 0
@@ -178,11 +177,11 @@ RecoveryEnds = (b : Board) → Taken RecoveryStart b → EndsIn (recoverySteps (
 abbrev pub AllWaitOrAway : State → Type 0
 AllWaitOrAway s = (w : ℕ) → w < s .workers → (conditionOf s w ≡ Waiting) ⊎ (conditionOf s w ≡ Away)
 
--- "With n entries that is n+3 steps": a requested checkpoint ends once all workers under W wait or are away.
+-- "that is n+3 steps": a requested checkpoint ends once all workers under W wait or are away.
 abbrev pub CheckpointEnds : Type 0
 CheckpointEnds =
     (r : Run) → History r → r .crashed ≡ false → isRunning (r .board .state .phase) ≡ true → r .board .state .requested ≡ true → r .board .state .place ≡ 0 →
-    AllWaitOrAway (r .board .state) → EndsIn (r .board .state .listed + 3) (r .board)
+    AllWaitOrAway (r .board .state) → EndsIn (dirtyCount (r .board .state) + 3) (r .board)
 
 -- Of the eight workers those that were away are away, and the others are free.
 abbrev pub KeepsAway : State → State → Type 0
@@ -194,7 +193,7 @@ abbrev pub AwayHoldsUpNone : Type 0
 AwayHoldsUpNone =
     (r : Run) → History r → r .crashed ≡ false → isRunning (r .board .state .phase) ≡ true → r .board .state .requested ≡ true →
     AllWaitOrAway (r .board .state) →
-    (left : ℕ) → r .board .state .place + left ≡ r .board .state .listed + 3 → EndsIn left (r .board) × KeepsAway (r .board .state) (stepsFrom left (r .board) .state)
+    (left : ℕ) → r .board .state .place + left ≡ dirtyCount (r .board .state) + 3 → EndsIn left (r .board) × KeepsAway (r .board .state) (stepsFrom left (r .board) .state)
 
 -- 02, ticket 2: a running board lets worker `w` go away exactly where it is free, and come back exactly where it is away and no step of a requested checkpoint was taken; nothing else turns them down.
 abbrev pub GoesAndComes : Type 0
@@ -258,6 +257,7 @@ several startsFormat phase = false
 several startsRecovery phase = true
 several stepping phase = isFormatting phase
 several writing phase = false
+several counting phase = false
 several other phase = false
 several (reading c) phase = false
 

@@ -16,9 +16,9 @@ use Rattle.board.specs.declared.Phase.{Phase}
 use Rattle.board.specs.declared.Phase.the-variants.{Formatting, Recovering, Running}
 use Rattle.board.specs.declared.UndoStep.the-variants.{Restore}
 use Rattle.board.specs.declared.Call.{Call}
-use Rattle.board.specs.declared.Call.the-variants.{FormatStart, RecoveryStart, Step, Update, RestartPoint, Advance, Request, WriteBack, Read, GoAway, ComeBack}
+use Rattle.board.specs.declared.Call.the-variants.{FormatStart, RecoveryStart, Step, Update, RestartPoint, Advance, Request, WriteBack, Read, GoAway, ComeBack, Count}
 use Rattle.board.specs.Board.{Board}
-use Rattle.board.specs.State.{conditionOf}
+use Rattle.board.specs.State.{conditionOf, dirtyCount}
 use Rattle.board.specs.Causes.{Cause, causes, cause}
 use Rattle.board.specs.Next.{next, Taken, kind, isStart}
 use Rattle.board.specs.Statements.{stepsFrom, KeepsAway}
@@ -31,11 +31,10 @@ pub record OnlyLine (line : ℕ) (given row row′ : List ℕ) : Type 0 where
   pub size : length row′ ≡ length row
   pub words : (k : ℕ) → k < 8 → getD row′ (lineStart line + k) 0 ≡ getD given k 0
 
--- "in both": memory and cache differ in that line alone, and the list not at all.
+-- "in both": memory and cache differ in that line alone.
 pub record OnlyLineInBoth (line : ℕ) (given : List ℕ) (b b′ : Board) : Type 0 where
   pub memory : OnlyLine line given (b .memory) (b′ .memory)
   pub cache : OnlyLine line given (b .cache) (b′ .cache)
-  pub entries : b′ .entries ≡ b .entries
 
 -- The board `i` steps after a format's start.
 abbrev pub formatAfter : ℕ → ℕ → Board → ℕ → Board
@@ -56,7 +55,6 @@ pub record OnlyCell (c : ℕ) (b b′ : Board) : Type 0 where
   pub cacheSize : length (b′ .cache) ≡ length (b .cache)
   pub memory : (i : ℕ) → (i / 8 ≡ cellLine c → ⊥) → getD (b′ .memory) i 0 ≡ getD (b .memory) i 0
   pub memorySize : length (b′ .memory) ≡ length (b .memory)
-  pub entries : b′ .entries ≡ b .entries
   pub place : b′ .state .phase ≡ Recovering → (b′ .state .place ≡ c) ⊎ (b′ .state .place ≡ c + 1)
 
 -- "cells from 0 up: a cell whose mark equals the epoch takes three steps (record := backup; mark := 0; its line written back), any other one step that stores nothing": no step goes beyond the cell at its place.
@@ -65,11 +63,11 @@ RecoveryWrites = (b : Board) → b .state .phase ≡ Recovering → Taken Step b
 
 -- ---- 3. release
 
--- Of the eight workers those that were away are away and the others free, the list is empty, no request stands, the place is 0 with a recovery's first step; phase, L, W and the rows are as they were.
+-- Of the eight workers those that were away are away and the others free, no line is dirty, no request stands, the place is 0 with a recovery's first step; phase, L, W and the rows are as they were.
 pub record Released (b b′ : Board) : Type 0 where
   pub eight : length (b′ .state .worker) ≡ 8
   pub workersAfter : KeepsAway (b .state) (b′ .state)
-  pub empty : b′ .state .listed ≡ 0
+  pub clean : b′ .state .dirty ≡ replicate 8 0
   pub request : b′ .state .requested ≡ false
   pub place : b′ .state .place ≡ 0
   pub undo : b′ .state .undo ≡ Restore
@@ -78,11 +76,10 @@ pub record Released (b b′ : Board) : Type 0 where
   pub workers : b′ .state .workers ≡ b .state .workers
   pub memory : b′ .memory ≡ b .memory
   pub cache : b′ .cache ≡ b .cache
-  pub entries : b′ .entries ≡ b .entries
 
--- "release, with all eight workers free, list empty, request gone"; 02: "Release leaves it away": the last of a checkpoint's n+3 steps, whatever the record.
+-- "release, with all eight workers free, .. request gone"; 02: "Release leaves it away", and the bits "stay set until release": the last of a checkpoint's n+3 steps, whatever the record.
 abbrev pub Releases : Type 0
-Releases = (b : Board) → b .state .phase ≡ Running → Taken Step b → b .state .place ≡ b .state .listed + 2 → Released b (next Step b)
+Releases = (b : Board) → b .state .phase ≡ Running → Taken Step b → b .state .place ≡ dirtyCount (b .state) + 2 → Released b (next Step b)
 
 -- ---- 4. the last store of an update
 
@@ -125,20 +122,20 @@ pub record ReadBothWays (k : Call) (b : Board) : Type 0 where
 abbrev pub TableBothWays : Type 0
 TableBothWays = (k : Call) (b : Board) → ReadBothWays k b
 
--- "L, the cell lines, is 1 to 511", "W, the workers, is 1 to 8, and W < 2L", "8×(L+1) words", "at least 2L of them": with these a format starts on any board.
+-- "L, the cell lines, is 1 to 511", "W, the workers, is 1 to 8, and W < 2L", "8×(L+1) words": with these a format starts on any board.
 abbrev pub FormatStarts : Type 0
 FormatStarts =
     (l w : ℕ) (b : Board) → 1 ≤ l → l ≤ 511 → 1 ≤ w → w ≤ 8 → w < 2 * l →
-    length (b .memory) ≡ 8 * (l + 1) → length (b .cache) ≡ 8 * (l + 1) → 2 * l ≤ length (b .entries) → Taken (FormatStart l w) b
+    length (b .memory) ≡ 8 * (l + 1) → length (b .cache) ≡ 8 * (l + 1) → Taken (FormatStart l w) b
 
 -- ---- 6. the two starts
 
--- "Each of the two starts sets every field of the state record": the phase, L and W given; memory and the list are as they were, and the cache is the one given.
+-- "Each of the two starts sets every field of the state record": the phase, L and W given, no line dirty; memory is as it was, and the cache is the one given.
 pub record Begun (phase : Phase) (l w : ℕ) (cache : List ℕ) (b b′ : Board) : Type 0 where
   pub inPhase : b′ .state .phase ≡ phase
   pub lines : b′ .state .lines ≡ l
   pub workers : b′ .state .workers ≡ w
-  pub empty : b′ .state .listed ≡ 0
+  pub clean : b′ .state .dirty ≡ replicate 8 0
   pub place : b′ .state .place ≡ 0
   pub undo : b′ .state .undo ≡ Restore
   pub request : b′ .state .requested ≡ false
@@ -146,7 +143,6 @@ pub record Begun (phase : Phase) (l w : ℕ) (cache : List ℕ) (b b′ : Board)
   pub free : (i : ℕ) → conditionOf (b′ .state) i ≡ Free
   pub memory : b′ .memory ≡ b .memory
   pub current : b′ .cache ≡ cache
-  pub entries : b′ .entries ≡ b .entries
 
 -- "Format. The start changes no row."
 abbrev pub FormatBegins : Type 0
@@ -161,14 +157,13 @@ RecoveryBegins =
 abbrev pub markWord : ℕ → ℕ
 markWord c = 8 * (1 + c / 2) + 3 * (c % 2) + 2
 
--- A board of `l` lines and `w` workers that can be recovered: rows of 8×(L+1) words, room for every cell in the list, epoch, L and W in the header and zeros after them; 02, ticket 4:
--- no cell's mark in memory greater than memory's epoch. Nothing is asked of the state record, of what cache and list hold, or of the other words of the cell lines.
+-- A board of `l` lines and `w` workers that can be recovered: rows of 8×(L+1) words, epoch, L and W in the header and zeros after them; 02, ticket 4:
+-- no cell's mark in memory greater than memory's epoch. Nothing is asked of the state record, of what the cache holds, or of the other words of the cell lines.
 pub record Recoverable (l w : ℕ) (b : Board) : Type 0 where
   pub linesWithin : (1 ≤ l) × (l ≤ 511)
   pub workersWithin : (1 ≤ w) × (w ≤ 8) × (w < 2 * l)
   pub memory : length (b .memory) ≡ 8 * (l + 1)
   pub cache : length (b .cache) ≡ 8 * (l + 1)
-  pub entries : 2 * l ≤ length (b .entries)
   pub epoch : 0 < getD (b .memory) 0 0
   pub lines : getD (b .memory) 1 0 ≡ l
   pub workers : getD (b .memory) 2 0 ≡ w
@@ -189,36 +184,35 @@ pub record Asked (b b′ : Board) : Type 0 where
   pub phase : b′ .state .phase ≡ b .state .phase
   pub lines : b′ .state .lines ≡ b .state .lines
   pub workers : b′ .state .workers ≡ b .state .workers
-  pub listed : b′ .state .listed ≡ b .state .listed
+  pub dirty : b′ .state .dirty ≡ b .state .dirty
   pub worker : b′ .state .worker ≡ b .state .worker
   pub memory : b′ .memory ≡ b .memory
   pub cache : b′ .cache ≡ b .cache
-  pub entries : b′ .entries ≡ b .entries
 
 -- "A request .. set the place to 0."
 abbrev pub Requests : Type 0
 Requests = (b : Board) → Taken Request b → Asked b (next Request b)
 
--- The board runs, all eight workers free, at place 0, with the given list length; L, W and the request are as they were.
-pub record Opened (listed : ℕ) (b b′ : Board) : Type 0 where
+-- The board runs, all eight workers free, at place 0, with the given dirty lines; L, W and the request are as they were.
+pub record Opened (dirty : List ℕ) (b b′ : Board) : Type 0 where
   pub phase : b′ .state .phase ≡ Running
   pub lines : b′ .state .lines ≡ b .state .lines
   pub workers : b′ .state .workers ≡ b .state .workers
-  pub list : b′ .state .listed ≡ listed
+  pub lineBits : b′ .state .dirty ≡ dirty
   pub place : b′ .state .place ≡ 0
   pub undo : b′ .state .undo ≡ Restore
   pub request : b′ .state .requested ≡ b .state .requested
   pub eight : length (b′ .state .worker) ≡ 8
   pub free : (i : ℕ) → conditionOf (b′ .state) i ≡ Free
 
--- "Then running, all free, list empty": the last step of a format.
+-- "Then running, all free", no line dirty: the last step of a format.
 abbrev pub FormatOpens : Type 0
-FormatOpens = (b : Board) → b .state .phase ≡ Formatting → Taken Step b → b .state .place ≡ b .state .lines + 1 → Opened 0 b (next Step b)
+FormatOpens = (b : Board) → b .state .phase ≡ Formatting → Taken Step b → b .state .place ≡ b .state .lines + 1 → Opened (replicate 8 0) b (next Step b)
 
--- "After the last cell: running in the same epoch, all free"; the list's length, which the rule does not name, stays.
+-- "After the last cell: running in the same epoch, all free"; the lines' bits, which the rule does not name, stay.
 abbrev pub RecoveryOpens : Type 0
 RecoveryOpens =
-    (b : Board) → b .state .phase ≡ Recovering → Taken Step b → (next Step b .state .phase ≡ Recovering → ⊥) → Opened (b .state .listed) b (next Step b)
+    (b : Board) → b .state .phase ≡ Recovering → Taken Step b → (next Step b .state .phase ≡ Recovering → ⊥) → Opened (b .state .dirty) b (next Step b)
 
 -- ---- 8. going away and coming back
 
@@ -230,13 +224,12 @@ pub record OnlyWorker (w : ℕ) (condition : Condition) (b b′ : Board) : Type 
   pub phase : b′ .state .phase ≡ b .state .phase
   pub lines : b′ .state .lines ≡ b .state .lines
   pub workers : b′ .state .workers ≡ b .state .workers
-  pub listed : b′ .state .listed ≡ b .state .listed
+  pub dirty : b′ .state .dirty ≡ b .state .dirty
   pub place : b′ .state .place ≡ b .state .place
   pub undo : b′ .state .undo ≡ b .state .undo
   pub request : b′ .state .requested ≡ b .state .requested
   pub memory : b′ .memory ≡ b .memory
   pub cache : b′ .cache ≡ b .cache
-  pub entries : b′ .entries ≡ b .entries
 
 -- 02: "A free worker may go away": on a record of eight workers.
 abbrev pub GoesAway : Type 0
@@ -259,9 +252,10 @@ names (WriteBack l) i = false
 names (Read c) i = false
 names (GoAway w) i = eqb i w
 names (ComeBack w) i = eqb i w
+names Count i = false
 
 -- A taken call of a running board leaves every worker that it does not name in its condition, so one that is away stays away until it comes back; but for the two starts (6) and the release (3).
 abbrev pub OthersStay : Type 0
 OthersStay =
-    (k : Call) (b : Board) → b .state .phase ≡ Running → Taken k b → isStart (kind k) ≡ false → (k ≡ Step → b .state .place ≡ b .state .listed + 2 → ⊥) →
+    (k : Call) (b : Board) → b .state .phase ≡ Running → Taken k b → isStart (kind k) ≡ false → (k ≡ Step → b .state .place ≡ dirtyCount (b .state) + 2 → ⊥) →
     (i : ℕ) → names k i ≡ false → conditionOf (next k b .state) i ≡ conditionOf (b .state) i

@@ -1,6 +1,6 @@
 // The declared types of the board: its state record and the calls that a host can make (document 01).
 ghost use mathlib.Core.Path.{_≡_};
-ghost use Rattle.board.specs.Board.{cells, rowWords, listWords};
+ghost use Rattle.board.specs.Board.{cells, rowWords};
 ghost use Rattle.board.specs.Page.{pageBytes};
 
 // What the board is doing.
@@ -40,20 +40,20 @@ pub struct Worker {
     pub condition: Condition,
 }
 
-// The state record: phase, L, W, the list's length, the place reached (with a recovery's step),
-// whether a checkpoint was requested, and the eight workers.
+// The state record: phase, L, W, the place reached (with a recovery's step), whether a checkpoint was requested,
+// the dirty lines, which the next checkpoint writes back, a bit a line (crate `bitset`), and the eight workers.
 pub struct State {
     pub phase: Phase,
     pub lines: u16,
     pub workers: u8,
-    pub listed: u16,
     pub place: u16,
     pub undo: UndoStep,
     pub requested: bool,
+    pub dirty: [u64; 8],
     pub worker: [Worker; 8],
 }
 
-// The eleven calls with their arguments, any numbers a host may pass: nine of document 01, two of document 02.
+// The twelve calls with their arguments, any numbers a host may pass: nine of document 01, three of document 02.
 pub enum Call {
     FormatStart { lines: u64, workers: u64 },
     RecoveryStart,
@@ -66,6 +66,7 @@ pub enum Call {
     Read { cell: u64 },
     GoAway { worker: u64 },
     ComeBack { worker: u64 },
+    Count,
 }
 
 // "Lines 1 to L hold two cells each": the number of cells.
@@ -80,13 +81,6 @@ pub fn row_words(lines: u16) -> usize
     ensures { λ r. ⌜ r ≡ rowWords lines ⌝ }
 {
     8 * (lines as usize + 1)
-}
-
-// "The list is a third lent row, at least 2L of them".
-pub fn list_words(lines: u16) -> usize
-    ensures { λ r. ⌜ r ≡ listWords lines ⌝ }
-{
-    cells(lines) as usize
 }
 
 // The bytes of a page: a heading and a line for each cell, 68 bytes each.

@@ -9,7 +9,7 @@ use Rattle.board.specs.declared.Phase.{Phase}
 use Rattle.board.specs.declared.Phase.the-variants.{Running}
 use Rattle.board.specs.declared.Call.the-variants.{Step}
 use Rattle.board.specs.Board.{Board}
-use Rattle.board.specs.State.{conditionOf, quiescent, anyWorker, isRunning}
+use Rattle.board.specs.State.{conditionOf, quiescent, anyWorker, isRunning, dirtyCount}
 use Rattle.board.specs.Causes.{causes}
 use Rattle.board.specs.Effects.{Act, writeLine, storeEpoch, writeHeader, release, actAt, performAct, step, effect}
 use Rattle.board.specs.Machine.{Machine, markedCount, counted, completed, dropped, checkpointStep, stepped, beginning, finishesFormat, feed}
@@ -82,7 +82,7 @@ machine-drops m e =
 -- ---- the step of a running board
 
 -- The board after a running board's step.
-pub effect-acts : (b : Board) → b .state .phase ≡ Running → effect Step b ≡ performAct (actAt (b .state .listed) (b .state .place)) (b .state) b
+pub effect-acts : (b : Board) → b .state .phase ≡ Running → effect Step b ≡ performAct (actAt (dirtyCount (b .state)) (b .state .place)) (b .state) b
 unfolding effect step
 effect-acts b e = ap (λ (p : Phase). step p (b .state) b) e
 
@@ -92,7 +92,7 @@ acted r act m =
     record { board = performAct act (r .board .state) (r .board); machine = m; crashed = r .crashed && true; erased = r .erased }
 
 -- The run after a step of a requested checkpoint.
-pub step-acts : (r : Run) → r .board .state .phase ≡ Running → r .machine .requested ≡ true → afterTaken Step r ≡ acted r (actAt (r .board .state .listed) (r .board .state .place)) (checkpointStep (r .machine))
+pub step-acts : (r : Run) → r .board .state .phase ≡ Running → r .machine .requested ≡ true → afterTaken Step r ≡ acted r (actAt (dirtyCount (r .board .state)) (r .board .state .place)) (checkpointStep (r .machine))
 unfolding feed stepped
 step-acts r e on =
     let m = r .machine in

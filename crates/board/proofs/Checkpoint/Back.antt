@@ -5,6 +5,7 @@ use mathlib.Core.Logic.{inl, inr}
 use mathlib.Core.Bool.{Bool, true, false}
 use native.Mathlib.Omega.{arith}
 use Rattle.board.specs.Board.{cells, epochOf}
+use Rattle.board.specs.State.{dirtyCount}
 use Rattle.board.specs.Effects.{writtenBack}
 use Rattle.board.specs.Sequence.{Run}
 use Rattle.board.specs.Statements.{SameSpare}
@@ -35,7 +36,7 @@ module _ (r : Run) (s : RunningRun r) (place steps : ℕ) (agree : r .board .sta
   inv-back i h xs k u stage =
       let z = s .inv .sizes in
       inv-running (backRun r i place xs steps crashed) (s .on) (s .phase)
-      (record { limits = z .limits; memory = sized-back (r .board .memory) (r .board .cache) (z .memory) (z .cache) i h; cache = z .cache; entries = z .entries })
+      (record { limits = z .limits; memory = sized-back (r .board .memory) (r .board .cache) (z .memory) (z .cache) i h; cache = z .cache })
       k
       (running-moved (s .running) (writtenBack i (r .board)) place xs steps (sizes i h) (spare-backed (r .board .memory) (r .board .cache) (z .memory) (z .cache) i h (s .running .spare)) agree u stage)
 
@@ -56,7 +57,7 @@ module _ (r : Run) (s : RunningRun r) (place steps : ℕ) (agree : r .board .sta
       }
 
   -- Line 0's write-back after the epoch's store completes the checkpoint, and done again changes nothing.
-  pub header-back : r .board .state .requested ≡ true → r .board .state .listed + 1 ≤ r .board .state .place → r .board .state .listed + 1 ≤ place → place ≤ r .board .state .listed + 2 → Stage (r .machine .lines) (r .board) (r .machine) → Carried false r (backRun r 0 place (r .machine .current) steps crashed)
+  pub header-back : r .board .state .requested ≡ true → dirtyCount (r .board .state) + 1 ≤ r .board .state .place → dirtyCount (r .board .state) + 1 ≤ place → place ≤ dirtyCount (r .board .state) + 2 → Stage (r .machine .lines) (r .board) (r .machine) → Carried false r (backRun r 0 place (r .machine .current) steps crashed)
   header-back on past low high (early e) =
       absurd (omega (arith, e .within, chosen (r .board .state .requested) (r .board .state .place) 0 on))
   header-back on past low high (gap g) =

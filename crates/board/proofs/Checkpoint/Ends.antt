@@ -17,7 +17,7 @@ use Rattle.board.specs.declared.Phase.{Phase}
 use Rattle.board.specs.declared.Phase.the-variants.{Running}
 use Rattle.board.specs.declared.Call.the-variants.{Step}
 use Rattle.board.specs.Board.{Board, cells, workersOutside, epochOf, lastEpoch}
-use Rattle.board.specs.State.{conditionOf, isOff, isRunning, quiescent, updates, anyWorker, placed, released}
+use Rattle.board.specs.State.{conditionOf, isOff, isRunning, quiescent, updates, anyWorker, placed, released, dirtyCount}
 use Rattle.board.specs.Causes.{causes, placePast, badRows, checkpointing, badEntry, epochSpent}
 use Rattle.board.specs.Effects.{writtenBack, stated, Act, release, actAt, listedLine, performAct}
 use Rattle.board.specs.Next.{next, Taken}
@@ -43,10 +43,10 @@ record Ready (l : ℕ) (b : Board) : Type 0 where
   sizes : Sizes l b
   lines : b .state .lines ≡ l
   workers : workersOutside l (b .state .workers) ≡ false
-  listed : b .state .listed ≤ cells l
-  place : b .state .place ≤ b .state .listed + 2
-  entries : (i : ℕ) → i < b .state .listed → getD (b .entries) i 0 < cells l
-  epoch : b .state .place ≤ b .state .listed → epochOf (b .cache) ≡ lastEpoch → ⊥
+  listed : dirtyCount (b .state) ≤ cells l
+  place : b .state .place ≤ dirtyCount (b .state) + 2
+  entries : (i : ℕ) → i < dirtyCount (b .state) → getD (b .entries) i 0 < cells l
+  epoch : b .state .place ≤ dirtyCount (b .state) → epochOf (b .cache) ≡ lastEpoch → ⊥
   waiting : AllQuiescent (b .state)
 
 -- ---- each step is taken
@@ -63,7 +63,7 @@ ready-taken : {l : ℕ} (b : Board) → Ready l b → Taken Step b
 unfolding Clear causes
 ready-taken {l} b y =
     let s = b .state in
-    let n = s .listed in
+    let n = dirtyCount s in
     let c = getD (b .entries) (s .place) 0 in
     take Step b (
       subst (λ (p : Phase). isOff p ≡ false) (sym (y .phase)) refl,
@@ -96,23 +96,22 @@ ready-taken {l} b y =
 record Follows (l : ℕ) (b b′ : Board) : Type 0 where
   ready : Ready l b′
   place : b′ .state .place ≡ b .state .place + 1
-  listed : b′ .state .listed ≡ b .state .listed
+  listed : dirtyCount (b′ .state) ≡ dirtyCount (b .state)
   worker : b′ .state .worker ≡ b .state .worker
 
 -- A step that stores in one of the rows and goes on.
-goes-on : {l : ℕ} (b : Board) → Ready l b → b .state .place < b .state .listed + 2 → (memory cache : List ℕ) → Sized l memory → Sized l cache → (b .state .place + 1 ≤ b .state .listed → epochOf cache ≡ lastEpoch → ⊥) → Follows l b (record { state = placed (b .state) (b .state .place + 1) (b .state .undo); memory = memory; cache = cache; entries = b .entries })
+goes-on : {l : ℕ} (b : Board) → Ready l b → b .state .place < dirtyCount (b .state) + 2 → (memory cache : List ℕ) → Sized l memory → Sized l cache → (b .state .place + 1 ≤ dirtyCount (b .state) → epochOf cache ≡ lastEpoch → ⊥) → Follows l b (record { state = placed (b .state) (b .state .place + 1) (b .state .undo); memory = memory; cache = cache })
 goes-on b y h memory cache zm zc room =
     record {
       ready =
           record {
             phase = y .phase;
             request = y .request;
-            sizes = record { limits = y .sizes .limits; memory = zm; cache = zc; entries = y .sizes .entries };
+            sizes = record { limits = y .sizes .limits; memory = zm; cache = zc };
             lines = y .lines;
             workers = y .workers;
             listed = y .listed;
             place = omega arith;
-            entries = y .entries;
             epoch = room;
             waiting = y .waiting;
           };
@@ -122,7 +121,7 @@ goes-on b y h memory cache zm zc room =
     }
 
 -- Every step before the release goes on.
-ready-acts : {l : ℕ} (b : Board) → Ready l b → b .state .place < b .state .listed + 2 → Follows l b (performAct (actAt (b .state .listed) (b .state .place)) (b .state) b)
+ready-acts : {l : ℕ} (b : Board) → Ready l b → b .state .place < dirtyCount (b .state) + 2 → Follows l b (performAct (actAt (dirtyCount (b .state)) (b .state .place)) (b .state) b)
 unfolding performAct
 ready-acts {l} b y h =
     act-cases (λ (a : Act). Follows l b (performAct a (b .state) b)) n place
@@ -132,7 +131,7 @@ ready-acts {l} b y h =
     (λ p. absurd (omega arith))
   where
     n : ℕ
-    n = b .state .listed
+    n = dirtyCount (b .state)
 
     place : ℕ
     place = b .state .place
@@ -150,28 +149,28 @@ unfolding stepsFrom
 ends-after n b d t e same rest = (
   ends-more n b d t e (rest .0),
   subst (λ (x : Board). KeepsAway (b .state) (stepsFrom n x .state)) (sym e)
-      (subst (λ (ws : List Worker). KeepsAway (record { phase = b .state .phase; lines = b .state .lines; workers = b .state .workers; listed = b .state .listed; place = b .state .place; undo = b .state .undo; requested = b .state .requested; worker = ws }) (stepsFrom n d .state)) same (rest .1)),
+      (subst (λ (ws : List Worker). KeepsAway (record { phase = b .state .phase; lines = b .state .lines; workers = b .state .workers; listed = dirtyCount (b .state); place = b .state .place; undo = b .state .undo; requested = b .state .requested; worker = ws }) (stepsFrom n d .state)) same (rest .1)),
 )
 
 -- The steps from a ready board to the release.
-ends : {l : ℕ} (n : ℕ) (b : Board) → Ready l b → n + b .state .place ≡ b .state .listed + 3 → Ends n b
+ends : {l : ℕ} (n : ℕ) (b : Board) → Ready l b → n + b .state .place ≡ dirtyCount (b .state) + 3 → Ends n b
 unfolding stepsFrom AllTaken performAct
 ends zero b y e = absurd (omega (arith, y .place))
 ends {l} (suc n) b y e =
-    elim (decLt (s .place) (s .listed + 2)) [
+    elim (decLt (s .place) (dirtyCount s + 2)) [
       | yes h ↦
           let f = ready-acts b y h in
           ends-after n b acted t acts (f .worker) (ends n acted (f .ready) (omega (arith, f .place, f .listed)))
       | no o ↦
-          let end : s .place ≡ s .listed + 2 = omega (arith, y .place) in
-          last n (omega arith) (acts ∙ ap (λ (a : Act). performAct a s b) (act-release (s .listed) (s .place) end))
+          let end : s .place ≡ dirtyCount s + 2 = omega (arith, y .place) in
+          last n (omega arith) (acts ∙ ap (λ (a : Act). performAct a s b) (act-release (dirtyCount s) (s .place) end))
     ]
   where
     s : State
     s = b .state
 
     acted : Board
-    acted = performAct (actAt (s .listed) (s .place)) s b
+    acted = performAct (actAt (dirtyCount s) (s .place)) s b
 
     t : Taken Step b
     t = ready-taken b y
@@ -189,7 +188,7 @@ ends {l} (suc n) b y e =
 -- ---- from the invariant
 
 -- Up to the epoch's store a requested checkpoint has an epoch to go to.
-room : {l : ℕ} (b : Board) (m : Machine) → b .state .requested ≡ true → Stage l b m → b .state .place ≤ b .state .listed → epochOf (b .cache) ≡ lastEpoch → ⊥
+room : {l : ℕ} (b : Board) (m : Machine) → b .state .requested ≡ true → Stage l b m → b .state .place ≤ dirtyCount (b .state) → epochOf (b .cache) ≡ lastEpoch → ⊥
 room b m on (early a) h = a .room on
 room b m on (gap g) h = absurd (omega (arith, g .place))
 room b m on (late a) h = absurd (omega (arith, a .low))
@@ -203,7 +202,7 @@ all-quiescent s f w h = by (f w h)
     by (inr e) = ap quiescent e
 
 -- A requested checkpoint ends from whatever place it has reached, where the invariant holds.
-pub checkpoint-ends : (r : Run) → Inv r → r .crashed ≡ false → isRunning (r .board .state .phase) ≡ true → r .board .state .requested ≡ true → AllWaitOrAway (r .board .state) → (left : ℕ) → r .board .state .place + left ≡ r .board .state .listed + 3 → EndsIn left (r .board) × KeepsAway (r .board .state) (stepsFrom left (r .board) .state)
+pub checkpoint-ends : (r : Run) → Inv r → r .crashed ≡ false → isRunning (r .board .state .phase) ≡ true → r .board .state .requested ≡ true → AllWaitOrAway (r .board .state) → (left : ℕ) → r .board .state .place + left ≡ dirtyCount (r .board .state) + 3 → EndsIn left (r .board) × KeepsAway (r .board .state) (stepsFrom left (r .board) .state)
 checkpoint-ends r inv d e on wait left h =
     let b = r .board in
     let m = r .machine in
@@ -218,7 +217,6 @@ checkpoint-ends r inv d e on wait left h =
       workers = v .workers;
       listed = omega (arith, v .count, count-most (cells (m .lines)) (m .marked));
       place = place-in (m .lines) b m (v .stage) on;
-      entries = v .listed;
       epoch = room b m on (v .stage);
       waiting = all-quiescent (b .state) wait;
     } in

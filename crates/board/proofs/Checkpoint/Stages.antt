@@ -8,7 +8,7 @@ use native.Mathlib.Decide.{ℕ-discrete}
 use lib.Dec.{eqb}
 use lib.ListN.{getD}
 use Rattle.board.specs.Board.{Board, cells, epochOf}
-use Rattle.board.specs.State.{placed}
+use Rattle.board.specs.State.{placed, dirtyCount}
 use Rattle.board.specs.Effects.{writtenBack}
 use Rattle.board.specs.Machine.{Machine}
 use Rattle.board.specs.Statements.{SameSpare}
@@ -21,7 +21,7 @@ use Rattle.board.proofs.Checkpoint.Memory.{value-back, epoch-back}
 -- The board with another memory and another place.
 abbrev pub moved : Board → List ℕ → ℕ → Board
 moved b memory place =
-    record { state = placed (b .state) place (b .state .undo); memory = memory; cache = b .cache; entries = b .entries }
+    record { state = placed (b .state) place (b .state .undo); memory = memory; cache = b .cache }
 
 -- The machine with other checkpointed values and another number of steps.
 abbrev pub remade : Machine → (ℕ → ℕ) → ℕ → Machine
@@ -29,7 +29,7 @@ remade m xs steps =
     record { current = m .current; checkpointed = xs; marked = m .marked; unfinished = m .unfinished; requested = m .requested; steps = steps; formatting = m .formatting; lines = m .lines }
 
 -- A requested checkpoint's place is at most the release's.
-pub place-high : {l : ℕ} {b : Board} {m : Machine} → b .state .requested ≡ true → Stage l b m → b .state .place ≤ b .state .listed + 2
+pub place-high : {l : ℕ} {b : Board} {m : Machine} → b .state .requested ≡ true → Stage l b m → b .state .place ≤ dirtyCount (b .state) + 2
 place-high {l} {b} on (early e) = omega (arith, e .within, chosen (b .state .requested) (b .state .place) 0 on)
 place-high on (gap g) = omega (arith, g .place)
 place-high on (late e) = e .high
@@ -56,7 +56,7 @@ running-moved {b = b} v memory place xs steps sizes spare agree undoes stage =
     }
 
 -- The early stage, the entry at the checkpoint's place having its record in memory.
-pub early-placed : {l : ℕ} (b : Board) {m : Machine} (steps : ℕ) → Early l b m → b .state .requested ≡ true → b .state .place < b .state .listed → AllQuiescent (b .state) → view (b .memory) (getD (b .entries) (b .state .place) 0) .value ≡ view (b .cache) (getD (b .entries) (b .state .place) 0) .value → Early l (moved b (b .memory) (b .state .place + 1)) (remade m (m .checkpointed) steps)
+pub early-placed : {l : ℕ} (b : Board) {m : Machine} (steps : ℕ) → Early l b m → b .state .requested ≡ true → b .state .place < dirtyCount (b .state) → AllQuiescent (b .state) → view (b .memory) (getD (b .entries) (b .state .place) 0) .value ≡ view (b .cache) (getD (b .entries) (b .state .place) 0) .value → Early l (moved b (b .memory) (b .state .place + 1)) (remade m (m .checkpointed) steps)
 early-placed b steps e on h w same =
     let was : progress (b .state) ≡ b .state .place = chosen (b .state .requested) (b .state .place) 0 on in
     let now : progress (placed (b .state) (b .state .place + 1) (b .state .undo)) ≡ b .state .place + 1 = chosen (b .state .requested) (b .state .place + 1) 0 on in
@@ -81,7 +81,7 @@ module _ {l : ℕ} (b : Board) (z : Sizes l b) (i : ℕ) (h : i ≤ l) where
   same-back same c p = value-back (b .memory) (b .cache) (z .memory) (z .cache) i c h p (same c p)
 
   -- Before the epoch's store a write-back of any line leaves the early stage.
-  pub early-back : {m : Machine} → ((j : ℕ) → j < b .state .listed → getD (b .entries) j 0 < cells l) → Early l b m → Early l (moved b (writtenBack i b) (b .state .place)) m
+  pub early-back : {m : Machine} → ((j : ℕ) → j < dirtyCount (b .state) → getD (b .entries) j 0 < cells l) → Early l b m → Early l (moved b (writtenBack i b) (b .state .place)) m
   early-back listed e =
       let same : epochOf (writtenBack i b) ≡ epochOf (b .memory) = epoch-back (b .memory) (b .cache) (z .memory) (z .cache) i h (λ q. e .epochs) in
       record {
@@ -107,7 +107,7 @@ module _ {l : ℕ} (b : Board) (z : Sizes l b) (i : ℕ) (h : i ≤ l) where
       }
 
   -- After a write-back that leaves the cache's epoch in memory the board is in the late stage.
-  pub late-back : (m : Machine) (place : ℕ) (xs : ℕ → ℕ) (steps : ℕ) → b .state .requested ≡ true → b .state .listed + 1 ≤ place → place ≤ b .state .listed + 2 → epochOf (writtenBack i b) ≡ epochOf (b .cache) → SameRecords l b → AllQuiescent (b .state) → ((c : ℕ) → c < cells l → xs c ≡ m .current c) → ((c : ℕ) → c < cells l → view (b .cache) c .mark ≡ epochOf (b .cache) → ⊥) → Late l (moved b (writtenBack i b) place) (remade m xs steps)
+  pub late-back : (m : Machine) (place : ℕ) (xs : ℕ → ℕ) (steps : ℕ) → b .state .requested ≡ true → dirtyCount (b .state) + 1 ≤ place → place ≤ dirtyCount (b .state) + 2 → epochOf (writtenBack i b) ≡ epochOf (b .cache) → SameRecords l b → AllQuiescent (b .state) → ((c : ℕ) → c < cells l → xs c ≡ m .current c) → ((c : ℕ) → c < cells l → view (b .cache) c .mark ≡ epochOf (b .cache) → ⊥) → Late l (moved b (writtenBack i b) place) (remade m xs steps)
   late-back m place xs steps on low high epoch same waiting complete unlogged =
       record {
         request = on;

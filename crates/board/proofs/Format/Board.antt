@@ -13,8 +13,8 @@ use Rattle.board.specs.declared.Condition.the-variants.{Free}
 use Rattle.board.specs.declared.Phase.{Phase}
 use Rattle.board.specs.declared.Phase.the-variants.{Formatting, Running}
 use Rattle.board.specs.declared.Call.the-variants.{FormatStart, Step}
-use Rattle.board.specs.Board.{Board, cells, rowWords, listWords, linesOutside, workersOutside, epochOf, workersOf, headerWords, zeroWords}
-use Rattle.board.specs.State.{allFree, conditionOf, placed, opened}
+use Rattle.board.specs.Board.{Board, cells, rowWords, linesOutside, workersOutside, epochOf, workersOf, headerWords, zeroWords}
+use Rattle.board.specs.State.{allFree, conditionOf, placed, opened, dirtyCount}
 use Rattle.board.specs.Causes.{causes, badRows}
 use Rattle.board.specs.Effects.{effect, step, formatStep, inBoth}
 use Rattle.board.specs.Machine.{none, beginning}
@@ -47,7 +47,6 @@ rows-sized l b o e =
       limits = o;
       memory = record { size = eqb-true _ _ (not-off memory (or-right (not cache) (not memory) both)) };
       cache = record { size = eqb-true _ _ (not-off cache (or-left (not cache) (not memory) both)) };
-      entries = ltb-false _ _ (or-right (not cache || not memory) entries e);
     }
 
 -- A taken format's start finds rows of the right lengths.
@@ -62,7 +61,7 @@ unfolding standsAt causes effect
 format-begins l w b t =
     let z = start-sizes l w b t in (
       record {
-        sizes = record { limits = z .limits; memory = z .memory; cache = z .cache; entries = z .entries };
+        sizes = record { limits = z .limits; memory = z .memory; cache = z .cache };
         format =
             record {
               lines = refl;
@@ -122,7 +121,6 @@ format-erases l b f h =
                   limits = f .sizes .limits;
                   memory = sized-erased (b .memory) p zm h;
                   cache = sized-erased (b .cache) p zc h;
-                  entries = f .sizes .entries;
                 };
             format =
                 record {
@@ -169,7 +167,7 @@ pub record Opened (l : ℕ) (memory cache : List ℕ) : Type 0 where
   pub cacheZeros : (c : ℕ) → c < cells l → view cache c ≡ zeros
 
 -- A board so opened, with no request and no worker at work, runs as the machine begins.
-pub opened-running : (l : ℕ) (b : Board) → Opened l (b .memory) (b .cache) → b .state .lines ≡ l → workersOutside l (b .state .workers) ≡ false → b .state .workers ≡ workersOf (b .memory) → b .state .requested ≡ false → b .state .worker ≡ allFree → b .state .listed ≡ 0 → RunningInv l b (beginning l)
+pub opened-running : (l : ℕ) (b : Board) → Opened l (b .memory) (b .cache) → b .state .lines ≡ l → workersOutside l (b .state .workers) ≡ false → b .state .workers ≡ workersOf (b .memory) → b .state .requested ≡ false → b .state .worker ≡ allFree → dirtyCount (b .state) ≡ 0 → RunningInv l b (beginning l)
 opened-running l b o lines workers own quiet free empty =
     record {
       lines = lines;
@@ -236,7 +234,6 @@ own-finishes b f e =
             limits = f .sizes .limits;
             memory = sized-fresh (b .memory) w zm;
             cache = sized-fresh (b .cache) w zc;
-            entries = f .sizes .entries;
           };
       spare = spare-fresh (b .memory) w zm fm;
       kept = kept-fresh (b .memory) w zm fm (f .format .workers);

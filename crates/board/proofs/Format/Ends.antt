@@ -8,7 +8,7 @@ use borrow.Author.Tests.{le-ltb}
 use Rattle.board.specs.declared.Phase.{Phase}
 use Rattle.board.specs.declared.Call.the-variants.{FormatStart, Step}
 use Rattle.board.specs.Board.{Board}
-use Rattle.board.specs.State.{allFree, isOff, isRunning}
+use Rattle.board.specs.State.{allFree, isOff, isRunning, dirtyCount}
 use Rattle.board.specs.Causes.{placePast}
 use Rattle.board.specs.Effects.{effect}
 use Rattle.board.specs.Machine.{formatSteps}
@@ -21,7 +21,7 @@ use Rattle.board.specs.Next.{Taken}
 -- A format from its start on, undisturbed: the list is empty and all workers are free.
 record Alone (l : ℕ) (b : Board) : Type 0 where
   formats : Formats l b
-  empty : b .state .listed ≡ 0
+  empty : dirtyCount (b .state) ≡ 0
   free : b .state .worker ≡ allFree
 
 -- A taken format's start leaves it so.

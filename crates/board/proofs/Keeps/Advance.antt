@@ -16,7 +16,7 @@ use Rattle.board.specs.declared.Store.{Store}
 use Rattle.board.specs.declared.Store.the-variants.{Backup, Mark, Record}
 use Rattle.board.specs.declared.Call.the-variants.{Advance}
 use Rattle.board.specs.Board.{Board, cells, epochOf}
-use Rattle.board.specs.State.{conditionOf, isUpdating}
+use Rattle.board.specs.State.{conditionOf, isUpdating, dirtyCount}
 use Rattle.board.specs.Causes.{causes}
 use Rattle.board.specs.Effects.{recorded, afterLast, advance, advanceOf, effect}
 use Rattle.board.specs.Machine.{Unfinished, none, update, Machine, changed, fewer, advanced, feed}
@@ -116,7 +116,7 @@ keeps-store r w c v Backup crashed inv turn =
     let b = r .board in
     let m = r .machine in
     let old = fieldOf (b .cache) c Field.Record in
-    store r w c v Backup inv turn Field.Backup old (Updating Mark c v) (b .state .listed) (b .entries) (m .current) (m .marked) (update c v 2) crashed (λ d o. refl) (λ d o. refl)
+    store r w c v Backup inv turn Field.Backup old (Updating Mark c v) (dirtyCount (b .state)) (b .entries) (m .current) (m .marked) (update c v 2) crashed (λ d o. refl) (λ d o. refl)
     (cell-backed (cell-inv (turn .now .run) (turn .now .stage) c (turn .cell)) old (turn .before))
     (list-inv (turn .now .run) (turn .now .stage)) refl
     (worker-after r w c v Backup inv turn Field.Backup old Mark (turn .before, view-value (b .cache) c)) (λ d t. t)
@@ -126,16 +126,16 @@ keeps-store r w c v Mark crashed inv turn =
     let ear = turn .now .stage in
     let e = epochOf (b .cache) in
     let unmarked : m .marked c ≡ false = ear .marks c (turn .cell) ∙ ne-eqb _ _ (turn .before .0) in
-    store r w c v Mark inv turn Field.Mark e (Updating Record c v) (b .state .listed + 1) (set (b .entries) (b .state .listed) c) (m .current) (changed (m .marked) c true) (update c v 1) crashed (λ d o. refl)
+    store r w c v Mark inv turn Field.Mark e (Updating Record c v) (dirtyCount (b .state) + 1) (set (b .entries) (dirtyCount (b .state)) c) (m .current) (changed (m .marked) c true) (update c v 1) crashed (λ d o. refl)
     (changed-other (m .marked) c true)
     (cell-marked (cell-inv (turn .now .run) ear c (turn .cell)) e (ear .epochs) (turn .before .0) (turn .before .1) (changed-at (m .marked) c true))
-    (list-more c (turn .cell) (inv .sizes .entries) unmarked (list-inv (turn .now .run) ear)) (length-set (b .entries) (b .state .listed) c)
+    (list-more c (turn .cell) (inv .sizes .entries) unmarked (list-inv (turn .now .run) ear)) (length-set (b .entries) (dirtyCount (b .state)) c)
     (worker-after r w c v Mark inv turn Field.Mark e Record (ear .epochs)) (λ d t. t)
 keeps-store r w c v Record crashed inv turn =
     let b = r .board in
     let m = r .machine in
     let waits = ltb c (b .state .workers) && b .state .requested in
-    store r w c v Record inv turn Field.Record v (afterLast (b .state) c) (b .state .listed) (b .entries) (changed (m .current) c v) (m .marked) none crashed (changed-other (m .current) c v) (λ d o. refl)
+    store r w c v Record inv turn Field.Record v (afterLast (b .state) c) (dirtyCount (b .state)) (b .entries) (changed (m .current) c v) (m .marked) none crashed (changed-other (m .current) c v) (λ d o. refl)
     (cell-recorded (cell-inv (turn .now .run) (turn .now .stage) c (turn .cell)) v (turn .before) (changed-at (m .current) c v))
     (list-inv (turn .now .run) (turn .now .stage)) refl
     (on (λ (k : Condition). WorkerInv (m .lines) (recorded (b .cache) c v) k none) waits Waiting Free (λ t. refl) (λ t. refl))

@@ -13,7 +13,7 @@ use Rattle.board.specs.declared.Condition.the-variants.{Free, Waiting, U
 use Rattle.board.specs.declared.Phase.the-variants.{Running}
 use Rattle.board.specs.declared.Call.the-variants.{Step}
 use Rattle.board.specs.Board.{Board, cells, epochOf}
-use Rattle.board.specs.State.{conditionOf, quiescent, afterRelease, placed, released}
+use Rattle.board.specs.State.{conditionOf, quiescent, afterRelease, placed, released, dirtyCount}
 use Rattle.board.specs.Effects.{writtenBack, cached, stated, Act, writeLine, storeEpoch, writeHeader, release, actAt, performAct}
 use Rattle.board.specs.Machine.{Unfinished, Machine, counted, completed, dropped, checkpointStep}
 use Rattle.board.specs.Sequence.{Run}
@@ -49,7 +49,7 @@ released-touches Away d t = t
 -- ---- the epoch's store
 
 -- At the list's end memory has the record of every cell.
-early-same : {l : ℕ} (b : Board) {m : Machine} → b .state .requested ≡ true → b .state .place ≡ b .state .listed → Early l b m → SameRecords l b
+early-same : {l : ℕ} (b : Board) {m : Machine} → b .state .requested ≡ true → b .state .place ≡ dirtyCount (b .state) → Early l b m → SameRecords l b
 early-same b on end e c h =
     elim (ℕ-discrete (view (b .cache) c .mark) (epochOf (b .memory))) [
       | yes q ↦
@@ -60,7 +60,7 @@ early-same b on end e c h =
     ]
 
 -- The epoch's store leads into the gap.
-running-epoch : {l : ℕ} (b : Board) (m : Machine) → Sized l (b .cache) → b .state .requested ≡ true → b .state .place ≡ b .state .listed → AllQuiescent (b .state) → Early l b m → RunningInv l b m → RunningInv l (cached (set (b .cache) 0 (epochOf (b .cache) + 1)) (placed (b .state) (b .state .place + 1) (b .state .undo)) b) (counted m)
+running-epoch : {l : ℕ} (b : Board) (m : Machine) → Sized l (b .cache) → b .state .requested ≡ true → b .state .place ≡ dirtyCount (b .state) → AllQuiescent (b .state) → Early l b m → RunningInv l b m → RunningInv l (cached (set (b .cache) 0 (epochOf (b .cache) + 1)) (placed (b .state) (b .state .place + 1) (b .state .undo)) b) (counted m)
 running-epoch {l} b m z on end wait e v =
     record {
       lines = v .lines;
@@ -134,12 +134,12 @@ module _ (r : Run) (s : RunningRun r) (on : r .board .state .requested ≡ true)
   placed-steps q = ap (λ (n : ℕ). n + 1) (s .running .steps q)
 
   -- A step, from its act with what the machine sees of it.
-  by-act : (act : Act) (m : Machine) → actAt (r .board .state .listed) (r .board .state .place) ≡ act → checkpointStep (r .machine) ≡ m → Carried false r (acted r act m) → Carried false r (afterTaken Step r)
+  by-act : (act : Act) (m : Machine) → actAt (dirtyCount (r .board .state)) (r .board .state .place) ≡ act → checkpointStep (r .machine) ≡ m → Carried false r (acted r act m) → Carried false r (afterTaken Step r)
   by-act act m p q o =
       subst (Carried false r) (sym (step-acts r (s .phase) (s .running .request ∙ on) ∙ (λ i. acted r (p i) (q i)))) o
 
   -- An entry's line written back.
-  line-carried : r .board .state .place < r .board .state .listed → Early (r .machine .lines) (r .board) (r .machine) → Carried false r (acted r writeLine (counted (r .machine)))
+  line-carried : r .board .state .place < dirtyCount (r .board .state) → Early (r .machine .lines) (r .board) (r .machine) → Carried false r (acted r writeLine (counted (r .machine)))
   unfolding performAct
   line-carried h e =
       let b = r .board in
@@ -155,17 +155,17 @@ module _ (r : Run) (s : RunningRun r) (on : r .board .state .requested ≡ true)
       (ap (λ (k : View). k .value) (view-backed (b .memory) (b .cache) (z .memory) (z .cache) i c p refl))))
 
   -- The epoch stored.
-  epoch-carried : r .board .state .place ≡ r .board .state .listed → Early (r .machine .lines) (r .board) (r .machine) → Carried false r (acted r storeEpoch (counted (r .machine)))
+  epoch-carried : r .board .state .place ≡ dirtyCount (r .board .state) → Early (r .machine .lines) (r .board) (r .machine) → Carried false r (acted r storeEpoch (counted (r .machine)))
   unfolding performAct
   epoch-carried end e =
       let b = r .board in
       let z = s .inv .sizes in
       quietly (inv-running (acted r storeEpoch (counted (r .machine))) (s .on) (s .phase)
-      (record { limits = z .limits; memory = z .memory; cache = sized-set (b .cache) (epochOf (b .cache) + 1) (z .cache); entries = z .entries })
+      (record { limits = z .limits; memory = z .memory; cache = sized-set (b .cache) (epochOf (b .cache) + 1) (z .cache) })
       (s .inv .kept (s .on)) (running-epoch b (r .machine) (z .cache) on end wait e (s .running))) refl refl (λ c. refl)
 
   -- Line 0 written back.
-  header-carried : r .board .state .place ≡ r .board .state .listed + 1 → Carried false r (acted r writeHeader (completed (counted (r .machine))))
+  header-carried : r .board .state .place ≡ dirtyCount (r .board .state) + 1 → Carried false r (acted r writeHeader (completed (counted (r .machine))))
   unfolding performAct
   header-carried e =
       header-back r s (r .board .state .place + 1) (r .machine .steps + 1) placed-steps (r .crashed && true) on (omega arith) (omega arith) (omega arith) (s .running .stage)
@@ -176,19 +176,19 @@ module _ (r : Run) (s : RunningRun r) (on : r .board .state .requested ≡ true)
   release-carried e =
       let z = s .inv .sizes in
       quietly (inv-running (acted r release (dropped (counted (r .machine)))) (s .on) (s .phase)
-      (record { limits = z .limits; memory = z .memory; cache = z .cache; entries = z .entries })
+      (record { limits = z .limits; memory = z .memory; cache = z .cache })
       (s .inv .kept (s .on)) (running-release (r .board) (r .machine) e (s .running))) refl refl (λ c. refl)
 
   -- A step at line 0's write-back.
-  header-step : r .board .state .place ≡ r .board .state .listed + 1 → Carried false r (afterTaken Step r)
+  header-step : r .board .state .place ≡ dirtyCount (r .board .state) + 1 → Carried false r (afterTaken Step r)
   header-step e =
-      by-act writeHeader (completed (counted (r .machine))) (act-header (r .board .state .listed) (r .board .state .place) e)
+      by-act writeHeader (completed (counted (r .machine))) (act-header (dirtyCount (r .board .state)) (r .board .state .place) e)
       (machine-completes (r .machine) (omega (arith, s .running .count, s .running .steps on))) (header-carried e)
 
   -- A step in each stage.
   stage-step : Stage (r .machine .lines) (r .board) (r .machine) → Carried false r (afterTaken Step r)
   stage-step (early e) =
-      let n = r .board .state .listed in
+      let n = dirtyCount (r .board .state) in
       let place = r .board .state .place in
       let within : place ≤ n = omega (arith, e .within, chosen (r .board .state .requested) place 0 on) in
       let counts : checkpointStep (r .machine) ≡ counted (r .machine) = machine-counts (r .machine) (omega (arith, s .running .count, s .running .steps on)) in
@@ -198,7 +198,7 @@ module _ (r : Run) (s : RunningRun r) (on : r .board .state .requested ≡ true)
       ]
   stage-step (gap g) = header-step (g .place)
   stage-step (late e) =
-      let n = r .board .state .listed in
+      let n = dirtyCount (r .board .state) in
       let place = r .board .state .place in
       elim (ℕ-discrete place (n + 1)) [
         | yes q ↦ header-step q

@@ -88,7 +88,6 @@ carried i (cuts {r = r} s cache entries p) =
         limits = i .sizes .limits;
         memory = i .sizes .memory;
         cache = record { size = p .0 ∙ i .sizes .cache .size };
-        entries = omega (arith, i .sizes .entries);
       };
       kept = i .kept;
       lost = i .lost;

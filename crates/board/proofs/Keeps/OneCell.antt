@@ -18,8 +18,8 @@ use Rattle.board.specs.declared.Condition.{Condition}
 use Rattle.board.specs.declared.Condition.the-variants.{Free, Waiting, Updating, Away}
 use Rattle.board.specs.declared.Phase.{Phase}
 use Rattle.board.specs.declared.Phase.the-variants.{Off, Formatting, Recovering, Running}
-use Rattle.board.specs.Board.{Board, cells, listWords, epochOf}
-use Rattle.board.specs.State.{conditionOf, conditioned, relisted, quiescent, isRunning}
+use Rattle.board.specs.Board.{Board, cells, epochOf}
+use Rattle.board.specs.State.{conditionOf, conditioned, relisted, quiescent, isRunning, dirtyCount}
 use Rattle.board.specs.Causes.{noWorker, notRunning}
 use Rattle.board.specs.Machine.{Unfinished, Machine, changed, countUnder}
 use Rattle.board.specs.Sequence.{Run}
@@ -51,7 +51,7 @@ pub cell-inv : {l : ℕ} {b : Board} {m : Machine} → RunningInv l b m → Earl
 cell-inv run ear c h = record { undo = run .undoes c h; current = run .current c h; marks = ear .marks c h; clean = ear .clean c h }
 
 -- The list of an early board.
-pub list-inv : {b : Board} {m : Machine} → RunningInv (m .lines) b m → Early (m .lines) b m → ListInv (cells (m .lines)) (b .state .listed) (b .entries) (m .marked)
+pub list-inv : {b : Board} {m : Machine} → RunningInv (m .lines) b m → Early (m .lines) b m → ListInv (cells (m .lines)) (dirtyCount (b .state)) (b .entries) (m .marked)
 list-inv run ear =
     record {
       count = run .count;
@@ -132,7 +132,7 @@ pub record Change : Type 0 where
 -- The board after a change.
 abbrev pub changedBoard : Change → Board → Board
 changedBoard ch b =
-    record { state = relisted (conditioned (b .state) (ch .worker) (ch .condition)) (ch .listed); memory = b .memory; cache = ch .cache; entries = ch .entries }
+    record { state = relisted (conditioned (b .state) (ch .worker) (ch .condition)) (ch .listed); memory = b .memory; cache = ch .cache }
 
 -- The machine after a change.
 abbrev pub changedMachine : Change → Machine → Machine

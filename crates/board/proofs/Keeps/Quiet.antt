@@ -10,7 +10,7 @@ use Rattle.board.specs.declared.Worker.{Worker}
 use Rattle.board.specs.declared.Phase.the-variants.{Running}
 use Rattle.board.specs.declared.Call.the-variants.{Read}
 use Rattle.board.specs.Board.{Board}
-use Rattle.board.specs.State.{freeWorker, conditionOf, isRunning}
+use Rattle.board.specs.State.{freeWorker, conditionOf, isRunning, dirtyCount}
 use Rattle.board.specs.Causes.{causes}
 use Rattle.board.specs.Effects.{stated, effect}
 use Rattle.board.specs.Next.{Taken}
@@ -24,7 +24,7 @@ use Rattle.board.proofs.Checkpoint.Run.{Carried, quietly, is-running, r
 -- The record with other workers.
 abbrev pub manned : State → List Worker → State
 manned s workers =
-    record { phase = s .phase; lines = s .lines; workers = s .workers; listed = s .listed; place = s .place; undo = s .undo; requested = s .requested; worker = workers }
+    record { phase = s .phase; lines = s .lines; workers = s .workers; listed = dirtyCount s; place = s .place; undo = s .undo; requested = s .requested; worker = workers }
 
 -- The workers `ws` have the unfinished updates of the record's own, and no fewer of them wait once a checkpoint has taken a step.
 pub record Alike (s : State) (ws : List Worker) : Type 0 where
@@ -86,7 +86,7 @@ carried-workers r ws crashed inv d p alike =
     let s = running-run r inv d p in
     let z = inv .sizes in
     quietly
-    (inv-running _ (s .on) p (record { limits = z .limits; memory = z .memory; cache = z .cache; entries = z .entries }) (inv .kept (s .on))
+    (inv-running _ (s .on) p (record { limits = z .limits; memory = z .memory; cache = z .cache }) (inv .kept (s .on))
     (running-manned (r .board) (r .machine) ws alike (s .running)))
     refl refl (λ c. refl)
 

@@ -70,7 +70,7 @@ pub keeps-recovery-start : (r : Run) → Inv r → Taken RecoveryStart (r .board
 unfolding effect feed
 keeps-recovery-start r inv t =
     started-inv (r .board) (feed RecoveryStart (r .machine)) _ (erased-off r inv t)
-    (record { limits = inv .sizes .limits; memory = inv .sizes .memory; cache = inv .sizes .memory; entries = inv .sizes .entries })
+    (record { limits = inv .sizes .limits; memory = inv .sizes .memory; cache = inv .sizes .memory })
     (recovery-kept r inv t)
     (record { request = refl; formatting = refl; current = λ c. refl; marked = λ c. refl; unfinished = λ w. refl })
 

@@ -18,7 +18,7 @@ use Rattle.board.specs.declared.Phase.{Phase}
 use Rattle.board.specs.declared.Phase.the-variants.{Recovering}
 use Rattle.board.specs.declared.Call.the-variants.{Step}
 use Rattle.board.specs.Board.{Board, cells, epochOf}
-use Rattle.board.specs.State.{placed, opened}
+use Rattle.board.specs.State.{placed, opened, dirtyCount}
 use Rattle.board.specs.Effects.{writtenBack, logged, restored, unmarked, pastCell, effect}
 use Rattle.board.specs.Machine.{Machine, counted, stepped, feed}
 use Rattle.board.specs.Sequence.{Run, erasedBy}
@@ -129,7 +129,7 @@ module _ (r : Run) (m : RecoveryMachine (r .machine)) (off : r .erased ≡ false
   every-phase : {e place : ℕ} (s : State) (memory cache : List ℕ) → Restoring (r .machine .lines) e (r .machine .checkpointed) place memory cache → InPhase (s .phase) (stepRun r (left s memory cache)) → Inv (stepRun r (left s memory cache))
   every-phase s memory cache k p =
       record {
-        sizes = record { limits = sizes .limits; memory = k .memory .sized; cache = k .cache .sized; entries = sizes .entries };
+        sizes = record { limits = sizes .limits; memory = k .memory .sized; cache = k .cache .sized };
         kept = λ t. whole-kept (k .memory);
         lost = λ t. absurd (clash t off);
         phase = λ t. p;
@@ -152,9 +152,9 @@ module _ (r : Run) (m : RecoveryMachine (r .machine)) (off : r .erased ≡ false
       ))
 
   -- The step that ends the recovery.
-  ends : {e : ℕ} (memory cache : List ℕ) → SameSizes (r .board .memory) memory → SameSizes (r .board .cache) cache → Restoring (r .machine .lines) e (r .machine .checkpointed) (cells (r .machine .lines)) memory cache → Inv (stepRun r (left (opened (r .board .state) (r .board .state .listed)) memory cache))
+  ends : {e : ℕ} (memory cache : List ℕ) → SameSizes (r .board .memory) memory → SameSizes (r .board .cache) cache → Restoring (r .machine .lines) e (r .machine .checkpointed) (cells (r .machine .lines)) memory cache → Inv (stepRun r (left (opened (r .board .state) (dirtyCount (r .board .state))) memory cache))
   ends memory cache sm sc k =
-      let s = opened (r .board .state) (r .board .state .listed) in
+      let s = opened (r .board .state) (dirtyCount (r .board .state)) in
       every-phase s memory cache k
       (running (left s memory cache) (counted (r .machine)) counting (underway-opened (omega (arith, u .within)) u) (own-same (r .board) (left s memory cache) refl sm sc own) (restoring-own k), off)
 

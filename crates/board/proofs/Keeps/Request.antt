@@ -68,7 +68,7 @@ keeps-request r inv d t =
     let room : epochSpent b ≡ false = passed Request b t 11 in
     let s = running-run r inv d run in
     inv-running (afterTaken Request r) (s .on) run
-    (record { limits = inv .sizes .limits; memory = inv .sizes .memory; cache = inv .sizes .cache; entries = inv .sizes .entries })
+    (record { limits = inv .sizes .limits; memory = inv .sizes .memory; cache = inv .sizes .cache })
     (inv .kept (s .on)) (running-request b (r .machine) off room (s .running))
 
 -- ---- when it is taken

@@ -12,7 +12,7 @@ use Rattle.board.specs.declared.Condition.the-variants.{Free, Waiting, U
 use Rattle.board.specs.declared.Store.the-variants.{Backup, Record}
 use Rattle.board.specs.declared.Call.the-variants.{Update, RestartPoint}
 use Rattle.board.specs.Board.{Board, cells, epochOf}
-use Rattle.board.specs.State.{conditionOf, isFree, updates, othersUpdate}
+use Rattle.board.specs.State.{conditionOf, isFree, updates, othersUpdate, dirtyCount}
 use Rattle.board.specs.Causes.{causes}
 use Rattle.board.specs.Effects.{firstStore, logged, effect}
 use Rattle.board.specs.Machine.{update, Machine, feed}
@@ -57,7 +57,7 @@ started-worker l c v cache marked h e =
 -- What the start of an update of cell `c` leaves.
 abbrev starting : ℕ → ℕ → ℕ → Board → Machine → Change
 starting w c v b m =
-    record { worker = w; cell = c; condition = Updating (firstStore (b .cache) c) c v; listed = b .state .listed; cache = b .cache; entries = b .entries; current = m .current; marked = m .marked; unfinished = update c v (cond (m .marked c) 1 3) }
+    record { worker = w; cell = c; condition = Updating (firstStore (b .cache) c) c v; listed = dirtyCount (b .state); cache = b .cache; entries = b .entries; current = m .current; marked = m .marked; unfinished = update c v (cond (m .marked c) 1 3) }
 
 -- A cell is marked in the machine where it is logged in the cache.
 pub marked-logged : (r : Run) {w : ℕ} → Ready r w → (c : ℕ) → c < cells (r .machine .lines) → r .machine .marked c ≡ logged (r .board .cache) c

@@ -12,7 +12,7 @@ use Rattle.board.specs.declared.UndoStep.{UndoStep}
 use Rattle.board.specs.declared.UndoStep.the-variants.{Restore, Unmark, WriteLine}
 use Rattle.board.specs.declared.Call.the-variants.{WriteBack}
 use Rattle.board.specs.Board.{Board, cells, epochOf}
-use Rattle.board.specs.State.{isOff, isFormatting}
+use Rattle.board.specs.State.{isOff, isFormatting, dirtyCount}
 use Rattle.board.specs.Causes.{causes, notRecoveringOrRunning}
 use Rattle.board.specs.Effects.{writtenBack, backed, effect}
 use Rattle.board.specs.Machine.{Machine, markedCount, completed, writeBackSeen, feed}
@@ -102,7 +102,7 @@ carried-recovering r inv v e i h =
     (record {
       keeps =
           record {
-            sizes = record { limits = z .limits; memory = sized-back (b .memory) (b .cache) (z .memory) (z .cache) i h; cache = z .cache; entries = z .entries };
+            sizes = record { limits = z .limits; memory = sized-back (b .memory) (b .cache) (z .memory) (z .cache) i h; cache = z .cache };
             kept = λ q. kept-back (b .memory) (b .cache) (z .memory) (z .cache) (r .machine .checkpointed) i h (λ k. v .0 .epochs) (v .0 .header) (v .0 .undoes) (inv .kept (v .2));
             lost = λ q. absurd (clash q (v .2));
             phase = λ d. subst (λ (p : Phase). InPhase p (after (r .machine))) (sym e) (recovery-back b z i h (v .0), v .1, v .2);
@@ -137,7 +137,7 @@ carried-running r s i h =
     header : (i ≡ 0) × (m .requested ≡ true) × (markedCount m + 1 ≤ m .steps) → Carried false r (after i (m .current))
     header p =
         let on : b .state .requested ≡ true = sym (v .request) ∙ p .1 in
-        let past : b .state .listed + 1 ≤ b .state .place = omega (arith, v .count, v .steps on, p .2) in
+        let past : dirtyCount (b .state) + 1 ≤ b .state .place = omega (arith, v .count, v .steps on, p .2) in
         subst (λ (j : ℕ). Carried false r (after j (m .current))) (sym (p .0))
         (header-back r s (b .state .place) (m .steps) (v .steps) (r .crashed && true) on past past (place-high on (v .stage)) (v .stage))
 

@@ -7,7 +7,7 @@ use lib.Dec.{leb, ltb, eqb}
 use lib.ListN.{getD}
 use Rattle.board.specs.declared.Call.the-variants.{Step}
 use Rattle.board.specs.Board.{Board, cells, workersOutside}
-use Rattle.board.specs.State.{allFree, isOff, isRunning, quiescent, updates, anyWorker}
+use Rattle.board.specs.State.{allFree, isOff, isRunning, quiescent, updates, anyWorker, dirtyCount}
 use Rattle.board.specs.Causes.{causes, placePast, badRows, badEntry, checkpointing, epochSpent}
 use Rattle.board.specs.Next.{next, Taken}
 use Rattle.board.specs.Statements.{stepsFrom, AllTaken, EndsIn}
@@ -21,7 +21,7 @@ three-off : (a b c : Bool) → a ≡ false → a && b && c ≡ false
 three-off a b c e = and-off (a && b) c (and-off a b e)
 
 -- On a board that is on and not running, with an empty list and all workers free, a step is taken while its place is within bounds.
-pub idle-step-taken : (l : ℕ) (b : Board) → Sizes l b → b .state .lines ≡ l → workersOutside l (b .state .workers) ≡ false → b .state .listed ≡ 0 → b .state .worker ≡ allFree → isOff (b .state .phase) ≡ false → isRunning (b .state .phase) ≡ false → placePast (b .state .phase) (b .state) ≡ false → Taken Step b
+pub idle-step-taken : (l : ℕ) (b : Board) → Sizes l b → b .state .lines ≡ l → workersOutside l (b .state .workers) ≡ false → dirtyCount (b .state) ≡ 0 → b .state .worker ≡ allFree → isOff (b .state .phase) ≡ false → isRunning (b .state .phase) ≡ false → placePast (b .state .phase) (b .state) ≡ false → Taken Step b
 unfolding Clear causes
 idle-step-taken l b z lines workers empty free on idle place =
     let s = b .state in
@@ -34,11 +34,11 @@ idle-step-taken l b z lines workers empty free on idle place =
         (
           or-none (badRows (s .lines) b) (badEntry b)
               (rows-fine (s .lines) b (subst (λ (k : ℕ). Sizes k b) (sym lines) z))
-              (three-off (checkpointing s) (ltb (s .place) (s .listed)) (leb (cells (s .lines)) (getD (b .entries) (s .place) 0)) none),
+              (three-off (checkpointing s) (ltb (s .place) (dirtyCount s)) (leb (cells (s .lines)) (getD (b .entries) (s .place) 0)) none),
           (
             and-off (isRunning (s .phase)) (not (s .requested) || anyWorker s (λ condition. not (quiescent condition))) idle,
             (
-              three-off (checkpointing s) (eqb (s .place) (s .listed)) (epochSpent b) none,
+              three-off (checkpointing s) (eqb (s .place) (dirtyCount s)) (epochSpent b) none,
               tt,
             ),
           ),

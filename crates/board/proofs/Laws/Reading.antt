@@ -15,7 +15,7 @@ use Rattle.board.specs.declared.Phase.the-variants.{Running}
 use Rattle.board.specs.declared.Call.{Call}
 use Rattle.board.specs.declared.Call.the-variants.{Read}
 use Rattle.board.specs.Board.{Board, cells, linesOutside}
-use Rattle.board.specs.State.{conditionOf, updates, isRunning}
+use Rattle.board.specs.State.{conditionOf, updates, isRunning, dirtyCount}
 use Rattle.board.specs.Causes.{causes, cause, notRunning, badRecord, badRows, placePast}
 use Rattle.board.specs.Next.{taken, valueRead, Taken}
 use Rattle.board.specs.Machine.{Machine, Unfinished}
@@ -27,7 +27,7 @@ use Rattle.board.proofs.Laws.Count.{count-most}
 use Rattle.board.proofs.Laws.Taken.{Clear, take, rows-fine, record-fine}
 
 -- A checkpoint's place is at most two past the list.
-pub place-in : (l : ℕ) (b : Board) (m : Machine) → Stage l b m → b .state .requested ≡ true → b .state .place ≤ b .state .listed + 2
+pub place-in : (l : ℕ) (b : Board) (m : Machine) → Stage l b m → b .state .requested ≡ true → b .state .place ≤ dirtyCount (b .state) + 2
 place-in l b m (early e) q =
     let p : progress (b .state) ≡ b .state .place = chosen (b .state .requested) (b .state .place) 0 q in
     omega (arith, e .within, p)
@@ -48,8 +48,8 @@ running-record l b m lo p i n =
     (let h = count-most (cells (m .lines)) (m .marked) in omega (arith, i .count, n))
     (subst (λ (ph : Phase). placePast ph (b .state) ≡ false) (sym p)
     (split (b .state .requested)
-    (λ q. and-off-right (b .state .requested) (ltb (b .state .listed + 2) (b .state .place)) (le-ltb (b .state .listed + 2) (b .state .place) (place-in l b m (i .stage) q)))
-    (λ q. and-off (b .state .requested) (ltb (b .state .listed + 2) (b .state .place)) q)))
+    (λ q. and-off-right (b .state .requested) (ltb (dirtyCount (b .state) + 2) (b .state .place)) (le-ltb (dirtyCount (b .state) + 2) (b .state .place) (place-in l b m (i .stage) q)))
+    (λ q. and-off (b .state .requested) (ltb (dirtyCount (b .state) + 2) (b .state .place)) q)))
     (λ w h. cell-fine l b (conditionOf (b .state) w) (m .unfinished w) (i .worker w h))
 
 -- What holds in the phase that is known.

@@ -7,19 +7,20 @@ use native.Mathlib.Omega.{arith}
 use lib.Dec.{leb, ltb, eqb}
 use lib.ListN.{length}
 use borrow.Author.Tests.{ltb-true, ltb-false, leb-true, eq-eqb, ne-eqb, le-leb, lt-ltb, le-ltb}
+use Rattle.bitset.specs.Words.{strays}
 use Rattle.line.specs.declared.Field.the-variants.{Mark}
 use Rattle.line.specs.Cell.{fieldOf}
 use Rattle.board.specs.declared.State.{State}
 use Rattle.board.specs.declared.Condition.{Condition}
 use Rattle.board.specs.declared.Call.{Call}
-use Rattle.board.specs.declared.Call.the-variants.{FormatStart, RecoveryStart, Step, Update, RestartPoint, Advance, Request, WriteBack, Read, GoAway, ComeBack}
-use Rattle.board.specs.Board.{Board, cells, rowWords, listWords, linesOf, linesOutside, workersOutside, outside}
+use Rattle.board.specs.declared.Call.the-variants.{FormatStart, RecoveryStart, Step, Update, RestartPoint, Advance, Request, WriteBack, Read, GoAway, ComeBack, Count}
+use Rattle.board.specs.Board.{Board, cells, rowWords, linesOf, linesOutside, workersOutside, outside}
 use Rattle.board.specs.State.{conditionOf, updates, anyWorker}
 use Rattle.board.specs.Causes.{Cause, causes, firstStanding, cause, badRecord, badRows, laterMark, placePast, notOn, notRecoveringOrRunning, notRunning}
 use Rattle.board.specs.Effects.{effect}
 use Rattle.board.specs.Page.{PageOutcome, PagePerformed}
 use Rattle.board.specs.Sequence.{Run, takenCall}
-use Rattle.board.specs.Next.{Taken, taken, next, Kind, startsFormat, startsRecovery, stepping, writing, other, reading, kind, valueOf, Outcome, Performed}
+use Rattle.board.specs.Next.{Taken, taken, next, Kind, startsFormat, startsRecovery, stepping, writing, counting, other, reading, kind, valueOf, Outcome, Performed}
 use Rattle.board.proofs.Laws.Bools.{split, chosen, passedOver, or-left, or-right, or-none, and-left, and-right, and-both, and-if, not-off, not-on, none-under, under-none}
 use Rattle.board.proofs.Invariant.{Sizes}
 
@@ -73,6 +74,7 @@ phaseBars startsFormat b = false
 phaseBars startsRecovery b = false
 phaseBars stepping b = notOn b
 phaseBars writing b = notRecoveringOrRunning b
+phaseBars counting b = notRunning b
 phaseBars other b = notRunning b
 phaseBars (reading c) b = notRunning b
 
@@ -82,6 +84,7 @@ OfKind startsFormat k = (l : ℕ) × (w : ℕ) × (k ≡ FormatStart l w)
 OfKind startsRecovery k = k ≡ RecoveryStart
 OfKind stepping k = k ≡ Step
 OfKind writing k = (l : ℕ) × (k ≡ WriteBack l)
+OfKind counting k = k ≡ Count
 OfKind other k = Unit {0}
 OfKind (reading c) k = k ≡ Read c
 
@@ -107,6 +110,7 @@ entered (WriteBack l) = record { numbers = λ b. refl; phase = λ b. refl; named
 entered (Read c) = record { numbers = λ b. refl; phase = λ b. refl; named = refl }
 entered (GoAway w) = record { numbers = λ b. refl; phase = λ b. refl; named = tt }
 entered (ComeBack w) = record { numbers = λ b. refl; phase = λ b. refl; named = tt }
+entered Count = record { numbers = λ b. refl; phase = λ b. refl; named = refl }
 
 -- Every row of every call has a number other than 0.
 pub table-numbered : (k : Call) (b : Board) → numbered (causes k b) ≡ true
@@ -202,11 +206,9 @@ in-workers l w h =
 -- Rows of the right lengths pass.
 pub rows-fine : (l : ℕ) (b : Board) → Sizes l b → badRows l b ≡ false
 rows-fine l b z =
-    or-none _ (ltb (length (b .entries)) (listWords l))
-    (or-none (not (eqb (length (b .cache)) (rowWords l))) (not (eqb (length (b .memory)) (rowWords l)))
+    or-none (not (eqb (length (b .cache)) (rowWords l))) (not (eqb (length (b .memory)) (rowWords l)))
     (not-on (eqb (length (b .cache)) (rowWords l)) (eq-eqb _ _ (z .cache .size)))
-    (not-on (eqb (length (b .memory)) (rowWords l)) (eq-eqb _ _ (z .memory .size))))
-    (le-ltb _ _ (z .entries))
+    (not-on (eqb (length (b .memory)) (rowWords l)) (eq-eqb _ _ (z .memory .size)))
 
 -- Where no mark is later than the epoch, each is at most the epoch.
 pub later-bounds : (e : ℕ) (row : List ℕ) → laterMark e row ≡ false → (c : ℕ) → c < cells (linesOf row) → fieldOf row c Mark ≤ e
@@ -223,24 +225,24 @@ none-worker s test f =
     under-none 8 (λ i. ltb i (s .workers) && test (conditionOf s i)) (λ i h. and-if (ltb i (s .workers)) (test (conditionOf s i)) (λ t. f i (ltb-true i (s .workers) t)))
 
 -- A state record within its bounds passes.
-pub record-fine : (l : ℕ) (s : State) → s .lines ≡ l → linesOutside l ≡ false → workersOutside l (s .workers) ≡ false → s .listed ≤ cells l → placePast (s .phase) s ≡ false → ((w : ℕ) → w < s .workers → updates (leb (cells l)) (conditionOf s w) ≡ false) → badRecord s ≡ false
+pub record-fine : (l : ℕ) (s : State) → s .lines ≡ l → linesOutside l ≡ false → workersOutside l (s .workers) ≡ false → strays (s .dirty) l ≡ false → placePast (s .phase) s ≡ false → ((w : ℕ) → w < s .workers → updates (leb (cells l)) (conditionOf s w) ≡ false) → badRecord s ≡ false
 unfolding badRecord
 record-fine l s e lo wo n p u =
     or-none _ (anyWorker s (updates (leb (cells (s .lines)))))
     (or-none _ (placePast (s .phase) s)
-    (or-none (outside (s .lines) (s .workers)) (ltb (cells (s .lines)) (s .listed))
+    (or-none (outside (s .lines) (s .workers)) (strays (s .dirty) (s .lines))
     (subst (λ (k : ℕ). outside k (s .workers) ≡ false) (sym e) (or-none (linesOutside l) (workersOutside l (s .workers)) lo wo))
-    (le-ltb (cells (s .lines)) (s .listed) (omega arith)))
+    (subst (λ (k : ℕ). strays (s .dirty) k ≡ false) (sym e) n))
     p)
     (subst (λ (k : ℕ). anyWorker s (updates (leb (cells k))) ≡ false) (sym e) (none-worker s (updates (leb (cells l))) u))
 
--- A state record that passes its test has L and W within the limits and its place within bounds.
-pub record-within : (s : State) → badRecord s ≡ false → (linesOutside (s .lines) ≡ false) × (workersOutside (s .lines) (s .workers) ≡ false) × (placePast (s .phase) s ≡ false)
+-- A state record that passes its test has L and W within the limits, its place within bounds, and no bit but cell lines'.
+pub record-within : (s : State) → badRecord s ≡ false → (linesOutside (s .lines) ≡ false) × (workersOutside (s .lines) (s .workers) ≡ false) × (placePast (s .phase) s ≡ false) × (strays (s .dirty) (s .lines) ≡ false)
 unfolding badRecord
 record-within s e =
     let limits = outside (s .lines) (s .workers) in
-    let long = ltb (cells (s .lines)) (s .listed) in
+    let long = strays (s .dirty) (s .lines) in
     let past = placePast (s .phase) s in
     let three : limits || long || past ≡ false = or-left (limits || long || past) (anyWorker s (updates (leb (cells (s .lines))))) e in
     let sizes : limits ≡ false = or-left limits long (or-left (limits || long) past three) in
-    (or-left (linesOutside (s .lines)) (workersOutside (s .lines) (s .workers)) sizes, or-right (linesOutside (s .lines)) (workersOutside (s .lines) (s .workers)) sizes, or-right (limits || long) past three)
+    (or-left (linesOutside (s .lines)) (workersOutside (s .lines) (s .workers)) sizes, or-right (linesOutside (s .lines)) (workersOutside (s .lines) (s .workers)) sizes, or-right (limits || long) past three, or-right limits long (or-left (limits || long) past three))

@@ -8,6 +8,7 @@ use lib.Dec.{leb, ltb, eqb}
 use lib.ListN.{length}
 use borrow.Author.Tests.{ltb-true, ltb-false, leb-true, eqb-true, eqb-false}
 use Rattle.line.specs.Cell.{cellLine}
+use Rattle.bitset.specs.Words.{empty}
 use Rattle.board.specs.declared.State.{State}
 use Rattle.board.specs.declared.Condition.the-variants.{Free}
 use Rattle.board.specs.declared.UndoStep.{UndoStep}
@@ -15,8 +16,8 @@ use Rattle.board.specs.declared.UndoStep.the-variants.{Restore, Unmark, 
 use Rattle.board.specs.declared.Phase.{Phase}
 use Rattle.board.specs.declared.Phase.the-variants.{Recovering}
 use Rattle.board.specs.declared.Call.the-variants.{RecoveryStart, Step}
-use Rattle.board.specs.Board.{Board, cells, rowWords, listWords, linesOutside, workersOutside, epochOf, linesOf, workersOf, restNotZero}
-use Rattle.board.specs.State.{allFree, conditionOf, placed, opened}
+use Rattle.board.specs.Board.{Board, cells, rowWords, linesOutside, workersOutside, epochOf, linesOf, workersOf, restNotZero}
+use Rattle.board.specs.State.{allFree, conditionOf, placed, opened, dirtyCount}
 use Rattle.board.specs.Effects.{cached, stated, backed, logged, restored, unmarked, pastCell, recoveryStep, step, effect}
 use Rattle.board.specs.Causes.{causes, badRecoveryRows, badHeader}
 use Rattle.board.proofs.Laws.Bools.{on, or-left, or-right, and-left, and-right, not-off}
@@ -46,7 +47,7 @@ recovery-cases P b e restores passes unmarks writes =
 -- Past a cell a recovery goes on to the next one, or ends.
 pub past-cases {ℓ} : (P : State → Type ℓ) (s : State) →
     (s .place + 1 < cells (s .lines) → P (placed s (s .place + 1) Restore)) →
-    (cells (s .lines) ≤ s .place + 1 → P (opened s (s .listed))) →
+    (cells (s .lines) ≤ s .place + 1 → P (opened s (s .dirty))) →
     P (pastCell s)
 past-cases P s f g =
     on P (ltb (s .place + 1) (cells (s .lines))) _ _ (λ t. f (ltb-true _ _ t)) (λ t. g (ltb-false _ _ t))
@@ -57,7 +58,7 @@ past-cases P s f g =
 pub record Underway (l : ℕ) (s : State) : Type 0 where
   pub lines : s .lines ≡ l
   pub workers : workersOutside l (s .workers) ≡ false
-  pub listed : s .listed ≡ 0
+  pub clean : s .dirty ≡ empty
   pub request : s .requested ≡ false
   pub free : s .worker ≡ allFree
   pub within : s .place < cells l
@@ -65,12 +66,12 @@ pub record Underway (l : ℕ) (s : State) : Type 0 where
 -- The record with another place has it.
 pub underway-placed : {l : ℕ} {s : State} (place : ℕ) (undo : UndoStep) → place < cells l → Underway l s → Underway l (placed s place undo)
 underway-placed place undo h u =
-    record { lines = u .lines; workers = u .workers; listed = u .listed; request = u .request; free = u .free; within = h }
+    record { lines = u .lines; workers = u .workers; clean = u .clean; request = u .request; free = u .free; within = h }
 
 -- The record that a recovery ends in has it.
-pub underway-opened : {l : ℕ} {s : State} → 0 < cells l → Underway l s → Underway l (opened s (s .listed))
+pub underway-opened : {l : ℕ} {s : State} → 0 < cells l → Underway l s → Underway l (opened s (s .dirty))
 underway-opened h u =
-    record { lines = u .lines; workers = u .workers; listed = u .listed; request = u .request; free = refl; within = h }
+    record { lines = u .lines; workers = u .workers; clean = u .clean; request = u .request; free = refl; within = h }
 
 -- Every worker is free.
 pub all-free : {l : ℕ} {s : State} → Underway l s → (w : ℕ) → conditionOf s w ≡ Free
@@ -100,21 +101,18 @@ unfolding standsAt causes
 started-header b t = header-passed (b .memory) (passed RecoveryStart b t 5)
 
 -- What the lengths of rows that pass their test are, on memory of `l` lines.
-passed-lengths : (m k n l : ℕ) → not (eqb (m % 8) 0 && leb 16 m && leb m 4096) || not (eqb k m) || ltb n (m / 4 - 2) ≡ false → l ≡ m / 8 - 1 →
-    (1 ≤ l) × (l ≤ 511) × (m ≡ rowWords l) × (k ≡ rowWords l) × (listWords l ≤ n)
-passed-lengths m k n l e q =
+passed-lengths : (m k l : ℕ) → not (eqb (m % 8) 0 && leb 16 m && leb m 4096) || not (eqb k m) ≡ false → l ≡ m / 8 - 1 →
+    (1 ≤ l) × (l ≤ 511) × (m ≡ rowWords l) × (k ≡ rowWords l)
+passed-lengths m k l e q =
     let whole = eqb (m % 8) 0 in
     let low = leb 16 m in
     let high = leb m 4096 in
     let same = eqb k m in
-    let short = ltb n (m / 4 - 2) in
-    let both : not (whole && low && high) || not same ≡ false = or-left (not (whole && low && high) || not same) short e in
-    let three : whole && low && high ≡ true = not-off (whole && low && high) (or-left (not (whole && low && high)) (not same) both) in
+    let three : whole && low && high ≡ true = not-off (whole && low && high) (or-left (not (whole && low && high)) (not same) e) in
     let two : whole && low ≡ true = and-left (whole && low) high three in
     omega (
       arith,
-      ltb-false n (m / 4 - 2) (or-right (not (whole && low && high) || not same) short e),
-      eqb-true k m (not-off same (or-right (not (whole && low && high)) (not same) both)),
+      eqb-true k m (not-off same (or-right (not (whole && low && high)) (not same) e)),
       leb-true m 4096 (and-right (whole && low) high three),
       leb-true 16 m (and-right whole low two),
       eqb-true (m % 8) 0 (and-left whole low two),
@@ -123,12 +121,11 @@ passed-lengths m k n l e q =
 -- Rows and a header that pass their tests: the rows have the lengths that the header's L asks.
 pub rows-passed : (b : Board) → badRecoveryRows b ≡ false → badHeader (b .memory) ≡ false → Sizes (linesOf (b .memory)) b
 rows-passed b r h =
-    let z = passed-lengths (length (b .memory)) (length (b .cache)) (length (b .entries)) (linesOf (b .memory)) r (header-passed (b .memory) h .1) in
+    let z = passed-lengths (length (b .memory)) (length (b .cache)) (linesOf (b .memory)) r (header-passed (b .memory) h .1) in
     record {
       limits = in-lines (linesOf (b .memory)) (z .0, z .1);
       memory = record { size = z .2 };
       cache = record { size = z .3 };
-      entries = z .4;
     }
 
 -- So a taken recovery start finds them.
@@ -141,4 +138,4 @@ pub started-sizes : (b : Board) → Taken RecoveryStart b → Sizes (linesOf (b 
 unfolding effect
 started-sizes b t =
     let z = started-rows b t in
-    record { limits = z .limits; memory = z .memory; cache = z .memory; entries = z .entries }
+    record { limits = z .limits; memory = z .memory; cache = z .memory }

@@ -114,10 +114,10 @@ OneFewer n b = ((b .state .phase ≡ Recovering) × (remaining b + 1 ≡ n)) ⊎
 
 -- The step past a cell.
 steps-past-cell : (b : Board) (memory : List ℕ) (n : ℕ) → b .state .phase ≡ Recovering → n ≡ 1 + stepsOn (b .cache) (b .state .lines) (b .state .place + 1) →
-    OneFewer n (record { state = pastCell (b .state); memory = memory; cache = b .cache; entries = b .entries })
+    OneFewer n (record { state = pastCell (b .state); memory = memory; cache = b .cache })
 unfolding stepsLeft
 steps-past-cell b memory n e q =
-    past-cases (λ (s : State). OneFewer n (record { state = s; memory = memory; cache = b .cache; entries = b .entries })) (b .state)
+    past-cases (λ (s : State). OneFewer n (record { state = s; memory = memory; cache = b .cache })) (b .state)
     (λ h. inl (e, omega arith))
     (λ h. inr (refl, omega (arith, steps-past (b .cache) (b .state .lines) (b .state .place + 1) h)))
 

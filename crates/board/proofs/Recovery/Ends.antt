@@ -53,17 +53,17 @@ ready-step {l} b k =
     recovery-cases (λ (d : Board). d .state .phase ≡ Recovering → Ready l d) b (k .phase) (λ q t. stored _ _ _) (λ q t. past (k .sizes .memory)) (λ q. stored _ _ _)
     (λ q. past (sized-back (b .memory) (b .cache) (k .sizes .memory) (k .sizes .cache) (cellLine (b .state .place)) (cell-line l (b .state .place) (k .underway .within))))
   where
-    rows : {s : State} {memory cache : List ℕ} → Sized l memory → Sized l cache → Underway l s → s .phase ≡ Recovering → Ready l (record { state = s; memory = memory; cache = cache; entries = b .entries })
-    rows zm zc u p = record { phase = p; sizes = record { limits = k .sizes .limits; memory = zm; cache = zc; entries = k .sizes .entries }; underway = u }
+    rows : {s : State} {memory cache : List ℕ} → Sized l memory → Sized l cache → Underway l s → s .phase ≡ Recovering → Ready l (record { state = s; memory = memory; cache = cache })
+    rows zm zc u p = record { phase = p; sizes = record { limits = k .sizes .limits; memory = zm; cache = zc }; underway = u }
 
     stored : (f : Field) (v : ℕ) (undo : UndoStep) → b .state .phase ≡ Recovering →
         Ready l (cached (withField (b .cache) (b .state .place) f v) (placed (b .state) (b .state .place) undo) b)
     stored f v undo p =
         rows (k .sizes .memory) (sized-store (b .cache) (b .state .place) f v (k .sizes .cache)) (underway-placed (b .state .place) undo (k .underway .within) (k .underway)) p
 
-    past : {memory : List ℕ} → Sized l memory → pastCell (b .state) .phase ≡ Recovering → Ready l (record { state = pastCell (b .state); memory = memory; cache = b .cache; entries = b .entries })
+    past : {memory : List ℕ} → Sized l memory → pastCell (b .state) .phase ≡ Recovering → Ready l (record { state = pastCell (b .state); memory = memory; cache = b .cache })
     past {memory} zm =
-        past-cases (λ (s : State). s .phase ≡ Recovering → Ready l (record { state = s; memory = memory; cache = b .cache; entries = b .entries })) (b .state)
+        past-cases (λ (s : State). s .phase ≡ Recovering → Ready l (record { state = s; memory = memory; cache = b .cache })) (b .state)
         (λ h p. rows zm (k .sizes .cache) (underway-placed (b .state .place + 1) Restore (omega (arith, k .underway .lines)) (k .underway)) p)
         (λ h p. absurd (false≢true (ap isRecovering p)))
 

@@ -88,7 +88,6 @@ erasing-line l w i b a h =
     (record {
       memory = only-line (b .memory) (b .state .place) zeroWords (z .memory) (omega (arith, a .place)) refl;
       cache = only-line (b .cache) (b .state .place) zeroWords (z .cache) (omega (arith, a .place)) refl;
-      entries = refl;
     })
 
 -- The header that a format's last step stores.
@@ -104,7 +103,6 @@ finishing-line l w i b a =
     (record {
       memory = only-line (b .memory) 0 (headerOf b) (z .memory) (omega arith) refl;
       cache = only-line (b .cache) 0 (headerOf b) (z .cache) (omega arith) refl;
-      entries = refl;
     })
 
 -- Each step of a format writes its line alone.

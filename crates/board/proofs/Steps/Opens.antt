@@ -10,7 +10,7 @@ use Rattle.board.specs.declared.Phase.{Phase}
 use Rattle.board.specs.declared.Phase.the-variants.{Recovering}
 use Rattle.board.specs.declared.Call.the-variants.{Request, Step}
 use Rattle.board.specs.Board.{Board}
-use Rattle.board.specs.State.{opened}
+use Rattle.board.specs.State.{opened, dirtyCount}
 use Rattle.board.specs.Effects.{pastCell, formatStep, step, effect}
 use Rattle.board.specs.Steps.{Asked, Requests, Opened, FormatOpens, RecoveryOpens}
 use Rattle.board.proofs.Laws.Bools.{passedOver}
@@ -33,7 +33,7 @@ opens listed b b′ e =
       phase = ap (λ (s : State). s .phase) e;
       lines = ap (λ (s : State). s .lines) e;
       workers = ap (λ (s : State). s .workers) e;
-      list = ap (λ (s : State). s .listed) e;
+      list = ap (λ (s : State). dirtyCount s) e;
       place = ap (λ (s : State). s .place) e;
       undo = ap (λ (s : State). s .undo) e;
       request = ap (λ (s : State). s .requested) e;
@@ -50,14 +50,14 @@ format-opens b p t e =
     ∙ passedOver (leb (b .state .place) (b .state .lines)) (erasing b) (finishing b) (lt-leb (b .state .place) (b .state .lines) (omega arith))))
 
 -- Past its last cell a recovery opens the board.
-past-opens : (s : State) → s .phase ≡ Recovering → (pastCell s .phase ≡ Recovering → ⊥) → pastCell s ≡ opened s (s .listed)
-past-opens s p = past-cases (λ (x : State). (x .phase ≡ Recovering → ⊥) → x ≡ opened s (s .listed)) s (λ h o. absurd (o p)) (λ h o. refl)
+past-opens : (s : State) → s .phase ≡ Recovering → (pastCell s .phase ≡ Recovering → ⊥) → pastCell s ≡ opened s (s .dirty)
+past-opens s p = past-cases (λ (x : State). (x .phase ≡ Recovering → ⊥) → x ≡ opened s (s .dirty)) s (λ h o. absurd (o p)) (λ h o. refl)
 
 -- The last step of a recovery.
 pub recovery-opens : RecoveryOpens
 recovery-opens b p t o =
     let same = taken-next Step b t in
-    subst (Opened (b .state .listed) b) (sym same)
-    (recovery-cases (λ (d : Board). (d .state .phase ≡ Recovering → ⊥) → Opened (b .state .listed) b d) b p
+    subst (Opened (dirtyCount (b .state)) b) (sym same)
+    (recovery-cases (λ (d : Board). (d .state .phase ≡ Recovering → ⊥) → Opened (dirtyCount (b .state)) b d) b p
     (λ q y n. absurd (n p)) (λ q y n. opens _ b _ (past-opens (b .state) p n)) (λ q n. absurd (n p)) (λ q n. opens _ b _ (past-opens (b .state) p n))
     (λ e. o (ap (λ (d : Board). d .state .phase) same ∙ e)))

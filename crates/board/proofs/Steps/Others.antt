@@ -15,7 +15,7 @@ use Rattle.board.specs.declared.Phase.the-variants.{Running}
 use Rattle.board.specs.declared.Call.{Call}
 use Rattle.board.specs.declared.Call.the-variants.{FormatStart, RecoveryStart, Step, Update, RestartPoint, Advance, Request, WriteBack, Read, GoAway, ComeBack}
 use Rattle.board.specs.Board.{Board}
-use Rattle.board.specs.State.{conditionOf}
+use Rattle.board.specs.State.{conditionOf, dirtyCount}
 use Rattle.board.specs.Causes.{causes, placePast}
 use Rattle.board.specs.Effects.{Act, performAct, firstStore, afterLast, advance, advanceOf, effect}
 use Rattle.board.specs.Next.{Taken, kind, isStart}
@@ -28,20 +28,20 @@ use Rattle.board.proofs.Checkpoint.Acts.{act-cases, effect-acts, step-r
 -- ---- a checkpoint's step
 
 -- A taken step of a running board is at most at the release.
-step-within : (b : Board) → b .state .phase ≡ Running → Taken Step b → b .state .place ≤ b .state .listed + 2
+step-within : (b : Board) → b .state .phase ≡ Running → Taken Step b → b .state .place ≤ dirtyCount (b .state) + 2
 unfolding standsAt causes
 step-within b e t =
     let s = b .state in
     let fine = record-within s (passed Step b t 3) in
     let on = step-ready b e (workers-in (s .lines) (s .workers) (fine .1) .1) t .0 in
-    ltb-false (s .listed + 2) (s .place) (and-not (s .requested) (ltb (s .listed + 2) (s .place)) (subst (λ (p : Phase). placePast p s ≡ false) e (fine .2)) on)
+    ltb-false (dirtyCount s + 2) (s .place) (and-not (s .requested) (ltb (dirtyCount s + 2) (s .place)) (subst (λ (p : Phase). placePast p s ≡ false) e (fine .2)) on)
 
 -- Before the release a step keeps the workers.
-step-keeps : (b : Board) → b .state .phase ≡ Running → Taken Step b → (b .state .place ≡ b .state .listed + 2 → ⊥) → (i : ℕ) → conditionOf (effect Step b .state) i ≡ conditionOf (b .state) i
+step-keeps : (b : Board) → b .state .phase ≡ Running → Taken Step b → (b .state .place ≡ dirtyCount (b .state) + 2 → ⊥) → (i : ℕ) → conditionOf (effect Step b .state) i ≡ conditionOf (b .state) i
 unfolding performAct
 step-keeps b e t o i =
     ap (λ (d : Board). conditionOf (d .state) i) (effect-acts b e)
-    ∙ act-cases (λ (a : Act). conditionOf (performAct a (b .state) b .state) i ≡ conditionOf (b .state) i) (b .state .listed) (b .state .place)
+    ∙ act-cases (λ (a : Act). conditionOf (performAct a (b .state) b .state) i ≡ conditionOf (b .state) i) (dirtyCount (b .state)) (b .state .place)
     (λ h. refl) (λ h. refl) (λ h. refl) (λ h. absurd (o (omega (arith, step-within b e t))))
 
 -- ---- calls of a worker
@@ -68,7 +68,7 @@ unnamed : (i w : ℕ) → eqb i w ≡ false → w ≡ i → ⊥
 unnamed i w e p = eqb-false i w e (sym p)
 
 -- What a taken call does to a worker that it does not name.
-effect-keeps : (k : Call) (b : Board) → b .state .phase ≡ Running → Taken k b → isStart (kind k) ≡ false → (k ≡ Step → b .state .place ≡ b .state .listed + 2 → ⊥) → (i : ℕ) → names k i ≡ false → conditionOf (effect k b .state) i ≡ conditionOf (b .state) i
+effect-keeps : (k : Call) (b : Board) → b .state .phase ≡ Running → Taken k b → isStart (kind k) ≡ false → (k ≡ Step → b .state .place ≡ dirtyCount (b .state) + 2 → ⊥) → (i : ℕ) → names k i ≡ false → conditionOf (effect k b .state) i ≡ conditionOf (b .state) i
 unfolding effect
 effect-keeps (FormatStart l w) b e t s o i n = absurd (true≢false s)
 effect-keeps RecoveryStart b e t s o i n = absurd (true≢false s)

@@ -58,7 +58,6 @@ stores-cell b f v other s e =
       cacheSize = length-withField (b .cache) (b .state .place) f v;
       memory = λ i o. refl;
       memorySize = refl;
-      entries = refl;
       place = λ p. inl e;
     }
 
@@ -78,7 +77,6 @@ stores-line b z h =
       cacheSize = refl;
       memory = λ i o. getD-withLine-out (b .memory) l (lineOf (b .cache) l) i inside eight o;
       memorySize = length-withLine (b .memory) l (lineOf (b .cache) l) inside eight;
-      entries = refl;
       place = past-place (b .state);
     }
 

@@ -42,7 +42,6 @@ begun phase l w cache b =
       free = λ i. free-condition (started phase l w) i refl;
       memory = refl;
       current = refl;
-      entries = refl;
     }
 
 -- A format's start changes no row.
@@ -110,7 +109,6 @@ taken-recoverable b t =
       workersWithin = workers-in (linesOf (b .memory)) (workersOf (b .memory)) (header .2);
       memory = rows .memory .size;
       cache = rows .cache .size;
-      entries = rows .entries;
       epoch = omega (arith, header .0);
       lines = refl;
       workers = refl;
@@ -122,7 +120,7 @@ taken-recoverable b t =
 recoverable-starts : (l w : ℕ) (b : Board) → Recoverable l w b → Taken RecoveryStart b
 recoverable-starts l w b k =
     recoverable-taken l b
-    (record { limits = in-lines l (k .linesWithin); memory = record { size = k .memory }; cache = record { size = k .cache }; entries = k .entries })
+    (record { limits = in-lines l (k .linesWithin); memory = record { size = k .memory }; cache = record { size = k .cache } })
     (record { epoch = k .epoch; lines = k .lines; workers = subst (λ (n : ℕ). workersOutside l n ≡ false) (sym (k .workers)) (in-workers l w (k .workersWithin)); rest = zero-rest (b .memory) (k .rest) })
     (λ c h. subst (λ (m : ℕ). m ≤ epochOf (b .memory)) (sym (mark-word (b .memory) c)) (k .marks c h))
 

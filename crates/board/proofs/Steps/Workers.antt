@@ -13,7 +13,7 @@ use Rattle.board.specs.declared.Store.{Store}
 use Rattle.board.specs.declared.Phase.the-variants.{Running}
 use Rattle.board.specs.declared.Call.the-variants.{Step, Advance, GoAway, ComeBack}
 use Rattle.board.specs.Board.{Board}
-use Rattle.board.specs.State.{released, conditioned, conditionOf, isAway, isWaiting}
+use Rattle.board.specs.State.{released, conditioned, conditionOf, isAway, isWaiting, dirtyCount}
 use Rattle.board.specs.Causes.{causes}
 use Rattle.board.specs.Effects.{Act, performAct, stated, afterLast, advance, advanceOf, effect}
 use Rattle.board.specs.Next.{next, Taken}
@@ -26,10 +26,10 @@ use Rattle.board.proofs.Checkpoint.Acts.{act-release, effect-acts}
 -- ---- release
 
 -- The step at place n+2 releases.
-step-releases : (b : Board) → b .state .phase ≡ Running → Taken Step b → b .state .place ≡ b .state .listed + 2 → next Step b ≡ stated (released (b .state)) b
+step-releases : (b : Board) → b .state .phase ≡ Running → Taken Step b → b .state .place ≡ dirtyCount (b .state) + 2 → next Step b ≡ stated (released (b .state)) b
 unfolding performAct
 step-releases b e t p =
-    taken-next Step b t ∙ effect-acts b e ∙ ap (λ (a : Act). performAct a (b .state) b) (act-release (b .state .listed) (b .state .place) p)
+    taken-next Step b t ∙ effect-acts b e ∙ ap (λ (a : Act). performAct a (b .state) b) (act-release (dirtyCount (b .state)) (b .state .place) p)
 
 -- A release frees the eight workers but those that are away.
 pub releases : Releases
@@ -47,7 +47,6 @@ releases b e t p =
       workers = refl;
       memory = refl;
       cache = refl;
-      entries = refl;
     })
 
 -- ---- the last store
@@ -100,7 +99,6 @@ only-worker w condition b h =
       request = refl;
       memory = refl;
       cache = refl;
-      entries = refl;
     }
 
 -- A worker that goes away is away, and nothing else has changed.

@@ -5,7 +5,7 @@ use Rattle.board.specs.declared.Condition.the-variants.{Free, Waiting, A
 use Rattle.board.specs.declared.Phase.the-variants.{Formatting, Recovering, Running}
 use Rattle.board.specs.declared.Call.the-variants.{Step, Update, RestartPoint, Advance, Request, WriteBack, Read, GoAway, ComeBack}
 use Rattle.board.specs.Bench.{Case, answers, from}
-use Rattle.board.specs.Refusals.Boards.{gives, givesOn, sound, requested, listing, placedAt, worker, updating, ready, spent, quietEdges, requestedEdges, largeEdges, firstThree}
+use Rattle.board.specs.Refusals.Boards.{gives, givesOn, sound, requested, setting, placedAt, worker, updating, ready, spent, quietEdges, requestedEdges, largeEdges, firstThree}
 
 -- ---- going away
 
@@ -57,18 +57,18 @@ comeNotAway =
     let begun = placedAt 1 (requested b) in
     givesOn 8 (ComeBack 1) (begun ∷ worker 1 Waiting begun ∷ updating 1 3 begun ∷ b ∷ worker 1 Waiting b ∷ updating 1 3 b ∷ [])
 
--- Cause 13: after the epoch's store of an empty list, before the release, after the first of two lines, before the release of two; the eighth worker.
+-- Cause 13: after the epoch's store with no line dirty, before the release, after the one line, before the release of one; the eighth worker.
 abbrev pub comeBegun : List Case
 comeBegun =
     let b = worker 0 Away (requested (sound Running 1 1)) in
-    givesOn 13 (ComeBack 0) (placedAt 1 b ∷ placedAt 2 b ∷ listing 2 (placedAt 1 b) ∷ listing 2 (placedAt 4 b) ∷ [])
+    givesOn 13 (ComeBack 0) (placedAt 1 b ∷ placedAt 2 b ∷ setting 1 (placedAt 1 b) ∷ setting 1 (placedAt 3 b) ∷ [])
     ++ (gives 13 (ComeBack 7) (placedAt 1 (worker 7 Away (ready 5 8))) ∷ [])
 
 -- Taken: with a request before its first step; with none at any place, on the records just within; worker W − 1; others in an update, waiting or away; in the last epoch.
 abbrev pub comeTaken : List Case
 comeTaken =
     gives 0 (ComeBack 0) (requested (worker 0 Away (sound Running 1 1)))
-    ∷ gives 0 (ComeBack 0) (listing 2 (requested (worker 0 Away (sound Running 1 1))))
+    ∷ gives 0 (ComeBack 0) (setting 1 (requested (worker 0 Away (sound Running 1 1))))
     ∷ gives 0 (ComeBack 7) (worker 7 Away (ready 5 8))
     ∷ gives 0 (ComeBack 1) (updating 0 2 (worker 1 Away (sound Running 2 2)))
     ∷ gives 0 (ComeBack 1) (worker 0 Away (worker 1 Away (spent (sound Running 2 2))))
@@ -76,13 +76,13 @@ comeTaken =
 
 -- ---- every other call
 
--- A worker that is away is neither free nor in an update: cause 8 of update (9 stands too), restart point (9 too) and advance, though the list be full.
+-- A worker that is away is neither free nor in an update: cause 8 of update (9 stands too), restart point (9 too) and advance, though a line be dirty.
 abbrev pub awayBusy : List Case
 awayBusy =
     gives 8 (Update 1 2 7) (updating 0 2 (worker 1 Away (sound Running 2 2)))
     ∷ gives 8 (RestartPoint 1 3) (updating 0 1 (worker 1 Away (sound Running 2 2)))
     ∷ gives 8 (Advance 0) (worker 0 Away (sound Running 1 1))
-    ∷ gives 8 (Advance 0) (listing 2 (worker 0 Away (sound Running 1 1)))
+    ∷ gives 8 (Advance 0) (setting 1 (worker 0 Away (sound Running 1 1)))
     ∷ []
 
 -- "away counts as waiting" in cause 10: taken where the one worker is away, one of eight, all of two; at places n+1 and n+2; and whatever a worker from W on does.

@@ -9,8 +9,9 @@ use Rattle.board.specs.declared.Store.the-variants.{Backup}
 use Rattle.board.specs.declared.Phase.{Phase}
 use Rattle.board.specs.declared.Phase.the-variants.{Off, Formatting, Recovering, Running}
 use Rattle.board.specs.declared.Call.{Call}
-use Rattle.board.specs.Board.{Board, listWords, headerWords}
-use Rattle.board.specs.State.{freeWorker, started, placed, conditioned}
+use Rattle.bitset.specs.Words.{empty}
+use Rattle.board.specs.Board.{Board, headerWords}
+use Rattle.board.specs.State.{freeWorker, started, placed, conditioned, dirtied}
 use Rattle.board.specs.Effects.{cached, stated}
 use Rattle.board.specs.Bench.{Case, answers, fromEvents}
 
@@ -32,8 +33,7 @@ rowFor l w = headerWords 1 l w ++ replicate (8 * l) 0
 
 -- A board in a phase, with L, W and rows that fit: no cause but the phase and the call's arguments stands.
 abbrev pub sound : Phase → ℕ → ℕ → Board
-sound phase l w =
-    record { state = started phase l w; memory = rowFor l w; cache = rowFor l w; entries = replicate (listWords l) 0 }
+sound phase l w = record { state = started phase l w; memory = rowFor l w; cache = rowFor l w }
 
 -- ---- the state record put otherwise
 
@@ -41,25 +41,27 @@ sound phase l w =
 abbrev pub inPhase : Phase → Board → Board
 inPhase p b =
     let s = b .state in
-    stated (record { phase = p; lines = s .lines; workers = s .workers; listed = s .listed; place = s .place; undo = s .undo; requested = s .requested; worker = s .worker }) b
+    stated (record { phase = p; lines = s .lines; workers = s .workers; place = s .place; undo = s .undo; requested = s .requested; dirty = s .dirty; worker = s .worker }) b
 
 -- Another L and W.
 abbrev pub limits : ℕ → ℕ → Board → Board
 limits l w b =
     let s = b .state in
-    stated (record { phase = s .phase; lines = l; workers = w; listed = s .listed; place = s .place; undo = s .undo; requested = s .requested; worker = s .worker }) b
+    stated (record { phase = s .phase; lines = l; workers = w; place = s .place; undo = s .undo; requested = s .requested; dirty = s .dirty; worker = s .worker }) b
 
 -- A request stands.
 abbrev pub requested : Board → Board
 requested b =
     let s = b .state in
-    stated (record { phase = s .phase; lines = s .lines; workers = s .workers; listed = s .listed; place = s .place; undo = s .undo; requested = true; worker = s .worker }) b
+    stated (record { phase = s .phase; lines = s .lines; workers = s .workers; place = s .place; undo = s .undo; requested = true; dirty = s .dirty; worker = s .worker }) b
 
--- Another list length.
-abbrev pub listing : ℕ → Board → Board
-listing n b =
-    let s = b .state in
-    stated (record { phase = s .phase; lines = s .lines; workers = s .workers; listed = n; place = s .place; undo = s .undo; requested = s .requested; worker = s .worker }) b
+-- The bit of line `l` set.
+abbrev pub setting : ℕ → Board → Board
+setting l b = stated (dirtied (b .state) l) b
+
+-- A bit that no board has: of line 0.
+abbrev pub straying : Board → Board
+straying b = setting 0 b
 
 -- Another place.
 abbrev pub placedAt : ℕ → Board → Board
@@ -77,21 +79,16 @@ updating w c b = worker w (Updating Backup c 5) b
 abbrev pub ready : ℕ → ℕ → Board
 ready l w =
     record {
-      state = record { phase = Running; lines = l; workers = w; listed = 0; place = 0; undo = started Running l w .undo; requested = true; worker = replicate w (record { condition = Waiting }) ++ replicate (8 - w) freeWorker };
+      state = record { phase = Running; lines = l; workers = w; place = 0; undo = started Running l w .undo; requested = true; dirty = empty; worker = replicate w (record { condition = Waiting }) ++ replicate (8 - w) freeWorker };
       memory = rowFor l w;
       cache = rowFor l w;
-      entries = replicate (listWords l) 0;
     }
 
 -- ---- the rows put otherwise
 
--- Other entries in the list.
-abbrev pub entered : List ℕ → Board → Board
-entered entries b = record { state = b .state; memory = b .memory; cache = b .cache; entries = entries }
-
 -- Another memory.
 abbrev pub remembered : List ℕ → Board → Board
-remembered memory b = record { state = b .state; memory = memory; cache = b .cache; entries = b .entries }
+remembered memory b = record { state = b .state; memory = memory; cache = b .cache }
 
 -- Another epoch in the cache.
 abbrev pub epoch : ℕ → Board → Board
@@ -113,14 +110,13 @@ longer row = row ++ (0 ∷ [])
 abbrev pub shortCache : Board → Board
 shortCache b = cached (shorter (b .cache)) (b .state) b
 
--- "cache or memory not 8×(L+1) words, list under 2L": each too short, and each of the first two too long.
+-- "cache or memory not 8×(L+1) words": each too short, and each too long.
 abbrev pub misfits : Board → List Board
 misfits b =
     shortCache b
     ∷ cached (longer (b .cache)) (b .state) b
     ∷ remembered (shorter (b .memory)) b
     ∷ remembered (longer (b .memory)) b
-    ∷ entered (shorter (b .entries)) b
     ∷ []
 
 -- ---- records at fault in one part, and records just within
@@ -129,27 +125,26 @@ misfits b =
 abbrev pub outsides : Board → List Board
 outsides b = limits 0 1 b ∷ limits 512 1 b ∷ limits 1 0 b ∷ limits 5 9 b ∷ limits 1 2 b ∷ []
 
--- Every fault of a running record (1, 1), cause 4 standing too: list length 2L + 1; place n+3 with a request, n being 0 and 2; cell 2L in an update of a worker under W; the limits.
+-- Every fault of a running record (1, 1), cause 4 standing too: a bit of line 0; of line L + 1; place n+3 with a request, n being 0 and 1; cell 2L in an update of a worker under W; the limits.
 abbrev pub badRecords : List Board
 badRecords =
     let b = shortCache (sound Running 1 1) in
-    listing 3 b ∷ placedAt 3 (requested b) ∷ listing 2 (placedAt 5 (requested b)) ∷ updating 0 2 b ∷ outsides b
+    setting 0 b ∷ setting 2 b ∷ placedAt 3 (requested b) ∷ setting 1 (placedAt 4 (requested b)) ∷ updating 0 2 b ∷ outsides b
 
--- Running boards (1, 1) with a record just within and no request: W = 2L − 1; list length 2L; a longer list; a place past everything; worker 1, from W on, with an update of cell 2L.
+-- Running boards (1, 1) with a record just within and no request: W = 2L − 1; the bit of line L; a place past everything; worker 1, from W on, with an update of cell 2L.
 abbrev pub quietEdges : List Board
 quietEdges =
     sound Running 1 1
-    ∷ listing 2 (sound Running 1 1)
-    ∷ entered (replicate 9 0) (sound Running 1 1)
+    ∷ setting 1 (sound Running 1 1)
     ∷ placedAt 600 (sound Running 1 1)
     ∷ updating 1 2 (sound Running 1 1)
     ∷ []
 
--- The same with a request: place n+2, n being 0 and 2; and epoch 2^64 − 1.
+-- The same with a request: place n+2, n being 0 and 1; and epoch 2^64 − 1.
 abbrev pub requestedEdges : List Board
 requestedEdges =
     placedAt 2 (requested (sound Running 1 1))
-    ∷ listing 2 (placedAt 4 (requested (sound Running 1 1)))
+    ∷ setting 1 (placedAt 3 (requested (sound Running 1 1)))
     ∷ spent (requested (sound Running 1 1))
     ∷ []
 
@@ -160,9 +155,9 @@ largeEdges = sound Running 511 8 ∷ sound Running 5 8 ∷ sound Running 2 3 ∷
 -- The phases that do not run, of a board on which causes 3 and 4 stand too.
 abbrev pub notRunningOf : Board → List Board
 notRunningOf b =
-    let c = listing 3 (shortCache b) in
+    let c = straying (shortCache b) in
     inPhase Off c ∷ inPhase Formatting c ∷ inPhase Recovering c ∷ []
 
 -- Causes 2, 3 and 4 of a call that needs running, each with every later one standing: the board is one (1, 1) on which all causes from 6 on stand.
 abbrev pub firstThree : Call → Board → List Case
-firstThree k b = givesOn 2 k (notRunningOf b) ++ (givesOn 3 k (listing 3 (shortCache b) ∷ badRecords) ++ givesOn 4 k (misfits b))
+firstThree k b = givesOn 2 k (notRunningOf b) ++ (givesOn 3 k (straying (shortCache b) ∷ badRecords) ++ givesOn 4 k (misfits b))

@@ -9,7 +9,7 @@ use Rattle.board.specs.declared.Call.the-variants.{Update, RestartPoint,
 use Rattle.board.specs.Board.{Board}
 use Rattle.board.specs.Effects.{cached}
 use Rattle.board.specs.Bench.{Case, fromEvents, valued}
-use Rattle.board.specs.Refusals.Boards.{gives, givesOn, rowFor, sound, inPhase, requested, listing, placedAt, worker, updating, entered, remembered, epoch, spent, shortCache, misfits, badRecords, quietEdges, requestedEdges, largeEdges, firstThree}
+use Rattle.board.specs.Refusals.Boards.{gives, givesOn, rowFor, sound, inPhase, requested, setting, straying, placedAt, worker, updating, remembered, epoch, spent, shortCache, misfits, badRecords, quietEdges, requestedEdges, largeEdges, firstThree}
 
 -- ---- update
 
@@ -106,15 +106,11 @@ restartTaken =
 abbrev pub advanceFirst : List Case
 advanceFirst = firstThree (Advance 1) (sound Running 1 1)
 
--- A board (2, 2) with a full list: worker 0 must add a cell next, worker 1 only stores its record.
+-- A board (2, 2) with every cell line dirty: worker 0 marks a cell next, worker 1 stores its record.
 abbrev pub full : Board
-full = listing 4 (worker 0 (Updating Mark 2 5) (worker 1 (Updating Record 3 5) (sound Running 2 2)))
+full = setting 1 (setting 2 (worker 0 (Updating Mark 2 5) (worker 1 (Updating Record 3 5) (sound Running 2 2))))
 
--- Cause 3: "an advance by a worker under W must add a cell and the length is 2L"; 4 stands too.
-abbrev pub advanceFull : List Case
-advanceFull = gives 3 (Advance 0) (shortCache full) ∷ gives 3 (Advance 0) full ∷ []
-
--- Cause 6, while 8 stands; also where a worker from W on would have to add to a full list; worker 8; the largest number.
+-- Cause 6, while 8 stands; also where a worker from W on would mark a cell; worker 8; the largest number.
 abbrev pub advanceWorker : List Case
 advanceWorker =
     gives 6 (Advance 1) (sound Running 1 1)
@@ -123,19 +119,14 @@ advanceWorker =
     ∷ gives 6 (Advance (2 ^ 64 - 1)) (sound Running 1 1)
     ∷ []
 
--- Cause 8: "advance of one free or waiting", though the list be full: it adds nothing.
+-- Cause 8: "advance of one free or waiting".
 abbrev pub advanceIdle : List Case
-advanceIdle =
-    gives 8 (Advance 0) (sound Running 1 1)
-    ∷ gives 8 (Advance 0) (worker 0 Waiting (sound Running 1 1))
-    ∷ gives 8 (Advance 0) (listing 2 (sound Running 1 1))
-    ∷ gives 8 (Advance 0) (listing 2 (worker 0 Waiting (sound Running 1 1)))
-    ∷ []
+advanceIdle = gives 8 (Advance 0) (sound Running 1 1) ∷ gives 8 (Advance 0) (worker 0 Waiting (sound Running 1 1)) ∷ []
 
--- Taken: length 2L − 1 where it adds; length 2L where it adds nothing; worker W − 1; cell 2L − 1; on the records just within.
+-- Taken: each of the three stores though every line be dirty; worker W − 1; cell 2L − 1; on the records just within.
 abbrev pub advanceTaken : List Case
 advanceTaken =
-    gives 0 (Advance 0) (listing 3 full)
+    gives 0 (Advance 0) full
     ∷ gives 0 (Advance 1) full
     ∷ gives 0 (Advance 0) (updating 0 2 full)
     ∷ gives 0 (Advance 7) (updating 7 9 (sound Running 5 8))
@@ -166,14 +157,14 @@ requestTaken =
 -- Cause 2: "needs recovering or running"; 3, 4 and 7 stand too.
 abbrev pub backPhase : List Case
 backPhase =
-    let b = listing 3 (shortCache (sound Running 1 1)) in
+    let b = straying (shortCache (sound Running 1 1)) in
     givesOn 2 (WriteBack 2) (inPhase Off b ∷ inPhase Formatting b ∷ [])
 
--- Cause 3, while 4 and 7 stand: when running, and in a recovery at cell 2L, with list length 2L + 1, and with an update of cell 2L.
+-- Cause 3, while 4 and 7 stand: when running, and in a recovery at cell 2L, with a bit of line L + 1, and with an update of cell 2L.
 abbrev pub backRecord : List Case
 backRecord =
     let b = shortCache (sound Recovering 1 1) in
-    givesOn 3 (WriteBack 2) (placedAt 2 b ∷ listing 3 b ∷ updating 0 2 b ∷ badRecords)
+    givesOn 3 (WriteBack 2) (placedAt 2 b ∷ setting 2 b ∷ updating 0 2 b ∷ badRecords)
 
 -- Cause 4, while 7 stands, in both phases.
 abbrev pub backRows : List Case
@@ -207,7 +198,7 @@ readCell = gives 7 (Read 2) (sound Running 1 1) ∷ gives 7 (Read (2 ^ 64 - 1)) 
 abbrev pub readValue : List Case
 readValue =
     let b = cached (set (rowFor 1 1) 8 9) (sound Running 1 1 .state) (sound Running 1 1) in
-    valuedOn 0 (inPhase Off b) ∷ valuedOn 0 (listing 3 b) ∷ valuedOn 0 (shortCache b) ∷ valuedOn 9 b ∷ []
+    valuedOn 0 (inPhase Off b) ∷ valuedOn 0 (straying b) ∷ valuedOn 0 (shortCache b) ∷ valuedOn 9 b ∷ []
   where
     valuedOn : ℕ → Board → Case
     valuedOn v b = fromEvents v b [] (valued 0 v ∷ [])

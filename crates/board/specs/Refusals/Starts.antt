@@ -7,14 +7,14 @@ use Rattle.board.specs.declared.Phase.the-variants.{Off, Formatting, Rec
 use Rattle.board.specs.declared.Call.the-variants.{FormatStart, RecoveryStart, Step}
 use Rattle.board.specs.Board.{Board, headerWords}
 use Rattle.board.specs.Bench.{Case, blank}
-use Rattle.board.specs.Refusals.Boards.{gives, givesOn, rowFor, sound, inPhase, limits, requested, listing, placedAt, worker, updating, ready, entered, remembered, epoch, spent, shortCache, misfits, outsides, badRecords}
+use Rattle.board.specs.Refusals.Boards.{gives, givesOn, rowFor, sound, inPhase, limits, requested, setting, straying, placedAt, worker, updating, ready, remembered, epoch, spent, shortCache, misfits, outsides, badRecords}
 
 -- ---- both starts
 
 -- "never for the two starts", "not for the starts": a board (1, 1) in each phase, its state record at fault in every part.
 abbrev pub anyRecord : List Board
 anyRecord =
-    let b = listing 9 (limits 512 0 (placedAt 600 (requested (updating 0 2 (sound Off 1 1))))) in
+    let b = straying (limits 512 0 (placedAt 600 (requested (updating 0 2 (sound Off 1 1))))) in
     b ∷ inPhase Formatting b ∷ inPhase Recovering b ∷ inPhase Running b ∷ []
 
 -- ---- format's start
@@ -36,35 +36,32 @@ formatLimits =
 abbrev pub formatRows : List Case
 formatRows = givesOn 4 (FormatStart 1 1) (misfits (sound Off 1 1)) ++ (gives 4 (FormatStart 1 1) (sound Running 2 1) ∷ gives 4 (FormatStart 2 1) (sound Running 1 1) ∷ [])
 
--- Taken: L 1 and 511; W 8 and 2L − 1; a longer list; in every phase over any record.
+-- Taken: L 1 and 511; W 8 and 2L − 1; in every phase over any record.
 abbrev pub formatTaken : List Case
 formatTaken =
     gives 0 (FormatStart 1 1) (sound Off 1 1)
     ∷ gives 0 (FormatStart 511 8) (sound Off 511 8)
     ∷ gives 0 (FormatStart 5 8) (sound Off 5 8)
     ∷ gives 0 (FormatStart 2 3) (sound Off 2 3)
-    ∷ gives 0 (FormatStart 1 1) (entered (replicate 9 0) (sound Off 1 1))
     ∷ givesOn 0 (FormatStart 1 1) anyRecord
 
 -- ---- recovery's start
 
--- Cause 4, while cause 5 stands too: words no multiple of 8; 8 and 4,104 words; cache of another length; list under (words div 4) − 2.
+-- Cause 4, while cause 5 stands too: words no multiple of 8; 8 and 4,104 words; cache of another length.
 abbrev pub recoveryRows : List Case
 recoveryRows =
-    gives 4 RecoveryStart (blank 17 9)
-    ∷ gives 4 RecoveryStart (blank 20 9)
-    ∷ gives 4 RecoveryStart (blank 0 9)
-    ∷ gives 4 RecoveryStart (blank 8 9)
-    ∷ gives 4 RecoveryStart (blank 4104 1024)
-    ∷ gives 4 RecoveryStart (shortCache (blank 16 2))
-    ∷ gives 4 RecoveryStart (remembered (replicate 16 0) (blank 24 4))
-    ∷ gives 4 RecoveryStart (blank 16 1)
-    ∷ gives 4 RecoveryStart (blank 24 3)
+    gives 4 RecoveryStart (blank 17)
+    ∷ gives 4 RecoveryStart (blank 20)
+    ∷ gives 4 RecoveryStart (blank 0)
+    ∷ gives 4 RecoveryStart (blank 8)
+    ∷ gives 4 RecoveryStart (blank 4104)
+    ∷ gives 4 RecoveryStart (shortCache (blank 16))
+    ∷ gives 4 RecoveryStart (remembered (replicate 16 0) (blank 24))
     ∷ []
 
 -- A board off whose memory has the given first words and zeros in as many lines as L asks; its cache holds no header.
 abbrev pub offWith : ℕ → List ℕ → Board
-offWith l header = remembered (header ++ replicate (8 * l) 0) (blank (8 * l + 8) (2 * l))
+offWith l header = remembered (header ++ replicate (8 * l) 0) (blank (8 * l + 8))
 
 -- Cause 5: epoch 0; L not (words div 8) − 1; W 0, 9 and 2L; each of words 3 to 7 not zero.
 abbrev pub recoveryHeader : List Case
@@ -82,13 +79,12 @@ recoveryHeader =
     ∷ gives 5 RecoveryStart (offWith 1 (set (headerWords 1 1 1) 7 1))
     ∷ []
 
--- Taken: 16 and 72 words with lists of 2 and 16 (`RecoveryTakes` has every size); W = 2L − 1; a longer list; in every phase over any record.
+-- Taken: 16 and 72 words (`RecoveryTakes` has every size); W = 2L − 1; in every phase over any record.
 abbrev pub recoveryTaken : List Case
 recoveryTaken =
     gives 0 RecoveryStart (offWith 1 (headerWords 1 1 1))
     ∷ gives 0 RecoveryStart (offWith 8 (headerWords 1 8 8))
     ∷ gives 0 RecoveryStart (offWith 2 (headerWords (2 ^ 64 - 1) 2 3))
-    ∷ gives 0 RecoveryStart (entered (replicate 9 0) (offWith 1 (headerWords 1 1 1)))
     ∷ givesOn 0 RecoveryStart anyRecord
 
 -- The same board with another word in memory; of line 1, words 10 and 13 are the marks of cells 0 and 1.
@@ -127,37 +123,37 @@ recoveryMarksTaken =
 
 -- Cause 2: "a phase other than off"; causes 3 and 4 stand too.
 abbrev pub stepPhase : List Case
-stepPhase = gives 2 Step (listing 3 (shortCache (sound Off 1 1))) ∷ gives 2 Step (sound Off 1 1) ∷ []
+stepPhase = gives 2 Step (straying (shortCache (sound Off 1 1))) ∷ gives 2 Step (sound Off 1 1) ∷ []
 
 -- Cause 3 when running, while 4 and 10 stand; place n+3 once more, while 11 would at n.
 abbrev pub stepRecord : List Case
 stepRecord = givesOn 3 Step (placedAt 3 (spent (ready 1 1)) ∷ badRecords)
 
--- Cause 3 in a format, while 4 stands: place L + 2, list length 2L + 1, cell 2L in an update, the limits.
+-- Cause 3 in a format, while 4 stands: place L + 2, a bit of line L + 1, cell 2L in an update, the limits.
 abbrev pub stepRecordInFormat : List Case
 stepRecordInFormat =
     let b = shortCache (sound Formatting 1 1) in
-    givesOn 3 Step (placedAt 3 b ∷ listing 3 b ∷ updating 0 2 b ∷ outsides b)
+    givesOn 3 Step (placedAt 3 b ∷ setting 2 b ∷ updating 0 2 b ∷ outsides b)
 
--- Cause 3 in a recovery, while 4 stands: cell 2L, list length 2L + 1, cell 2L in an update, the limits.
+-- Cause 3 in a recovery, while 4 stands: cell 2L, a bit of line L + 1, cell 2L in an update, the limits.
 abbrev pub stepRecordInRecovery : List Case
 stepRecordInRecovery =
     let b = shortCache (sound Recovering 1 1) in
-    givesOn 3 Step (placedAt 2 b ∷ listing 3 b ∷ updating 0 2 b ∷ outsides b)
+    givesOn 3 Step (placedAt 2 b ∷ setting 2 b ∷ updating 0 2 b ∷ outsides b)
 
--- Taken: place L + 1 in a format, cell 2L − 1 in a recovery, place n+2 when running with a request (n 0 and 2); list length 2L; cell 2L − 1 in an update.
+-- Taken: place L + 1 in a format, cell 2L − 1 in a recovery, place n+2 when running with a request (n 0 and 1); the bit of line L; cell 2L − 1 in an update.
 abbrev pub stepRecordTaken : List Case
 stepRecordTaken =
     gives 0 Step (placedAt 2 (sound Formatting 1 1))
     ∷ gives 0 Step (placedAt 512 (sound Formatting 511 8))
-    ∷ gives 0 Step (listing 2 (sound Formatting 1 1))
+    ∷ gives 0 Step (setting 1 (sound Formatting 1 1))
     ∷ gives 0 Step (updating 0 1 (sound Formatting 1 1))
     ∷ gives 0 Step (placedAt 1 (sound Recovering 1 1))
     ∷ gives 0 Step (placedAt 1021 (sound Recovering 511 8))
-    ∷ gives 0 Step (listing 2 (sound Recovering 1 1))
+    ∷ gives 0 Step (setting 1 (sound Recovering 1 1))
     ∷ gives 0 Step (updating 0 1 (sound Recovering 1 1))
     ∷ gives 0 Step (placedAt 2 (ready 1 1))
-    ∷ gives 0 Step (listing 2 (placedAt 4 (ready 1 1)))
+    ∷ gives 0 Step (setting 1 (placedAt 3 (ready 1 1)))
     ∷ []
 
 -- Past n+2 with a request a format or a recovery is not at fault, nor is a running board without one past everything: it is cause 10 that answers there.
@@ -173,26 +169,6 @@ abbrev pub stepRows : List Case
 stepRows =
     givesOn 4 Step (misfits (spent (requested (sound Running 1 1))))
     ++ givesOn 4 Step (misfits (sound Formatting 1 1) ++ misfits (sound Recovering 1 1))
-
--- Cause 4, "a list entry that this step uses is 2L or more", while 10 stands: at place 0 and at place 1.
-abbrev pub stepEntry : List Case
-stepEntry =
-    gives 4 Step (listing 1 (entered (2 ∷ 0 ∷ []) (requested (sound Running 1 1))))
-    ∷ gives 4 Step (listing 2 (placedAt 1 (entered (0 ∷ 2 ∷ []) (requested (sound Running 1 1)))))
-    ∷ []
-
--- Taken, an entry 2L that the step does not use: at another place, from the list's length on, with no request (cause 10 answers), in a format or recovery; and an entry 2L − 1; a longer list.
-abbrev pub stepEntryTaken : List Case
-stepEntryTaken =
-    gives 0 Step (listing 2 (entered (0 ∷ 2 ∷ []) (ready 1 1)))
-    ∷ gives 0 Step (listing 2 (placedAt 1 (entered (2 ∷ 0 ∷ []) (ready 1 1))))
-    ∷ gives 0 Step (entered (2 ∷ 2 ∷ []) (ready 1 1))
-    ∷ gives 10 Step (listing 1 (entered (2 ∷ 2 ∷ []) (sound Running 1 1)))
-    ∷ gives 0 Step (listing 1 (entered (2 ∷ 2 ∷ []) (requested (sound Formatting 1 1))))
-    ∷ gives 0 Step (listing 1 (entered (2 ∷ 2 ∷ []) (requested (sound Recovering 1 1))))
-    ∷ gives 0 Step (listing 1 (entered (1 ∷ 2 ∷ []) (ready 1 1)))
-    ∷ gives 0 Step (entered (replicate 9 2) (ready 1 1))
-    ∷ []
 
 -- Cause 10: none requested; with a request, and 11 standing too: a worker free, one updating, the last of two free, the first of two, the eighth of eight.
 abbrev pub stepReady : List Case
@@ -217,16 +193,16 @@ stepReadyTaken =
     ∷ gives 0 Step (sound Recovering 1 1)
     ∷ []
 
--- Cause 11: the cache's epoch 2^64 − 1 at the epoch's store, n being 0 and 2.
+-- Cause 11: the cache's epoch 2^64 − 1 at the epoch's store, n being 0 and 1.
 abbrev pub stepEpoch : List Case
-stepEpoch = gives 11 Step (spent (ready 1 1)) ∷ gives 11 Step (listing 2 (placedAt 2 (spent (ready 1 1)))) ∷ []
+stepEpoch = gives 11 Step (spent (ready 1 1)) ∷ gives 11 Step (setting 1 (placedAt 1 (spent (ready 1 1)))) ∷ []
 
--- Taken: epoch 2^64 − 2 there; that epoch in memory alone; at an entry, at places n+1 and n+2, and in a format or recovery, though the place is the list's length and a request stands.
+-- Taken: epoch 2^64 − 2 there; that epoch in memory alone; at a line, at places n+1 and n+2, and in a format or recovery, though the place is n and a request stands.
 abbrev pub stepEpochTaken : List Case
 stepEpochTaken =
     gives 0 Step (epoch (2 ^ 64 - 2) (ready 1 1))
     ∷ gives 0 Step (remembered (set (rowFor 1 1) 0 (2 ^ 64 - 1)) (ready 1 1))
-    ∷ gives 0 Step (listing 1 (spent (ready 1 1)))
+    ∷ gives 0 Step (setting 1 (spent (ready 1 1)))
     ∷ gives 0 Step (placedAt 1 (spent (ready 1 1)))
     ∷ gives 0 Step (placedAt 2 (spent (ready 1 1)))
     ∷ gives 0 Step (spent (requested (sound Formatting 1 1)))

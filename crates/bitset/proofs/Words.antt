@@ -1,0 +1,1 @@
+-- Laws of a set in eight words.
