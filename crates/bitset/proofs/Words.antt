@@ -1,1 +1,185 @@
 -- Laws of a set in eight words.
+use Prim.Native.Nat.{ℕ, zero, suc, _+_, _*_, _/_, _%_, _≤_, _<_}
+use mathlib.Core.Path.{_≡_, refl, sym, ap, ap₂, subst, _∙_}
+use mathlib.Core.Bool.{Bool, true, false, _&&_, _||_}
+use mathlib.Core.List.{List}
+use native.Mathlib.Omega.{arith}
+use native.Mathlib.Decide.{decLt}
+use native.Mathlib.Nat.{zero-add, add-suc}
+use lib.Dec.{ltb, eqb, eqb·suc-zero}
+use lib.ListN.{length, getD, set, length-set, getD-replicate, List·getD-eq-default}
+use lib.Seq.{set-out, getD-set-same, getD-set-other}
+use borrow.Author.Tests.{eqb-true, eqb-false}
+use Rattle.text.proofs.Bools.{split, and-off-right}
+use Rattle.bitset.specs.Passing.{anyUnder, countUnder, nthUnder}
+use Rattle.bitset.specs.Words.{bitOf, withBit, contains, inserted, empty, size, nth, strays}
+use Rattle.bitset.proofs.Passing.{Nth, count-alike, count-split, nth-found, nth-unique}
+use Rattle.bitset.proofs.Bits.{bit-zero, with-own, with-other}
+
+-- ---- a number that is put in
+
+pub length-inserted : (words : List ℕ) (i : ℕ) → length (inserted words i) ≡ length words
+unfolding inserted
+length-inserted words i = length-set words (i / 64) _
+
+pub contains-inserted : (words : List ℕ) (i : ℕ) → i / 64 < length words → contains (inserted words i) i ≡ true
+unfolding contains inserted
+contains-inserted words i h =
+    ap (λ (w : ℕ). bitOf w (i % 64)) (getD-set-same words (i / 64) (withBit (getD words (i / 64) 0) (i % 64)) 0 h)
+    ∙ with-own (getD words (i / 64) 0) (i % 64)
+
+pub contains-other : (words : List ℕ) (i j : ℕ) → (j ≡ i → ⊥) → contains (inserted words i) j ≡ contains words j
+unfolding contains inserted
+contains-other words i j n =
+    let put = withBit (getD words (i / 64) 0) (i % 64) in
+    split (eqb (j / 64) (i / 64))
+    (λ t.
+    let same = eqb-true (j / 64) (i / 64) t in
+    elim (decLt (i / 64) (length words)) [
+      | yes h ↦
+          ap (λ (k : ℕ). bitOf (getD (set words (i / 64) put) k 0) (j % 64)) same
+          ∙ ap (λ (w : ℕ). bitOf w (j % 64)) (getD-set-same words (i / 64) put 0 h)
+          ∙ with-other (getD words (i / 64) 0) (i % 64) (j % 64) (λ e. n (omega arith))
+          ∙ ap (λ (k : ℕ). bitOf (getD words k 0) (j % 64)) (sym same)
+      | no h ↦ ap (λ (l : List ℕ). bitOf (getD l (j / 64) 0) (j % 64)) (set-out words (i / 64) put (omega arith))
+    ])
+    (λ t. ap (λ (w : ℕ). bitOf w (j % 64)) (getD-set-other words (i / 64) (j / 64) put 0 (eqb-false (j / 64) (i / 64) t)))
+
+-- ---- a set with nothing in it, and numbers that no set has
+
+pub empty-contains : (i : ℕ) → contains empty i ≡ false
+unfolding contains
+empty-contains i =
+    let none : getD empty (i / 64) 0 ≡ 0 =
+      elim (decLt (i / 64) 8) [ yes h ↦ getD-replicate 8 (i / 64) 0 0 h | no h ↦ List·getD-eq-default empty 0 (let l : 8 ≤ i / 64 = omega arith in l) ] in
+    ap (λ (w : ℕ). bitOf w (i % 64)) none ∙ bit-zero (i % 64)
+
+pub past-words : (words : List ℕ) (i : ℕ) → length words ≡ 8 → 512 ≤ i → contains words i ≡ false
+unfolding contains
+past-words words i e h =
+    ap (λ (w : ℕ). bitOf w (i % 64)) (List·getD-eq-default words 0 (let l : length words ≤ i / 64 = omega arith in l)) ∙ bit-zero (i % 64)
+
+-- ---- word by word
+
+-- The numbers that word `k` has bits for.
+pub contains-word : (words : List ℕ) (k b : ℕ) → b < 64 → contains words (64 * k + b) ≡ bitOf (getD words k 0) b
+unfolding contains
+contains-word words k b h =
+    let word : (64 * k + b) / 64 ≡ k = omega arith in
+    let bit : (64 * k + b) % 64 ≡ b = omega arith in
+    ap₂ (λ (x y : ℕ). bitOf (getD words x 0) y) word bit
+
+-- How many numbers of the set word `k` has.
+abbrev pub wordCount : List ℕ → ℕ → ℕ
+wordCount words k = countUnder 64 (bitOf (getD words k 0))
+
+-- Word `k` has a number past `last`.
+abbrev pub wordPast : List ℕ → ℕ → ℕ → Bool
+wordPast words last k = anyUnder 64 (λ b. bitOf (getD words k 0) b && ltb last (64 * k + b))
+
+-- One word more.
+pub count-word : (words : List ℕ) (k : ℕ) → countUnder (64 * k + 64) (contains words) ≡ countUnder (64 * k) (contains words) + wordCount words k
+count-word words k =
+    count-split (64 * k) 64 (contains words)
+    ∙ ap (λ (x : ℕ). countUnder (64 * k) (contains words) + x)
+    (count-alike 64 (λ b. contains words (64 * k + b)) (bitOf (getD words k 0)) (λ b h. contains-word words k b h))
+
+-- The number with rank `left` in word `k`, where `p` less `left` numbers stand in the words before it.
+pub nth-word : (words : List ℕ) (k left p : ℕ) → k < 8 → countUnder (64 * k) (contains words) + left ≡ p → left < countUnder 64 (bitOf (getD words k 0))
+    → 64 * k + nthUnder 64 (bitOf (getD words k 0)) left ≡ nth words p
+unfolding nth
+nth-word words k left p l e h =
+    let q = nthUnder 64 (bitOf (getD words k 0)) left in
+    let found = nth-found 64 (bitOf (getD words k 0)) left h in
+    let below : countUnder q (λ b. contains words (64 * k + b)) ≡ countUnder q (bitOf (getD words k 0)) =
+      count-alike q (λ b. contains words (64 * k + b)) (bitOf (getD words k 0)) (λ b m. contains-word words k b (omega (arith, found .within))) in
+    nth-unique 512 (contains words) p (64 * k + q)
+    (record {
+      passes = contains-word words k q (found .within) ∙ found .passes;
+      rank = omega (arith, count-split (64 * k) q (contains words), found .rank);
+      within = omega (arith, found .within)
+    })
+
+count-start : (f : ℕ → Bool) → countUnder 0 f ≡ 0
+unfolding countUnder
+count-start f = refl
+
+-- The size is the sum of the words' counts.
+pub size-words : (words : List ℕ) → size words ≡ wordCount words 0 + wordCount words 1 + wordCount words 2 + wordCount words 3 + wordCount words 4 + wordCount words 5 + wordCount words 6 + wordCount words 7
+unfolding size
+size-words words =
+    let more : (k n : ℕ) → countUnder (64 * k) (contains words) ≡ n → countUnder (64 * k + 64) (contains words) ≡ n + wordCount words k =
+      λ k n e. count-word words k ∙ ap (λ (x : ℕ). x + wordCount words k) e in
+    more 7 _ (more 6 _ (more 5 _ (more 4 _ (more 3 _ (more 2 _ (more 1 _ (more 0 0 (count-start (contains words)) ∙ zero-add (wordCount words 0))))))))
+
+-- ---- whether a number is in it that may not be
+
+or-over : (a b c : Bool) → a || (b || c) ≡ a || b || c
+or-over true b c = refl
+or-over false b c = refl
+
+or-swap : (a b c d : Bool) → (a || b) || (c || d) ≡ (a || c) || (b || d)
+or-swap true b c d = refl
+or-swap false true true d = refl
+or-swap false true false d = refl
+or-swap false false c d = refl
+
+or-off : (a : Bool) → a || false ≡ a
+or-off true = refl
+or-off false = refl
+
+and-on : (a : Bool) → a && true ≡ a
+and-on true = refl
+and-on false = refl
+
+any-alike : (n : ℕ) (f g : ℕ → Bool) → ((i : ℕ) → i < n → f i ≡ g i) → anyUnder n f ≡ anyUnder n g
+unfolding anyUnder
+any-alike zero f g same = refl
+any-alike (suc n) f g same = ap₂ _||_ (any-alike n f g (λ i h. same i (omega arith))) (same n (omega arith))
+
+any-split : (n m : ℕ) (f : ℕ → Bool) → anyUnder (n + m) f ≡ anyUnder n f || anyUnder m (λ i. f (n + i))
+unfolding anyUnder
+any-split n zero f = ap (λ (k : ℕ). anyUnder k f) (let e : n + 0 ≡ n = omega arith in e) ∙ sym (or-off (anyUnder n f))
+any-split n (suc m) f =
+    ap (λ (k : ℕ). anyUnder k f) (add-suc n m)
+    ∙ ap (λ (t : Bool). t || f (n + m)) (any-split n m f)
+    ∙ sym (or-over (anyUnder n f) (anyUnder m (λ i. f (n + i))) (f (n + m)))
+
+any-either : (n : ℕ) (f g : ℕ → Bool) → anyUnder n (λ i. f i || g i) ≡ anyUnder n f || anyUnder n g
+unfolding anyUnder
+any-either zero f g = refl
+any-either (suc n) f g = ap (λ (t : Bool). t || (f n || g n)) (any-either n f g) ∙ or-swap (anyUnder n f) (anyUnder n g) (f n) (g n)
+
+any-start : (f : ℕ → Bool) → anyUnder 0 f ≡ false
+unfolding anyUnder
+any-start f = refl
+
+-- Only 0 could pass.
+any-first : (n : ℕ) (f : ℕ → Bool) → anyUnder (suc n) (λ i. f i && eqb i 0) ≡ f 0
+unfolding anyUnder
+any-first zero f = and-on (f 0)
+any-first (suc n) f =
+    ap₂ _||_ (any-first n f) (and-off-right (f (suc n)) (eqb (suc n) 0) (eqb·suc-zero n)) ∙ or-off (f 0)
+
+-- One word more.
+past-word : (words : List ℕ) (last k : ℕ) (t : Bool) → anyUnder (64 * k) (λ i. contains words i && ltb last i) ≡ t
+    → anyUnder (64 * k + 64) (λ i. contains words i && ltb last i) ≡ t || wordPast words last k
+past-word words last k t e =
+    any-split (64 * k) 64 (λ i. contains words i && ltb last i)
+    ∙ ap₂ _||_ e
+    (any-alike 64 (λ b. contains words (64 * k + b) && ltb last (64 * k + b)) _
+    (λ b h. ap (λ (c : Bool). c && ltb last (64 * k + b)) (contains-word words k b h)))
+
+-- A stray number is 0, or past `last` in one of the words.
+pub strays-words : (words : List ℕ) (last : ℕ) → strays words last ≡ bitOf (getD words 0 0) 0 || (wordPast words last 0 || wordPast words last 1 || wordPast words last 2 || wordPast words last 3 || wordPast words last 4 || wordPast words last 5 || wordPast words last 6 || wordPast words last 7)
+unfolding strays
+strays-words words last =
+    let past = past-word words last in
+    let each = past 7 _ (past 6 _ (past 5 _ (past 4 _ (past 3 _ (past 2 _ (past 1 _ (past 0 false (any-start _)))))))) in
+    ap (anyUnder 512) (λ j i. and-either (contains words i) (eqb i 0) (ltb last i) j)
+    ∙ any-either 512 (λ i. contains words i && eqb i 0) (λ i. contains words i && ltb last i)
+    ∙ ap₂ _||_ (any-first 511 (contains words) ∙ contains-word words 0 0 (omega arith)) each
+  where
+    and-either : (a b c : Bool) → a && (b || c) ≡ a && b || a && c
+    and-either true b c = refl
+    and-either false b c = refl

@@ -5,17 +5,19 @@ use mathlib.Core.List.{List, [], _∷_}
 use mathlib.Core.Bool.{false}
 use native.Mathlib.Omega.{arith}
 use lib.ListN.{replicate}
+use Rattle.bitset.specs.Passing.{anyUnder, countUnder, nthUnder}
+use Rattle.bitset.specs.Words.{bitOf, withBit, contains, inserted as added, size, nth, strays}
 use Rattle.line.specs.Line.{lineOf, withLine}
 use Rattle.line.specs.Cell.{fieldIndex, fieldOf, withField}
 use Rattle.board.specs.declared.Condition.the-variants.{Away}
 use Rattle.board.specs.declared.Call.{Call}
 use Rattle.board.specs.declared.Call.the-variants.{FormatStart, Step, Update, RestartPoint, Advance, Request, Read, GoAway, ComeBack}
 use Rattle.board.specs.Board.{Board, linesOf}
-use Rattle.board.specs.State.{conditionOf, anyUnder}
+use Rattle.board.specs.State.{conditionOf}
 use Rattle.board.specs.Causes.{badRecord, causes, firstStanding, cause}
 use Rattle.board.specs.Effects.{formatStep, recoveryStep, actAt, performAct, step, advance, advanceOf, effect}
 use Rattle.board.specs.Next.{next, Performed}
-use Rattle.board.specs.Machine.{beginning, changed, countUnder, fewer, advanced, checkpointStep, stepped, feed}
+use Rattle.board.specs.Machine.{beginning, changed, fewer, advanced, checkpointStep, stepped, feed}
 use Rattle.board.specs.Sequence.{Begins, formatted, Run, opening, History, begun, undoSteps}
 use Rattle.board.specs.Bench.{blankFor, afterCalls}
 use Rattle.board.proofs.Laws.Taken.{performing}
@@ -26,7 +28,7 @@ use Rattle.board.proofs.PlayedReads.{garbage, cutAndPlayed, PlayedRecov
 fresh : Board
 fresh = afterCalls (FormatStart 2 2 ∷ Step ∷ Step ∷ Step ∷ Step ∷ []) (blankFor 2)
 
--- Worker 1 goes away. Worker 0 puts 7 into cell 2 and makes a restart point, and the checkpoint of these two cells ends in five steps without worker 1.
+-- Worker 1 goes away. Worker 0 puts 7 into cell 2 and makes a restart point, and the checkpoint of their two lines ends in five steps without worker 1.
 first : List Call
 first =
     GoAway 1 ∷ Update 0 2 7 ∷ Advance 0 ∷ Advance 0 ∷ Advance 0 ∷ Request ∷ RestartPoint 0 3 ∷ Advance 0 ∷ Advance 0 ∷ Advance 0
@@ -43,22 +45,19 @@ midway = madeAll first (opening fresh (beginning 2))
 pub run : Run
 run = madeAll second midway
 
--- What the cut leaves in cache and list.
+-- What the cut leaves in the cache.
 cutCache : List ℕ
 cutCache = replicate 24 77
-
-cutList : List ℕ
-cutList = 5 ∷ 6 ∷ 7 ∷ 8 ∷ []
 
 -- The recovery's calls, and the board after them.
 recoveryCalls : List Call
 recoveryCalls = replicate 6 Step
 
 pub recoveredBoard : Board
-recoveredBoard = cutAndPlayed run garbage cutCache cutList recoveryCalls
+recoveredBoard = cutAndPlayed run garbage cutCache recoveryCalls
 
 begins-fresh : Begins fresh (beginning 2)
-unfolding fresh afterCalls takesTest byKind next cause causes firstStanding badRecord anyUnder effect step formatStep withLine
+unfolding fresh afterCalls takesTest byKind next cause causes firstStanding badRecord anyUnder effect step formatStep withLine countUnder nthUnder bitOf withBit contains added size nth strays
 begins-fresh =
     formatted 2 2 _ (blankFor 2) _ fresh (performing (FormatStart 2 2) (blankFor 2) refl refl refl) (tested 4 (Step ∷ Step ∷ Step ∷ Step ∷ []) (next (FormatStart 2 2) (blankFor 2)) refl)
 
@@ -69,7 +68,7 @@ midway-history = calls-history first (opening fresh (beginning 2)) refl (begun b
 
 -- After the first checkpoint worker 1 is away and no cut has fallen.
 midway-seen : (midway .crashed ≡ false) × (conditionOf (midway .board .state) 1 ≡ Away)
-unfolding midway first fresh made madeAll afterCalls next cause causes firstStanding badRecord anyUnder effect step formatStep actAt performAct advance advanceOf lineOf withLine fieldIndex fieldOf withField feed changed countUnder fewer advanced checkpointStep stepped
+unfolding midway first fresh made madeAll afterCalls next cause causes firstStanding badRecord anyUnder effect step formatStep actAt performAct advance advanceOf lineOf withLine fieldIndex fieldOf withField feed changed countUnder fewer advanced checkpointStep stepped nthUnder bitOf withBit contains added size nth strays
 midway-seen = (refl, refl)
 
 pub run-history : History run
@@ -78,20 +77,20 @@ run-history = calls-history second midway (midway-seen .0) midway-history
 
 -- In the middle of the second checkpoint both workers are away, and worker 1 may not come back: cause 13.
 pub run-seen : (conditionOf (run .board .state) 0 ≡ Away) × (conditionOf (run .board .state) 1 ≡ Away) × (cause (ComeBack 1) (run .board) ≡ 13)
-unfolding run midway first second fresh made madeAll afterCalls next cause causes firstStanding badRecord anyUnder effect step formatStep actAt performAct advance advanceOf lineOf withLine fieldIndex fieldOf withField feed changed countUnder fewer advanced checkpointStep stepped
+unfolding run midway first second fresh made madeAll afterCalls next cause causes firstStanding badRecord anyUnder effect step formatStep actAt performAct advance advanceOf lineOf withLine fieldIndex fieldOf withField feed changed countUnder fewer advanced checkpointStep stepped nthUnder bitOf withBit contains added size nth strays
 run-seen = (refl, refl, refl)
 
 -- The recovery's start is taken, and then six steps.
-run-takes : PlayedRecovery run garbage cutCache cutList recoveryCalls 6
-unfolding takesTest byKind undoSteps recoveryCalls run midway first second cutCache cutList fresh made madeAll afterCalls next cause causes firstStanding badRecord anyUnder effect step formatStep recoveryStep actAt performAct advance advanceOf lineOf withLine fieldIndex fieldOf withField feed changed countUnder fewer advanced checkpointStep stepped
-run-takes = record { lengths = (refl, refl); test = refl; count = refl }
+run-takes : PlayedRecovery run garbage cutCache recoveryCalls 6
+unfolding takesTest byKind undoSteps recoveryCalls run midway first second cutCache fresh made madeAll afterCalls next cause causes firstStanding badRecord anyUnder effect step formatStep recoveryStep actAt performAct advance advanceOf lineOf withLine fieldIndex fieldOf withField feed changed countUnder fewer advanced checkpointStep stepped nthUnder bitOf withBit contains added size nth strays
+run-takes = record { sameLength = refl; test = refl; count = refl }
 
 -- What the machine held at the last completed checkpoint: 7 in cell 2.
 run-values : (linesOf (run .board .memory) ≡ 2) × (run .machine .checkpointed 2 ≡ 7)
-unfolding run midway first second fresh made madeAll afterCalls next cause causes firstStanding badRecord anyUnder effect step formatStep actAt performAct advance advanceOf lineOf withLine fieldIndex fieldOf withField feed changed countUnder fewer advanced checkpointStep stepped
+unfolding run midway first second fresh made madeAll afterCalls next cause causes firstStanding badRecord anyUnder effect step formatStep actAt performAct advance advanceOf lineOf withLine fieldIndex fieldOf withField feed changed countUnder fewer advanced checkpointStep stepped nthUnder bitOf withBit contains added size nth strays
 run-values = (refl, refl)
 
 -- "What a cut brings back is still the last checkpoint, whoever was away": a read of cell 2 returns 0 and gives 7.
 pub reads-seven : (number value : ℕ) (b : Board) → Performed (Read 2) recoveredBoard number value b → (number ≡ 0) × (value ≡ 7)
 unfolding recoveredBoard
-reads-seven = played-reads run run-history garbage cutCache cutList recoveryCalls 6 run-takes 2 7 (omega (arith, run-values .0)) (run-values .1)
+reads-seven = played-reads run run-history garbage cutCache recoveryCalls 6 run-takes 2 7 (omega (arith, run-values .0)) (run-values .1)

@@ -4,17 +4,18 @@ use mathlib.Core.Path.{_≡_, refl}
 use mathlib.Core.List.{List, [], _∷_}
 use native.Mathlib.Omega.{arith}
 use lib.ListN.{replicate}
+use Rattle.bitset.specs.Passing.{anyUnder, countUnder, nthUnder}
+use Rattle.bitset.specs.Words.{bitOf, withBit, contains, inserted as added, size, nth, strays}
 use Rattle.line.specs.Line.{lineOf, withLine}
 use Rattle.line.specs.Cell.{fieldIndex, fieldOf, withField}
 use Rattle.board.specs.declared.Call.{Call}
 use Rattle.board.specs.declared.Call.the-variants.{FormatStart, Step, Update, RestartPoint, Advance, Request, WriteBack, Read}
 use Rattle.board.specs.Board.{Board, linesOf}
-use Rattle.board.specs.State.{anyUnder}
 use Rattle.board.specs.Causes.{badRecord, causes, firstStanding, cause}
 use Rattle.board.specs.Effects.{formatStep, recoveryStep, actAt, performAct, step, advance, advanceOf, effect}
 use Rattle.board.specs.Next.{next, Performed}
 use Rattle.board.specs.Page.{pageCauses, pageCause, pageLeft}
-use Rattle.board.specs.Machine.{beginning, changed, countUnder, fewer, advanced, checkpointStep, stepped, writeBackSeen, feed}
+use Rattle.board.specs.Machine.{beginning, changed, fewer, advanced, checkpointStep, stepped, writeBackSeen, feed}
 use Rattle.board.specs.Sequence.{Begins, formatted, Run, opening, pages, History, begun, further, undoSteps}
 use Rattle.board.specs.Bench.{blankFor, afterCalls}
 use Rattle.board.proofs.Laws.Taken.{performing}
@@ -31,20 +32,17 @@ fresh = afterCalls (FormatStart 1 1 ∷ Step ∷ Step ∷ Step ∷ []) (blankFor
 calls : List Call
 calls =
     Update 0 1 7 ∷ Advance 0 ∷ Advance 0 ∷ Advance 0 ∷ Request ∷ RestartPoint 0 3 ∷ Advance 0 ∷ Advance 0 ∷ Advance 0
-    ∷ Step ∷ Step ∷ Step ∷ Step ∷ Step
+    ∷ Step ∷ Step ∷ Step ∷ Step
     ∷ Update 0 1 9 ∷ Advance 0 ∷ Advance 0 ∷ WriteBack 1 ∷ Advance 0 ∷ Request ∷ RestartPoint 0 4 ∷ Advance 0 ∷ Advance 0 ∷ Advance 0
-    ∷ Step ∷ Step ∷ Step ∷ []
+    ∷ Step ∷ Step ∷ []
 
 -- The run that the history leads to.
 pub run : Run
 run = madeAll calls (opening fresh (beginning 1))
 
--- What the cut leaves beside a state record of no sense: words of no meaning in cache and list.
+-- What the cut leaves beside a state record of no sense: words of no meaning in the cache.
 cutCache : List ℕ
 cutCache = replicate 16 77
-
-cutList : List ℕ
-cutList = 5 ∷ 6 ∷ []
 
 -- The recovery's calls: line 1 is written back in the middle of the first cell's undo, and a read is refused.
 recoveryCalls : List Call
@@ -52,12 +50,12 @@ recoveryCalls = Step ∷ WriteBack 1 ∷ Step ∷ Read 1 ∷ Step ∷ Step ∷ S
 
 -- The board after it.
 pub recoveredBoard : Board
-recoveredBoard = cutAndPlayed run garbage cutCache cutList recoveryCalls
+recoveredBoard = cutAndPlayed run garbage cutCache recoveryCalls
 
 -- ---- the history is one, and the recovery is finished
 
 begins-fresh : Begins fresh (beginning 1)
-unfolding fresh afterCalls takesTest byKind next cause causes firstStanding badRecord anyUnder effect step formatStep withLine
+unfolding fresh afterCalls takesTest byKind next cause causes firstStanding badRecord anyUnder effect step formatStep withLine countUnder nthUnder bitOf withBit contains added size nth strays
 begins-fresh =
     formatted 1 1 _ (blankFor 1) _ fresh (performing (FormatStart 1 1) (blankFor 1) refl refl refl) (tested 3 (Step ∷ Step ∷ Step ∷ []) (next (FormatStart 1 1) (blankFor 1)) refl)
 
@@ -72,20 +70,20 @@ paged-history text = further run-history (pages text (pageLeft (run .board) text
 
 -- With 204 bytes the page is taken, with one fewer it is refused.
 pub paged : (pageCause (run .board) (replicate 204 170) ≡ 0) × (pageCause (run .board) (replicate 203 170) ≡ 12)
-unfolding run calls fresh made madeAll afterCalls next cause causes firstStanding badRecord anyUnder effect step formatStep recoveryStep actAt performAct advance advanceOf lineOf withLine fieldIndex fieldOf withField feed changed countUnder fewer advanced checkpointStep stepped writeBackSeen pageCause pageCauses
+unfolding run calls fresh made madeAll afterCalls next cause causes firstStanding badRecord anyUnder effect step formatStep recoveryStep actAt performAct advance advanceOf lineOf withLine fieldIndex fieldOf withField feed changed countUnder fewer advanced checkpointStep stepped writeBackSeen pageCause pageCauses nthUnder bitOf withBit contains added size nth strays
 paged = (refl, refl)
 
 -- The recovery's start is taken, and then six steps, with two taken write-backs and a refused read among them.
-run-takes : PlayedRecovery run garbage cutCache cutList recoveryCalls 6
-unfolding takesTest byKind undoSteps recoveryCalls run calls cutCache cutList fresh made madeAll afterCalls next cause causes firstStanding badRecord anyUnder effect step formatStep recoveryStep actAt performAct advance advanceOf lineOf withLine fieldIndex fieldOf withField feed changed countUnder fewer advanced checkpointStep stepped writeBackSeen
-run-takes = record { lengths = (refl, refl); test = refl; count = refl }
+run-takes : PlayedRecovery run garbage cutCache recoveryCalls 6
+unfolding takesTest byKind undoSteps recoveryCalls run calls cutCache fresh made madeAll afterCalls next cause causes firstStanding badRecord anyUnder effect step formatStep recoveryStep actAt performAct advance advanceOf lineOf withLine fieldIndex fieldOf withField feed changed countUnder fewer advanced checkpointStep stepped writeBackSeen nthUnder bitOf withBit contains added size nth strays
+run-takes = record { sameLength = refl; test = refl; count = refl }
 
 -- What the machine held at the last completed checkpoint: 7 in cell 1, on a board of one line.
 run-values : (linesOf (run .board .memory) ≡ 1) × (run .machine .checkpointed 1 ≡ 7)
-unfolding run calls fresh made madeAll afterCalls next cause causes firstStanding badRecord anyUnder effect step formatStep actAt performAct advance advanceOf lineOf withLine fieldIndex fieldOf withField feed changed countUnder fewer advanced checkpointStep stepped writeBackSeen
+unfolding run calls fresh made madeAll afterCalls next cause causes firstStanding badRecord anyUnder effect step formatStep actAt performAct advance advanceOf lineOf withLine fieldIndex fieldOf withField feed changed countUnder fewer advanced checkpointStep stepped writeBackSeen nthUnder bitOf withBit contains added size nth strays
 run-values = (refl, refl)
 
 -- A read of cell 1 then returns 0 and gives 7.
 pub reads-seven : (number value : ℕ) (b : Board) → Performed (Read 1) recoveredBoard number value b → (number ≡ 0) × (value ≡ 7)
 unfolding recoveredBoard
-reads-seven = played-reads run run-history garbage cutCache cutList recoveryCalls 6 run-takes 1 7 (omega (arith, run-values .0)) (run-values .1)
+reads-seven = played-reads run run-history garbage cutCache recoveryCalls 6 run-takes 1 7 (omega (arith, run-values .0)) (run-values .1)

@@ -4,16 +4,17 @@ use mathlib.Core.Path.{_≡_, refl}
 use mathlib.Core.List.{List, [], _∷_}
 use native.Mathlib.Omega.{arith}
 use lib.ListN.{getD, replicate}
+use Rattle.bitset.specs.Passing.{anyUnder, countUnder, nthUnder}
+use Rattle.bitset.specs.Words.{bitOf, withBit, contains, inserted as added, size, nth, strays}
 use Rattle.line.specs.Line.{lineOf, withLine}
 use Rattle.line.specs.Cell.{fieldIndex, fieldOf, withField}
 use Rattle.board.specs.declared.Call.{Call}
 use Rattle.board.specs.declared.Call.the-variants.{RecoveryStart, Step, Update, RestartPoint, Advance, Request, WriteBack, Read}
 use Rattle.board.specs.Board.{Board, linesOf}
-use Rattle.board.specs.State.{anyUnder}
 use Rattle.board.specs.Causes.{badRecord, causes, firstStanding, cause}
 use Rattle.board.specs.Effects.{undo, recoveryStep, actAt, performAct, step, advance, advanceOf, effect}
 use Rattle.board.specs.Next.{next, Performed}
-use Rattle.board.specs.Machine.{Machine, recoveryBeginning, changed, countUnder, fewer, advanced, checkpointStep, stepped, writeBackSeen, feed}
+use Rattle.board.specs.Machine.{Machine, recoveryBeginning, changed, fewer, advanced, checkpointStep, stepped, writeBackSeen, feed}
 use Rattle.board.specs.Sequence.{Begins, recoveryStarted, Run, opening, History, begun, undoSteps}
 use Rattle.board.proofs.Laws.Taken.{performing}
 use Rattle.board.proofs.Laws.Playing.{made, madeAll, calls-history, byKind, takesTest}
@@ -21,16 +22,13 @@ use Rattle.board.proofs.PlayedReads.{garbage, cutAndPlayed, PlayedRecov
 
 -- ---- the module
 
--- What the start finds beside the memory, and what each cut leaves, with a state record of no sense: words of no meaning in cache and list.
+-- What the start finds beside the memory, and what each cut leaves, with a state record of no sense: words of no meaning in the cache.
 anyCache : List ℕ
 anyCache = replicate 16 99
 
-anyList : List ℕ
-anyList = 5 ∷ 6 ∷ []
-
 -- Another kiosk's memory in epoch 41: cell 0 with record 5, cell 1 in the middle of an update with record 8, backup 6 and a mark of that epoch; words 6 and 7 of line 1 are 77 and 88.
 foreign : Board
-foreign = record { state = garbage; memory = 41 ∷ 1 ∷ 1 ∷ 0 ∷ 0 ∷ 0 ∷ 0 ∷ 0 ∷ 5 ∷ 4 ∷ 40 ∷ 8 ∷ 6 ∷ 41 ∷ 77 ∷ 88 ∷ []; cache = anyCache; entries = anyList }
+foreign = record { state = garbage; memory = 41 ∷ 1 ∷ 1 ∷ 0 ∷ 0 ∷ 0 ∷ 0 ∷ 0 ∷ 5 ∷ 4 ∷ 40 ∷ 8 ∷ 6 ∷ 41 ∷ 77 ∷ 88 ∷ []; cache = anyCache }
 
 -- Recovery's start takes it.
 start : Board
@@ -40,7 +38,7 @@ machine : Machine
 machine = recoveryBeginning (linesOf (foreign .memory)) (undo (foreign .memory))
 
 begins : Begins start machine
-unfolding foreign start machine anyCache anyList cause causes firstStanding anyUnder fieldIndex fieldOf
+unfolding foreign start machine anyCache cause causes firstStanding anyUnder fieldIndex fieldOf countUnder nthUnder bitOf withBit contains added size nth strays
 begins = recoveryStarted _ foreign start (performing RecoveryStart foreign refl refl refl)
 
 -- ---- a cut in the first recovery
@@ -51,24 +49,24 @@ cutShort = madeAll (Step ∷ Step ∷ WriteBack 1 ∷ []) (opening start machine
 
 -- The board after the cut and a second recovery.
 pub again : Board
-again = cutAndPlayed cutShort garbage anyCache anyList (replicate 4 Step)
+again = cutAndPlayed cutShort garbage anyCache (replicate 4 Step)
 
 cut-history : History cutShort
 unfolding cutShort
 cut-history = calls-history (Step ∷ Step ∷ WriteBack 1 ∷ []) (opening start machine) refl (begun begins)
 
-cut-takes : PlayedRecovery cutShort garbage anyCache anyList (replicate 4 Step) 4
-unfolding cutShort start machine foreign anyCache anyList made madeAll takesTest byKind undoSteps next cause causes firstStanding badRecord anyUnder effect step recoveryStep lineOf withLine fieldIndex fieldOf withField feed stepped writeBackSeen
-cut-takes = record { lengths = (refl, refl); test = refl; count = refl }
+cut-takes : PlayedRecovery cutShort garbage anyCache (replicate 4 Step) 4
+unfolding cutShort start machine foreign anyCache made madeAll takesTest byKind undoSteps next cause causes firstStanding badRecord anyUnder effect step recoveryStep lineOf withLine fieldIndex fieldOf withField feed stepped writeBackSeen countUnder nthUnder bitOf withBit contains added size nth strays
+cut-takes = record { sameLength = refl; test = refl; count = refl }
 
 cut-values : (linesOf (cutShort .board .memory) ≡ 1) × (cutShort .machine .checkpointed 1 ≡ 6)
-unfolding cutShort start machine foreign anyCache anyList made madeAll next cause causes firstStanding badRecord anyUnder effect step recoveryStep lineOf withLine fieldIndex fieldOf withField feed stepped writeBackSeen
+unfolding cutShort start machine foreign anyCache made madeAll next cause causes firstStanding badRecord anyUnder effect step recoveryStep lineOf withLine fieldIndex fieldOf withField feed stepped writeBackSeen countUnder nthUnder bitOf withBit contains added size nth strays
 cut-values = (refl, refl)
 
 -- A read of cell 1 then returns 0 and gives 6, what undoing the module gives.
 pub reads-undo : (number value : ℕ) (b : Board) → Performed (Read 1) again number value b → (number ≡ 0) × (value ≡ 6)
 unfolding again
-reads-undo = played-reads cutShort cut-history garbage anyCache anyList (replicate 4 Step) 4 cut-takes 1 6 (omega (arith, cut-values .0)) (cut-values .1)
+reads-undo = played-reads cutShort cut-history garbage anyCache (replicate 4 Step) 4 cut-takes 1 6 (omega (arith, cut-values .0)) (cut-values .1)
 
 -- ---- worked on
 
@@ -76,29 +74,29 @@ reads-undo = played-reads cutShort cut-history garbage anyCache anyList (replica
 calls : List Call
 calls =
     Step ∷ Step ∷ Step ∷ Step ∷ Update 0 1 9 ∷ Advance 0 ∷ Advance 0 ∷ Advance 0 ∷ Request ∷ RestartPoint 0 3 ∷ Advance 0 ∷ Advance 0 ∷ Advance 0
-    ∷ Step ∷ Step ∷ Step ∷ Step ∷ Step ∷ Update 0 1 12 ∷ Advance 0 ∷ Advance 0 ∷ Advance 0 ∷ WriteBack 1 ∷ []
+    ∷ Step ∷ Step ∷ Step ∷ Step ∷ Update 0 1 12 ∷ Advance 0 ∷ Advance 0 ∷ Advance 0 ∷ WriteBack 1 ∷ []
 
 pub worked : Run
 worked = madeAll calls (opening start machine)
 
 -- The board after the cut and its recovery.
 pub recovered : Board
-recovered = cutAndPlayed worked garbage anyCache anyList (replicate 4 Step)
+recovered = cutAndPlayed worked garbage anyCache (replicate 4 Step)
 
 worked-history : History worked
 unfolding worked
 worked-history = calls-history calls (opening start machine) refl (begun begins)
 
-worked-takes : PlayedRecovery worked garbage anyCache anyList (replicate 4 Step) 4
-unfolding worked calls start machine foreign anyCache anyList made madeAll takesTest byKind undoSteps next cause causes firstStanding badRecord anyUnder effect step recoveryStep actAt performAct advance advanceOf lineOf withLine fieldIndex fieldOf withField feed changed countUnder fewer advanced checkpointStep stepped writeBackSeen
-worked-takes = record { lengths = (refl, refl); test = refl; count = refl }
+worked-takes : PlayedRecovery worked garbage anyCache (replicate 4 Step) 4
+unfolding worked calls start machine foreign anyCache made madeAll takesTest byKind undoSteps next cause causes firstStanding badRecord anyUnder effect step recoveryStep actAt performAct advance advanceOf lineOf withLine fieldIndex fieldOf withField feed changed countUnder fewer advanced checkpointStep stepped writeBackSeen nthUnder bitOf withBit contains added size nth strays
+worked-takes = record { sameLength = refl; test = refl; count = refl }
 
 -- At the cut 9 is checkpointed in cell 1, and words 6 and 7 of the module are still 77 and 88.
 pub worked-values : (linesOf (worked .board .memory) ≡ 1) × (worked .machine .checkpointed 1 ≡ 9) × (getD (worked .board .memory) 14 0 ≡ 77) × (getD (worked .board .memory) 15 0 ≡ 88)
-unfolding worked calls start machine foreign anyCache anyList made madeAll next cause causes firstStanding badRecord anyUnder effect step recoveryStep actAt performAct advance advanceOf lineOf withLine fieldIndex fieldOf withField feed changed countUnder fewer advanced checkpointStep stepped writeBackSeen
+unfolding worked calls start machine foreign anyCache made madeAll next cause causes firstStanding badRecord anyUnder effect step recoveryStep actAt performAct advance advanceOf lineOf withLine fieldIndex fieldOf withField feed changed countUnder fewer advanced checkpointStep stepped writeBackSeen nthUnder bitOf withBit contains added size nth strays
 worked-values = (refl, refl, refl, refl)
 
 -- A read of cell 1 then returns 0 and gives 9, the value of the last checkpoint.
 pub reads-nine : (number value : ℕ) (b : Board) → Performed (Read 1) recovered number value b → (number ≡ 0) × (value ≡ 9)
 unfolding recovered
-reads-nine = played-reads worked worked-history garbage anyCache anyList (replicate 4 Step) 4 worked-takes 1 9 (omega (arith, worked-values .0)) (worked-values .1)
+reads-nine = played-reads worked worked-history garbage anyCache (replicate 4 Step) 4 worked-takes 1 9 (omega (arith, worked-values .0)) (worked-values .1)

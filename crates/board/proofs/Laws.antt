@@ -1,6 +1,7 @@
 -- Laws that every proof here leans on.
 pub mod Bools
 pub mod Count
+pub mod Dirty
 pub mod View
 pub mod Rows
 pub mod Taken

@@ -12,6 +12,7 @@ pub mod Stores
 pub mod Spare
 pub mod Updates
 pub mod Steps
+pub mod Foretold
 pub mod Theorems
 pub mod PlayedReads
 pub mod Example

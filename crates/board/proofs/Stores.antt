@@ -2,6 +2,7 @@
 use Prim.Native.Nat.{ℕ, _+_}
 use mathlib.Core.Path.{_≡_, refl, sym, subst}
 use mathlib.Core.Bool.{false, true≢false}
+use Rattle.bitset.specs.Words.{nth}
 use Rattle.line.specs.declared.Field.{Field}
 use Rattle.line.specs.Cell.{cellLine, fieldIndex, fieldOf, withField}
 use Rattle.board.specs.declared.State.{State}
@@ -14,11 +15,11 @@ use Rattle.board.specs.declared.UndoStep.the-variants.{Restore, Unmark, 
 use Rattle.board.specs.declared.Phase.{Phase}
 use Rattle.board.specs.declared.Phase.the-variants.{Off, Formatting, Recovering, Running}
 use Rattle.board.specs.declared.Call.{Call}
-use Rattle.board.specs.declared.Call.the-variants.{FormatStart, RecoveryStart, Step, Update, RestartPoint, Advance, Request, WriteBack, Read, GoAway, ComeBack}
+use Rattle.board.specs.declared.Call.the-variants.{FormatStart, RecoveryStart, Step, Update, RestartPoint, Advance, Request, WriteBack, Read, GoAway, ComeBack, Count}
 use Rattle.board.specs.Board.{Board, epochOf}
 use Rattle.board.specs.State.{placed, conditionOf, isFormatting, dirtyCount}
 use Rattle.board.specs.Next.{kind}
-use Rattle.board.specs.Effects.{Act, writeLine, storeEpoch, writeHeader, release, cached, stated, logged, restored, pastCell, recoveryStep, actAt, listedLine, performAct, step, advance, advanceOf, effect}
+use Rattle.board.specs.Effects.{Act, writeLine, storeEpoch, writeHeader, release, cached, stated, logged, restored, pastCell, recoveryStep, actAt, performAct, step, advance, advanceOf, effect}
 use Rattle.board.specs.Statements.{OneStore, noStore, oneWord, oneLine, several, SingleStores}
 use Rattle.board.proofs.Laws.Bools.{on}
 use Rattle.board.proofs.Laws.Taken.{taken-next}
@@ -41,7 +42,7 @@ recovery-stores WriteLine s b = oneLine (cellLine (s .place)) refl refl
 -- A step of a checkpoint.
 checkpoint-stores : (a : Act) (s : State) (b : Board) → OneStore b (performAct a s b)
 unfolding performAct
-checkpoint-stores writeLine s b = oneLine (listedLine (s .place) (b .entries)) refl refl
+checkpoint-stores writeLine s b = oneLine (nth (s .dirty) (s .place)) refl refl
 checkpoint-stores storeEpoch s b = oneWord 0 (epochOf (b .cache) + 1) refl refl
 checkpoint-stores writeHeader s b = oneLine 0 refl refl
 checkpoint-stores release s b = noStore refl refl
@@ -83,6 +84,7 @@ effect-stores (WriteBack l) b e = oneLine l refl refl
 effect-stores (Read c) b e = noStore refl refl
 effect-stores (GoAway w) b e = noStore refl refl
 effect-stores (ComeBack w) b e = noStore refl refl
+effect-stores Count b e = noStore refl refl
 
 -- A taken call stores one word of the cache, writes one line back, or does neither.
 pub single-stores : SingleStores

@@ -71,8 +71,8 @@ pub recovery : Recovery
 recovery r h b e = done-reads (r .machine) b (recovers r (history-inv r h) b e)
 
 -- One more cut is one more thing that happens.
-cut-history : {r : Run} {b : Board} → History r → (e : CutAndRecovered r b) → History (cutRun (e .state) (e .cache) (e .entries) r)
-cut-history h e = further h (cuts (e .state) (e .cache) (e .entries) (e .lengths))
+cut-history : {r : Run} {b : Board} → History r → (e : CutAndRecovered r b) → History (cutRun (e .state) (e .cache) r)
+cut-history h e = further h (cuts (e .state) (e .cache) (e .sameLength))
 
 -- Two boards read alike exactly when the checkpointed values are equal.
 alike : (m n : Machine) (b d : Board) → b .state .lines ≡ d .state .lines → ReadsCheckpointed m b → ReadsCheckpointed n d → ReadAlike m b n d

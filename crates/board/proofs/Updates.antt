@@ -5,7 +5,7 @@ use mathlib.Core.Bool.{Bool, true, false, cond, _&&_, _||_}
 use native.Mathlib.Omega.{arith}
 use lib.Dec.{ltb, eqb}
 use lib.ListN.{length}
-use borrow.Author.Tests.{lt-leb, ne-eqb}
+use borrow.Author.Tests.{lt-leb}
 use Rattle.board.specs.declared.State.{State}
 use Rattle.board.specs.declared.Condition.{Condition}
 use Rattle.board.specs.declared.Condition.the-variants.{Free, Waiting, Updating}
@@ -15,18 +15,17 @@ use Rattle.board.specs.declared.Phase.the-variants.{Running}
 use Rattle.board.specs.declared.Call.{Call}
 use Rattle.board.specs.declared.Call.the-variants.{Update, RestartPoint, Advance, Read}
 use Rattle.board.specs.Board.{Board, cells}
-use Rattle.board.specs.State.{conditionOf, isFree, isWaiting, isUpdating, mustList, isRunning, dirtyCount}
-use Rattle.board.specs.Causes.{causes, badRecord, badRows, listFull}
+use Rattle.board.specs.State.{conditionOf, isFree, isWaiting, isUpdating, isRunning}
+use Rattle.board.specs.Causes.{causes, badRecord, badRows}
 use Rattle.board.specs.Effects.{logged, firstStore, noted, afterLast, advance, advanceOf, effect}
 use Rattle.board.specs.Next.{Taken, next, valueOf, Performed}
-use Rattle.board.specs.Machine.{Machine, Unfinished, update, changed, fewer, advanced, feed}
+use Rattle.board.specs.Machine.{Machine, Unfinished, update, fewer, advanced, feed}
 use Rattle.board.specs.Sequence.{Run}
 use Rattle.board.specs.Statements.{Starts, updates, restarts, Advances, over, advances}
 use Rattle.board.proofs.Laws.Bools.{on, decide, or-none, and-off, not-on}
 use Rattle.board.proofs.Laws.Taken.{standsAt, passed, Clear, take, taken-next, performed-taken, performing, rows-fine, workers-in, afterTaken}
-use Rattle.board.proofs.Laws.Count.{changed-at, count-most, count-more}
+use Rattle.board.proofs.Laws.Count.{changed-at}
 use Rattle.board.proofs.Laws.Reading.{running-record, read-taken, read-current}
-use Rattle.board.proofs.Laws.View.{view-mark}
 use Rattle.board.proofs.Invariant.{Inv, WorkerInv}
 use Rattle.board.proofs.Laws.Workers.{condition-at}
 use Rattle.board.proofs.Keeps.OneCell.{Ready, ready}
@@ -54,16 +53,6 @@ module _ {r : Run} {w c v : ℕ} {next : Store} (u : Before r w c v next) where
   own : WorkerInv (r .machine .lines) (r .board .cache) (Updating next c v) (r .machine .unfinished w)
   own = subst (λ (k : Condition). WorkerInv (r .machine .lines) (r .board .cache) k (r .machine .unfinished w)) (u .here) (now .run .worker w (u .under))
 
-  -- There is room in the list for a cell that must be added.
-  room : (s : Store) → WorkerInv (r .machine .lines) (r .board .cache) (Updating s c v) (r .machine .unfinished w) → mustList (Updating s c v) && eqb (dirtyCount (r .board .state)) (cells (r .board .state .lines)) ≡ false
-  room Backup i = refl
-  room Mark i =
-      let m = r .machine in
-      let n = cells (m .lines) in
-      let off : m .marked c ≡ false = marked-logged r now c (i .1) ∙ ne-eqb _ _ (λ e. i .2 .0 (sym (view-mark (r .board .cache) c) ∙ e)) in
-      ne-eqb (dirtyCount (r .board .state)) (cells (r .board .state .lines)) (λ e. omega (arith, e, now .run .lines, now .run .count, count-more n c (m .marked) (i .1) off, count-most n (changed (m .marked) c true)))
-  room Record i = refl
-
   -- The advance is taken.
   advance-taken : Taken (Advance w) (r .board)
   unfolding Clear causes
@@ -73,20 +62,14 @@ module _ {r : Run} {w c v : ℕ} {next : Store} (u : Before r w c v next) where
       take (Advance w) (r .board) (
         not-on (isRunning (s .phase)) (ap isRunning (u .phase)),
         (
-          or-none (badRecord s) (listFull s w)
-              (running-record l (r .board) (r .machine) (u .inv .sizes .limits) (u .phase) (now .run) refl)
-              (three-off (ltb w (s .workers)) (mustList (conditionOf s w)) (eqb (dirtyCount s) (cells (s .lines)))
-              (subst (λ (k : Condition). mustList k && eqb (dirtyCount s) (cells (s .lines)) ≡ false) (sym (u .here)) (room next own))),
+          running-record l (r .board) (r .machine) (u .inv .sizes .limits) (u .phase) (now .run),
           (
             subst (λ (k : ℕ). badRows k (r .board) ≡ false) (sym (now .run .lines)) (rows-fine l (r .board) (u .inv .sizes)),
             (lt-leb (s .workers) w (u .under), (not-on (isUpdating (conditionOf s w)) (ap isUpdating (u .here)), tt)),
           ),
         ),
       )
-    where
-      three-off : (x y z : Bool) → y && z ≡ false → x && y && z ≡ false
-      three-off true y z e = e
-      three-off false y z e = refl
+
 
   -- What it leaves of the board.
   advanced-board : effect (Advance w) (r .board) ≡ advance next w c v (r .board .state) (r .board)

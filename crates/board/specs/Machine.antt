@@ -4,7 +4,7 @@ use mathlib.Core.Bool.{Bool, true, false, cond, not, _&&_, _||_}
 use lib.Dec.{leb, eqb}
 use Rattle.board.specs.declared.Call.{Call}
 use Rattle.board.specs.declared.Call.the-variants.{FormatStart, RecoveryStart, Step, Update, RestartPoint, Advance, Request, WriteBack, Read, GoAway, ComeBack, Count}
-pub use Rattle.bitset.specs.Passing.{countUnder}
+unfoldable pub use Rattle.bitset.specs.Passing.{countUnder}
 
 -- "for each worker an unfinished update (cell, value, stores left)".
 pub data Unfinished : Type 0 where

@@ -4,7 +4,7 @@ use mathlib.Core.List.{List, [], _∷_}
 use mathlib.Core.Bool.{Bool, true, false, not, _&&_}
 use lib.Dec.{ltb, eqb}
 use lib.ListN.{getD, set, replicate}
-pub use Rattle.bitset.specs.Passing.{anyUnder}
+unfoldable pub use Rattle.bitset.specs.Passing.{anyUnder}
 use Rattle.bitset.specs.Words.{empty, inserted, size}
 use Rattle.board.specs.declared.State.{State}
 use Rattle.board.specs.declared.Worker.{Worker}

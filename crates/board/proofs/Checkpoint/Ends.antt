@@ -1,4 +1,4 @@
--- A requested checkpoint with all workers waiting or away and n entries ends in n+3 steps, each of them taken; those that were away stay away.
+-- A requested checkpoint with all workers waiting or away and n dirty lines ends in n+3 steps, each of them taken; those that were away stay away.
 use Prim.Native.Nat.{ℕ, zero, suc, _+_, _≤_, _<_}
 use mathlib.Core.Path.{_≡_, refl, sym, ap, subst, _∙_}
 use mathlib.Core.Logic.{_⊎_, inl, inr}
@@ -7,8 +7,9 @@ use mathlib.Core.Bool.{Bool, true, false, not, _&&_, _||_, false≢true}
 use native.Mathlib.Omega.{arith}
 use native.Mathlib.Decide.{decLt}
 use lib.Dec.{leb, ltb, eqb}
-use lib.ListN.{getD, set}
-use borrow.Author.Tests.{ltb-true, eqb-true, le-ltb, lt-leb, ne-eqb}
+use lib.ListN.{set}
+use Rattle.bitset.specs.Words.{nth, strays}
+use borrow.Author.Tests.{eqb-true, le-ltb, ne-eqb}
 use Rattle.board.specs.declared.State.{State}
 use Rattle.board.specs.declared.Worker.{Worker}
 use Rattle.board.specs.declared.Condition.{Condition}
@@ -18,18 +19,18 @@ use Rattle.board.specs.declared.Phase.the-variants.{Running}
 use Rattle.board.specs.declared.Call.the-variants.{Step}
 use Rattle.board.specs.Board.{Board, cells, workersOutside, epochOf, lastEpoch}
 use Rattle.board.specs.State.{conditionOf, isOff, isRunning, quiescent, updates, anyWorker, placed, released, dirtyCount}
-use Rattle.board.specs.Causes.{causes, placePast, badRows, checkpointing, badEntry, epochSpent}
-use Rattle.board.specs.Effects.{writtenBack, stated, Act, release, actAt, listedLine, performAct}
+use Rattle.board.specs.Causes.{causes, placePast, badRows, checkpointing, epochSpent}
+use Rattle.board.specs.Effects.{writtenBack, stated, Act, release, actAt, performAct}
 use Rattle.board.specs.Next.{next, Taken}
 use Rattle.board.specs.Machine.{Machine}
 use Rattle.board.specs.Sequence.{Run}
 use Rattle.board.specs.Statements.{AllWaitOrAway, KeepsAway, stepsFrom, AllTaken, EndsIn}
 use Rattle.board.proofs.Laws.Bools.{or-none, and-right, and-off-right, and-if, not-on}
-use Rattle.board.proofs.Laws.View.{Sized, cell-line, sized-back}
+use Rattle.board.proofs.Laws.View.{Sized, sized-back}
 use Rattle.board.proofs.Invariant.{AllQuiescent, Sizes, Stage, early, gap, late, Inv}
 use Rattle.board.proofs.Laws.Rows.{sized-set}
 use Rattle.board.proofs.Laws.Taken.{Clear, take, taken-next, rows-fine, record-fine, none-worker}
-use Rattle.board.proofs.Laws.Count.{count-most}
+use Rattle.board.proofs.Laws.Dirty.{nth-line, dirty-fine}
 use Rattle.board.proofs.Laws.Workers.{released-away}
 use Rattle.board.proofs.Laws.Idle.{ends-more}
 use Rattle.board.proofs.Laws.Reading.{place-in}
@@ -43,9 +44,8 @@ record Ready (l : ℕ) (b : Board) : Type 0 where
   sizes : Sizes l b
   lines : b .state .lines ≡ l
   workers : workersOutside l (b .state .workers) ≡ false
-  listed : dirtyCount (b .state) ≤ cells l
+  dirty : strays (b .state .dirty) l ≡ false
   place : b .state .place ≤ dirtyCount (b .state) + 2
-  entries : (i : ℕ) → i < dirtyCount (b .state) → getD (b .entries) i 0 < cells l
   epoch : b .state .place ≤ dirtyCount (b .state) → epochOf (b .cache) ≡ lastEpoch → ⊥
   waiting : AllQuiescent (b .state)
 
@@ -64,18 +64,14 @@ unfolding Clear causes
 ready-taken {l} b y =
     let s = b .state in
     let n = dirtyCount s in
-    let c = getD (b .entries) (s .place) 0 in
     take Step b (
       subst (λ (p : Phase). isOff p ≡ false) (sym (y .phase)) refl,
       (
-        record-fine l s (y .lines) (y .sizes .limits) (y .workers) (y .listed)
+        record-fine l s (y .lines) (y .sizes .limits) (y .workers) (y .dirty)
             (subst (λ (p : Phase). placePast p s ≡ false) (sym (y .phase)) (and-off-right (s .requested) (ltb (n + 2) (s .place)) (le-ltb (n + 2) (s .place) (y .place))))
             (λ w h. quiescent-updates (leb (cells l)) (conditionOf s w) (y .waiting w h)),
         (
-          or-none (badRows (s .lines) b) (badEntry b)
-              (subst (λ (k : ℕ). badRows k b ≡ false) (sym (y .lines)) (rows-fine l b (y .sizes)))
-              (and-if (checkpointing s && ltb (s .place) n) (leb (cells (s .lines)) c)
-              (λ t. lt-leb (cells (s .lines)) c (omega (arith, y .lines, y .entries (s .place) (ltb-true (s .place) n (and-right (checkpointing s) (ltb (s .place) n) t)))))),
+          subst (λ (k : ℕ). badRows k b ≡ false) (sym (y .lines)) (rows-fine l b (y .sizes)),
           (
             and-off-right (isRunning (s .phase)) (not (s .requested) || anyWorker s (λ d. not (quiescent d)))
                 (or-none (not (s .requested)) (anyWorker s (λ d. not (quiescent d))) (not-on (s .requested) (y .request))
@@ -96,7 +92,7 @@ ready-taken {l} b y =
 record Follows (l : ℕ) (b b′ : Board) : Type 0 where
   ready : Ready l b′
   place : b′ .state .place ≡ b .state .place + 1
-  listed : dirtyCount (b′ .state) ≡ dirtyCount (b .state)
+  count : dirtyCount (b′ .state) ≡ dirtyCount (b .state)
   worker : b′ .state .worker ≡ b .state .worker
 
 -- A step that stores in one of the rows and goes on.
@@ -110,13 +106,13 @@ goes-on b y h memory cache zm zc room =
             sizes = record { limits = y .sizes .limits; memory = zm; cache = zc };
             lines = y .lines;
             workers = y .workers;
-            listed = y .listed;
+            dirty = y .dirty;
             place = omega arith;
             epoch = room;
             waiting = y .waiting;
           };
       place = refl;
-      listed = refl;
+      count = refl;
       worker = refl;
     }
 
@@ -125,7 +121,7 @@ ready-acts : {l : ℕ} (b : Board) → Ready l b → b .state .place < dirtyCoun
 unfolding performAct
 ready-acts {l} b y h =
     act-cases (λ (a : Act). Follows l b (performAct a (b .state) b)) n place
-    (λ p. goes-on b y h (writtenBack (listedLine place (b .entries)) b) (b .cache) (sized-back (b .memory) (b .cache) (z .memory) (z .cache) (listedLine place (b .entries)) (cell-line l (getD (b .entries) place 0) (y .entries place p))) (z .cache) (λ q. y .epoch (omega arith)))
+    (λ p. goes-on b y h (writtenBack line b) (b .cache) (sized-back (b .memory) (b .cache) (z .memory) (z .cache) line (nth-line (b .state .dirty) l (y .dirty) place p .2)) (z .cache) (λ q. y .epoch (omega arith)))
     (λ p. goes-on b y h (b .memory) (set (b .cache) 0 (epochOf (b .cache) + 1)) (z .memory) (sized-set (b .cache) (epochOf (b .cache) + 1) (z .cache)) (λ q. absurd (omega arith)))
     (λ p. goes-on b y h (writtenBack 0 b) (b .cache) (sized-back (b .memory) (b .cache) (z .memory) (z .cache) 0 (omega arith)) (z .cache) (λ q. absurd (omega arith)))
     (λ p. absurd (omega arith))
@@ -135,6 +131,9 @@ ready-acts {l} b y h =
 
     place : ℕ
     place = b .state .place
+
+    line : ℕ
+    line = nth (b .state .dirty) place
 
     z : Sizes l b
     z = y .sizes
@@ -149,7 +148,7 @@ unfolding stepsFrom
 ends-after n b d t e same rest = (
   ends-more n b d t e (rest .0),
   subst (λ (x : Board). KeepsAway (b .state) (stepsFrom n x .state)) (sym e)
-      (subst (λ (ws : List Worker). KeepsAway (record { phase = b .state .phase; lines = b .state .lines; workers = b .state .workers; listed = dirtyCount (b .state); place = b .state .place; undo = b .state .undo; requested = b .state .requested; worker = ws }) (stepsFrom n d .state)) same (rest .1)),
+      (subst (λ (ws : List Worker). KeepsAway (record { phase = b .state .phase; lines = b .state .lines; workers = b .state .workers; place = b .state .place; undo = b .state .undo; requested = b .state .requested; dirty = b .state .dirty; worker = ws }) (stepsFrom n d .state)) same (rest .1)),
 )
 
 -- The steps from a ready board to the release.
@@ -160,7 +159,7 @@ ends {l} (suc n) b y e =
     elim (decLt (s .place) (dirtyCount s + 2)) [
       | yes h ↦
           let f = ready-acts b y h in
-          ends-after n b acted t acts (f .worker) (ends n acted (f .ready) (omega (arith, f .place, f .listed)))
+          ends-after n b acted t acts (f .worker) (ends n acted (f .ready) (omega (arith, f .place, f .count)))
       | no o ↦
           let end : s .place ≡ dirtyCount s + 2 = omega (arith, y .place) in
           last n (omega arith) (acts ∙ ap (λ (a : Act). performAct a s b) (act-release (dirtyCount s) (s .place) end))
@@ -215,7 +214,7 @@ checkpoint-ends r inv d e on wait left h =
       sizes = inv .sizes;
       lines = v .lines;
       workers = v .workers;
-      listed = omega (arith, v .count, count-most (cells (m .lines)) (m .marked));
+      dirty = dirty-fine (b .state .dirty) (m .marked) (v .dirty);
       place = place-in (m .lines) b m (v .stage) on;
       epoch = room b m on (v .stage);
       waiting = all-quiescent (b .state) wait;

@@ -9,10 +9,13 @@ use Rattle.line.specs.Line.{lineStart}
 use Rattle.board.specs.declared.Phase.{Phase}
 use Rattle.board.specs.declared.Phase.the-variants.{Off, Formatting, Recovering, Running}
 use Rattle.board.specs.Board.{epochOf}
-use Rattle.board.specs.State.{isRunning}
+use Rattle.board.specs.State.{isRunning, dirtyCount}
+use Rattle.board.specs.Machine.{markedCount}
 use Rattle.board.specs.Sequence.{Run}
 use Rattle.board.specs.Statements.{Unchanged, Completes}
 use Rattle.board.proofs.Laws.Bools.{clash}
+use Rattle.board.proofs.Laws.Taken.{lines-in}
+use Rattle.board.proofs.Laws.Dirty.{dirty-count}
 use Rattle.board.proofs.Invariant.{Kept, Sizes, RunningInv, InPhase, Inv}
 
 -- What leads from run `r` to run `r′`, a format's step or not, carries the invariant over, and does to the last checkpoint what is claimed of it.
@@ -55,6 +58,10 @@ pub running-run : (r : Run) → Inv r → r .crashed ≡ false → r .board .sta
 running-run r inv d e =
     let v : InPhase Running r = subst (λ (p : Phase). InPhase p r) e (inv .phase d) in
     record { inv = inv; running = v .0; on = v .1; phase = e }
+
+-- Its dirty lines are as many as the machine's lines with a marked cell.
+pub running-count : {r : Run} → RunningRun r → dirtyCount (r .board .state) ≡ markedCount (r .machine)
+running-count {r} s = dirty-count (r .board .state .dirty) (r .machine .marked) (s .running .dirty) (lines-in (r .machine .lines) (s .inv .sizes .limits) .1)
 
 -- The invariant of a running board from its parts.
 pub inv-running : (r : Run) → r .erased ≡ false → r .board .state .phase ≡ Running → Sizes (r .machine .lines) (r .board) → Kept (r .machine .lines) (r .machine .checkpointed) (r .board .memory) → RunningInv (r .machine .lines) (r .board) (r .machine) → Inv r

@@ -6,7 +6,8 @@ use mathlib.Core.Bool.{true}
 use native.Mathlib.Omega.{arith}
 use native.Mathlib.Decide.{ℕ-discrete}
 use lib.Dec.{eqb}
-use lib.ListN.{getD}
+use Rattle.bitset.specs.Words.{contains}
+use Rattle.line.specs.Cell.{cellLine}
 use Rattle.board.specs.Board.{Board, cells, epochOf}
 use Rattle.board.specs.State.{placed, dirtyCount}
 use Rattle.board.specs.Effects.{writtenBack}
@@ -14,7 +15,7 @@ use Rattle.board.specs.Machine.{Machine}
 use Rattle.board.specs.Statements.{SameSpare}
 use Rattle.board.proofs.Laws.Bools.{chosen}
 use Rattle.board.proofs.Laws.View.{view}
-use Rattle.board.proofs.Invariant.{AllQuiescent, Sizes, SameSizes, Undoes, progress, SameRecords, Early, Gap, Late, Stage, early, gap, late, RunningInv}
+use Rattle.board.proofs.Invariant.{AllQuiescent, Sizes, SameSizes, Undoes, rank, progress, SameRecords, Early, Gap, Late, Stage, early, gap, late, RunningInv}
 use Rattle.board.proofs.Laws.Rows.{own-same, sizes-same}
 use Rattle.board.proofs.Checkpoint.Memory.{value-back, epoch-back}
 
@@ -47,16 +48,16 @@ running-moved {b = b} v memory place xs steps sizes spare agree undoes stage =
       undoes = undoes;
       current = v .current;
       spare = spare;
-      count = v .count;
-      listed = v .listed;
+      dirty = v .dirty;
       steps = agree;
       stage = stage;
       worker = v .worker;
       apart = v .apart;
     }
 
--- The early stage, the entry at the checkpoint's place having its record in memory.
-pub early-placed : {l : ℕ} (b : Board) {m : Machine} (steps : ℕ) → Early l b m → b .state .requested ≡ true → b .state .place < dirtyCount (b .state) → AllQuiescent (b .state) → view (b .memory) (getD (b .entries) (b .state .place) 0) .value ≡ view (b .cache) (getD (b .entries) (b .state .place) 0) .value → Early l (moved b (b .memory) (b .state .place + 1)) (remade m (m .checkpointed) steps)
+-- The early stage, the cells of the dirty line at the checkpoint's place having their records in memory.
+pub early-placed : {l : ℕ} (b : Board) {m : Machine} (steps : ℕ) → Early l b m → b .state .requested ≡ true → b .state .place < dirtyCount (b .state) → AllQuiescent (b .state) →
+    ((c : ℕ) → c < cells l → contains (b .state .dirty) (cellLine c) ≡ true → rank (b .state) (cellLine c) ≡ b .state .place → view (b .memory) c .value ≡ view (b .cache) c .value) → Early l (moved b (b .memory) (b .state .place + 1)) (remade m (m .checkpointed) steps)
 early-placed b steps e on h w same =
     let was : progress (b .state) ≡ b .state .place = chosen (b .state .requested) (b .state .place) 0 on in
     let now : progress (placed (b .state) (b .state .place + 1) (b .state .undo)) ≡ b .state .place + 1 = chosen (b .state .requested) (b .state .place + 1) 0 on in
@@ -64,11 +65,10 @@ early-placed b steps e on h w same =
       epochs = e .epochs;
       marks = e .marks;
       clean = e .clean;
-      listing = e .listing;
-      written = λ j p.
-          elim (ℕ-discrete (b .state .place) j) [
-            | yes q ↦ subst (λ (k : ℕ). view (b .memory) (getD (b .entries) k 0) .value ≡ view (b .cache) (getD (b .entries) k 0) .value) q same
-            | no o ↦ e .written j (omega (arith, was, now))
+      written = λ c p t r.
+          elim (ℕ-discrete (rank (b .state) (cellLine c)) (b .state .place)) [
+            | yes q ↦ same c p t q
+            | no o ↦ e .written c p t (omega (arith, was, now))
           ];
       within = omega (arith, now);
       waiting = λ p. w;
@@ -81,15 +81,14 @@ module _ {l : ℕ} (b : Board) (z : Sizes l b) (i : ℕ) (h : i ≤ l) where
   same-back same c p = value-back (b .memory) (b .cache) (z .memory) (z .cache) i c h p (same c p)
 
   -- Before the epoch's store a write-back of any line leaves the early stage.
-  pub early-back : {m : Machine} → ((j : ℕ) → j < dirtyCount (b .state) → getD (b .entries) j 0 < cells l) → Early l b m → Early l (moved b (writtenBack i b) (b .state .place)) m
-  early-back listed e =
+  pub early-back : {m : Machine} → Early l b m → Early l (moved b (writtenBack i b) (b .state .place)) m
+  early-back e =
       let same : epochOf (writtenBack i b) ≡ epochOf (b .memory) = epoch-back (b .memory) (b .cache) (z .memory) (z .cache) i h (λ q. e .epochs) in
       record {
         epochs = e .epochs ∙ sym same;
         marks = λ c p. e .marks c p ∙ ap (eqb (view (b .cache) c .mark)) (sym same);
         clean = λ c p o. value-back (b .memory) (b .cache) (z .memory) (z .cache) i c h p (e .clean c p (λ q. o (q ∙ sym same)));
-        listing = λ c p q. e .listing c p (q ∙ same);
-        written = λ j p. value-back (b .memory) (b .cache) (z .memory) (z .cache) i (getD (b .entries) j 0) h (listed j (omega (arith, e .within))) (e .written j p);
+        written = λ c p t r. value-back (b .memory) (b .cache) (z .memory) (z .cache) i c h p (e .written c p t r);
         within = e .within;
         waiting = e .waiting;
         room = e .room;

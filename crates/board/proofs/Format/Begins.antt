@@ -10,7 +10,7 @@ use Rattle.board.specs.declared.Call.{Call}
 use Rattle.board.specs.declared.Call.the-variants.{FormatStart, RecoveryStart, Step}
 use Rattle.board.specs.Board.{Board, linesOf}
 use Rattle.board.specs.State.{isOff, isFormatting, isRunning}
-use Rattle.board.specs.Next.{Taken, Kind, startsFormat, startsRecovery, stepping, writing, other, reading, kind, isStart, isStep, Performed}
+use Rattle.board.specs.Next.{Taken, Kind, startsFormat, startsRecovery, stepping, writing, counting, other, reading, kind, isStart, isStep, Performed}
 use Rattle.board.specs.Effects.{undo}
 use Rattle.board.specs.Machine.{Machine, recoveryBeginning, formatSteps}
 use Rattle.board.specs.Sequence.{Takes, finished, steps, between, paged, Begins, formatted, recoveryStarted, opening}
@@ -41,6 +41,7 @@ format-refuses k b p o t = barred (kind k) o (phase-passed k b t)
     barred startsRecovery u e = true≢false u
     barred stepping u e = true≢false u
     barred writing u e = not-written b p e
+    barred counting u e = not-running b p e
     barred other u e = not-running b p e
     barred (reading c) u e = not-running b p e
 

@@ -13,6 +13,7 @@ use Rattle.board.specs.declared.Condition.the-variants.{Free}
 use Rattle.board.specs.declared.Phase.{Phase}
 use Rattle.board.specs.declared.Phase.the-variants.{Formatting, Running}
 use Rattle.board.specs.declared.Call.the-variants.{FormatStart, Step}
+use Rattle.bitset.specs.Words.{empty}
 use Rattle.board.specs.Board.{Board, cells, rowWords, linesOutside, workersOutside, epochOf, workersOf, headerWords, zeroWords}
 use Rattle.board.specs.State.{allFree, conditionOf, placed, opened, dirtyCount}
 use Rattle.board.specs.Causes.{causes, badRows}
@@ -21,10 +22,10 @@ use Rattle.board.specs.Machine.{none, beginning}
 use Rattle.board.specs.Statements.{Spare, SameSpare}
 use Rattle.board.proofs.Laws.Bools.{chosen, passedOver, or-left, or-right, not-off, clash}
 use Rattle.board.proofs.Laws.View.{View, view, Sized}
-use Rattle.board.proofs.Invariant.{Header, SameSizes, Kept, Zeroed, Sizes, Undoes, FormatInv, WorkerInv, Touches, progress, early, RunningInv}
+use Rattle.board.proofs.Invariant.{Header, SameSizes, Kept, Zeroed, Sizes, Undoes, FormatInv, WorkerInv, Touches, progress, Dirty, early, RunningInv}
 use Rattle.board.proofs.Laws.Taken.{standsAt, passed}
 use Rattle.board.proofs.Laws.Workers.{free-condition}
-use Rattle.board.proofs.Laws.Count.{count-none}
+use Rattle.board.proofs.Laws.Dirty.{dirty-none}
 use Rattle.board.proofs.Format.Rows.{zeros, zeroed-none, sized-erased, word-erase, zeroed-erase, epoch-erase, word-header, sized-fresh, epoch-fresh, header-fresh, view-fresh, spare-fresh, undoes-fresh, kept-fresh}
 use Rattle.board.specs.Next.{Taken}
 
@@ -41,12 +42,10 @@ pub rows-sized : (l : ℕ) (b : Board) → linesOutside l ≡ false → badRows 
 rows-sized l b o e =
     let cache = eqb (length (b .cache)) (rowWords l) in
     let memory = eqb (length (b .memory)) (rowWords l) in
-    let entries = ltb (length (b .entries)) (listWords l) in
-    let both = or-left (not cache || not memory) entries e in
     record {
       limits = o;
-      memory = record { size = eqb-true _ _ (not-off memory (or-right (not cache) (not memory) both)) };
-      cache = record { size = eqb-true _ _ (not-off cache (or-left (not cache) (not memory) both)) };
+      memory = record { size = eqb-true _ _ (not-off memory (or-right (not cache) (not memory) e)) };
+      cache = record { size = eqb-true _ _ (not-off cache (or-left (not cache) (not memory) e)) };
     }
 
 -- A taken format's start finds rows of the right lengths.
@@ -85,7 +84,7 @@ erasing b = inBoth (b .state .place) zeroWords (placed (b .state) (b .state .pla
 
 -- The board with the header stored in both rows, and open.
 abbrev pub finishing : Board → Board
-finishing b = inBoth 0 (headerWords 1 (b .state .lines) (b .state .workers)) (opened (b .state) 0) b
+finishing b = inBoth 0 (headerWords 1 (b .state .lines) (b .state .workers)) (opened (b .state) empty) b
 
 -- What a format's step does, by its place.
 format-step : (l : ℕ) (b : Board) → Formats l b → effect Step b ≡ cond (leb (b .state .place) (b .state .lines)) (erasing b) (finishing b)
@@ -167,8 +166,8 @@ pub record Opened (l : ℕ) (memory cache : List ℕ) : Type 0 where
   pub cacheZeros : (c : ℕ) → c < cells l → view cache c ≡ zeros
 
 -- A board so opened, with no request and no worker at work, runs as the machine begins.
-pub opened-running : (l : ℕ) (b : Board) → Opened l (b .memory) (b .cache) → b .state .lines ≡ l → workersOutside l (b .state .workers) ≡ false → b .state .workers ≡ workersOf (b .memory) → b .state .requested ≡ false → b .state .worker ≡ allFree → dirtyCount (b .state) ≡ 0 → RunningInv l b (beginning l)
-opened-running l b o lines workers own quiet free empty =
+pub opened-running : (l : ℕ) (b : Board) → Opened l (b .memory) (b .cache) → b .state .lines ≡ l → workersOutside l (b .state .workers) ≡ false → b .state .workers ≡ workersOf (b .memory) → b .state .requested ≡ false → b .state .worker ≡ allFree → b .state .dirty ≡ empty → RunningInv l b (beginning l)
+opened-running l b o lines workers own quiet free clean =
     record {
       lines = lines;
       workers = workers;
@@ -179,15 +178,13 @@ opened-running l b o lines workers own quiet free empty =
       undoes = subst (λ (e : ℕ). Undoes l e (λ c. 0) (b .cache)) (sym (o .memoryEpoch)) (o .undoes);
       current = λ c h. ap (λ (v : View). v .value) (o .cacheZeros c h);
       spare = o .spare;
-      count = empty ∙ sym (count-none (cells l) (λ c. false) (λ c. refl));
-      listed = λ i h. absurd (omega arith);
+      dirty = subst (λ (words : List ℕ). Dirty l words (λ c. false)) (sym clean) (dirty-none l (λ c. false) (λ c. refl));
       steps = λ e. absurd (clash e quiet);
       stage = early (record {
         epochs = o .cacheEpoch ∙ sym (o .memoryEpoch);
         marks = λ c h. sym (ne-eqb (view (b .cache) c .mark) (epochOf (b .memory)) (unlogged c h));
         clean = λ c h u. ap (λ (v : View). v .value) (o .memoryZeros c h ∙ sym (o .cacheZeros c h));
-        listing = λ c h e. absurd (unlogged c h e);
-        written = λ i h. absurd (omega (arith, still));
+        written = λ c h t p. absurd (omega (arith, still));
         within = omega (arith, still);
         waiting = λ h. absurd (omega (arith, still));
         room = λ e. absurd (clash e quiet);

@@ -7,6 +7,7 @@ use native.Mathlib.Decide.{decLe}
 use borrow.Author.Tests.{le-ltb}
 use Rattle.board.specs.declared.Phase.{Phase}
 use Rattle.board.specs.declared.Call.the-variants.{FormatStart, Step}
+use Rattle.bitset.specs.Words.{empty}
 use Rattle.board.specs.Board.{Board}
 use Rattle.board.specs.State.{allFree, isOff, isRunning, dirtyCount}
 use Rattle.board.specs.Causes.{placePast}
@@ -18,27 +19,27 @@ use Rattle.board.proofs.Laws.Idle.{idle-step-taken, ends-more}
 use Rattle.board.proofs.Format.Board.{Formats, format-begins, erasing, erasing-step, format-erases, finishing, finishing-step}
 use Rattle.board.specs.Next.{Taken}
 
--- A format from its start on, undisturbed: the list is empty and all workers are free.
+-- A format from its start on, undisturbed: no line is dirty and all workers are free.
 record Alone (l : ℕ) (b : Board) : Type 0 where
   formats : Formats l b
-  empty : dirtyCount (b .state) ≡ 0
+  clean : b .state .dirty ≡ empty
   free : b .state .worker ≡ allFree
 
 -- A taken format's start leaves it so.
 alone-begins : (l w : ℕ) (b : Board) → Taken (FormatStart l w) b → Alone l (effect (FormatStart l w) b)
 unfolding effect
-alone-begins l w b t = record { formats = format-begins l w b t .0; empty = refl; free = refl }
+alone-begins l w b t = record { formats = format-begins l w b t .0; clean = refl; free = refl }
 
 -- So does a step that is not the last.
 alone-erases : (l : ℕ) (b : Board) → Alone l b → b .state .place ≤ l → Alone l (erasing b)
-alone-erases l b a h = record { formats = format-erases l b (a .formats) h .formats; empty = a .empty; free = a .free }
+alone-erases l b a h = record { formats = format-erases l b (a .formats) h .formats; clean = a .clean; free = a .free }
 
 -- Its step is taken.
 alone-taken : (l : ℕ) (b : Board) → Alone l b → Taken Step b
 alone-taken l b a =
     let f = a .formats .format in
     let p = a .formats .phase in
-    idle-step-taken l b (a .formats .sizes) (f .lines) (f .workers) (a .empty) (a .free) (ap isOff p) (ap isRunning p)
+    idle-step-taken l b (a .formats .sizes) (f .lines) (f .workers) (a .clean) (a .free) (ap isOff p) (ap isRunning p)
     (subst (λ (k : Phase). placePast k (b .state) ≡ false) (sym p) (le-ltb (b .state .lines + 1) (b .state .place) (omega arith)))
 
 -- A format so left ends in the steps left to it.

@@ -5,10 +5,10 @@ use mathlib.Core.List.{List}
 use mathlib.Core.Bool.{Bool, true, false, not, _&&_, true≢false}
 use native.Mathlib.Omega.{arith}
 use lib.Dec.{ltb}
-use lib.ListN.{length, set, length-set}
-use borrow.Author.Tests.{eq-eqb, ne-eqb}
+use Rattle.bitset.specs.Words.{inserted}
+use borrow.Author.Tests.{eq-eqb}
 use Rattle.line.specs.declared.Field.{Field}
-use Rattle.line.specs.Cell.{fieldOf, withField}
+use Rattle.line.specs.Cell.{cellLine, fieldOf, withField}
 use Rattle.board.specs.declared.State.{State}
 use Rattle.board.specs.declared.Condition.{Condition}
 use Rattle.board.specs.declared.Condition.the-variants.{Free, Waiting, Updating, Away}
@@ -23,12 +23,13 @@ use Rattle.board.specs.Machine.{Unfinished, none, update, Machine, chang
 use Rattle.board.specs.Sequence.{Run}
 use Rattle.board.proofs.Laws.Bools.{on}
 use Rattle.board.proofs.Laws.View.{View, view, put, view-value, view-store}
-use Rattle.board.proofs.Invariant.{BeforeStore, storesLeft, WorkerInv, Touches, Inv}
-use Rattle.board.proofs.Laws.Taken.{standsAt, passed, afterTaken}
+use Rattle.board.proofs.Invariant.{BeforeStore, storesLeft, WorkerInv, Touches, Dirty, Inv}
+use Rattle.board.proofs.Laws.Taken.{standsAt, passed, lines-in, afterTaken}
+use Rattle.board.proofs.Laws.Dirty.{dirty-mark}
 use Rattle.board.proofs.Laws.Rows.{epoch-store}
 use Rattle.board.proofs.Laws.Count.{changed-at, changed-other}
 use Rattle.board.proofs.Checkpoint.Run.{Carried, quietly}
-use Rattle.board.proofs.Keeps.OneCell.{CellInv, ListInv, cell-inv, list-inv, list-more, only-store, Change, changedRun, Ready, ready, one-cell}
+use Rattle.board.proofs.Keeps.OneCell.{CellInv, cell-inv, only-store, Change, changedRun, Ready, ready, one-cell}
 use Rattle.board.specs.Next.{Taken}
 
 -- ---- a cell's view
@@ -59,9 +60,9 @@ record Turn (r : Run) (w c v : ℕ) (next : Store) : Type 0 where
   before : BeforeStore next (epochOf (r .board .memory)) (view (r .board .cache) c)
 
 -- What a store leaves.
-abbrev storing : ℕ → ℕ → List ℕ → Condition → ℕ → List ℕ → (ℕ → ℕ) → (ℕ → Bool) → Unfinished → Change
-storing w c cache condition listed entries current marked unfinished =
-    record { worker = w; cell = c; condition = condition; listed = listed; cache = cache; entries = entries; current = current; marked = marked; unfinished = unfinished }
+abbrev storing : ℕ → ℕ → List ℕ → Condition → List ℕ → (ℕ → ℕ) → (ℕ → Bool) → Unfinished → Change
+storing w c cache condition dirty current marked unfinished =
+    record { worker = w; cell = c; condition = condition; dirty = dirty; cache = cache; current = current; marked = marked; unfinished = unfinished }
 
 -- A store of `x` in field `f` of the worker's cell.
 module _ (r : Run) (w c v : ℕ) (next : Store) (inv : Inv r) (turn : Turn r w c v next) (f : Field) (x : ℕ) where
@@ -79,26 +80,24 @@ module _ (r : Run) (w c v : ℕ) (next : Store) (inv : Inv r) (turn : Turn r w c
   alone : (u : ℕ) → u < r .board .state .workers → (w ≡ u → ⊥) → Touches (conditionOf (r .board .state) u) c → ⊥
   alone u h o t = o (turn .now .run .apart w u c (turn .now .under) h (subst (λ (k : Condition). Touches k c) (sym (turn .here)) refl) t)
 
-  -- The store keeps the invariant where what it leaves of cell, list and worker fits.
+  -- The store keeps the invariant where what it leaves of cell, dirty lines and worker fits.
   store :
-      (condition : Condition) (listed : ℕ) (entries : List ℕ) (current : ℕ → ℕ) (marked : ℕ → Bool) (unfinished : Unfinished) (crashed : Bool) →
+      (condition : Condition) (dirty : List ℕ) (current : ℕ → ℕ) (marked : ℕ → Bool) (unfinished : Unfinished) (crashed : Bool) →
       ((d : ℕ) → (c ≡ d → ⊥) → current d ≡ r .machine .current d) →
       ((d : ℕ) → (c ≡ d → ⊥) → marked d ≡ r .machine .marked d) →
       CellInv (epochOf (r .board .memory)) (r .machine .checkpointed c) (current c) (marked c) (view (r .board .memory) c) (put f x (view (r .board .cache) c)) →
-      ListInv (cells (r .machine .lines)) listed entries marked →
-      length entries ≡ length (r .board .entries) →
+      Dirty (r .machine .lines) dirty marked →
       WorkerInv (r .machine .lines) (withField (r .board .cache) c f x) condition unfinished →
       ((d : ℕ) → Touches condition d → c ≡ d) →
-      Inv (changedRun (storing w c (withField (r .board .cache) c f x) condition listed entries current marked unfinished) crashed r)
-  store condition listed entries current marked unfinished crashed currents marks cell list size worker own =
-      one-cell r (storing w c (withField (r .board .cache) c f x) condition listed entries current marked unfinished) crashed inv (turn .now)
+      Inv (changedRun (storing w c (withField (r .board .cache) c f x) condition dirty current marked unfinished) crashed r)
+  store condition dirty current marked unfinished crashed currents marks cell lines worker own =
+      one-cell r (storing w c (withField (r .board .cache) c f x) condition dirty current marked unfinished) crashed inv (turn .now)
       (record {
         only = only-store (r .board .cache) c f x;
         currents = currents;
         marks = marks;
         here = subst (CellInv (epochOf (r .board .memory)) (r .machine .checkpointed c) (current c) (marked c) (view (r .board .memory) c)) (sym view-after) cell;
-        list = list;
-        size = size;
+        dirty = lines;
         worker = worker;
         own = own;
         alone = alone;
@@ -116,28 +115,27 @@ keeps-store r w c v Backup crashed inv turn =
     let b = r .board in
     let m = r .machine in
     let old = fieldOf (b .cache) c Field.Record in
-    store r w c v Backup inv turn Field.Backup old (Updating Mark c v) (dirtyCount (b .state)) (b .entries) (m .current) (m .marked) (update c v 2) crashed (λ d o. refl) (λ d o. refl)
+    store r w c v Backup inv turn Field.Backup old (Updating Mark c v) (b .state .dirty) (m .current) (m .marked) (update c v 2) crashed (λ d o. refl) (λ d o. refl)
     (cell-backed (cell-inv (turn .now .run) (turn .now .stage) c (turn .cell)) old (turn .before))
-    (list-inv (turn .now .run) (turn .now .stage)) refl
+    (turn .now .run .dirty)
     (worker-after r w c v Backup inv turn Field.Backup old Mark (turn .before, view-value (b .cache) c)) (λ d t. t)
 keeps-store r w c v Mark crashed inv turn =
     let b = r .board in
     let m = r .machine in
     let ear = turn .now .stage in
     let e = epochOf (b .cache) in
-    let unmarked : m .marked c ≡ false = ear .marks c (turn .cell) ∙ ne-eqb _ _ (turn .before .0) in
-    store r w c v Mark inv turn Field.Mark e (Updating Record c v) (dirtyCount (b .state) + 1) (set (b .entries) (dirtyCount (b .state)) c) (m .current) (changed (m .marked) c true) (update c v 1) crashed (λ d o. refl)
+    store r w c v Mark inv turn Field.Mark e (Updating Record c v) (inserted (b .state .dirty) (cellLine c)) (m .current) (changed (m .marked) c true) (update c v 1) crashed (λ d o. refl)
     (changed-other (m .marked) c true)
     (cell-marked (cell-inv (turn .now .run) ear c (turn .cell)) e (ear .epochs) (turn .before .0) (turn .before .1) (changed-at (m .marked) c true))
-    (list-more c (turn .cell) (inv .sizes .entries) unmarked (list-inv (turn .now .run) ear)) (length-set (b .entries) (dirtyCount (b .state)) c)
+    (dirty-mark (b .state .dirty) (m .marked) (turn .now .run .dirty) c (turn .cell) (lines-in (m .lines) (inv .sizes .limits) .1))
     (worker-after r w c v Mark inv turn Field.Mark e Record (ear .epochs)) (λ d t. t)
 keeps-store r w c v Record crashed inv turn =
     let b = r .board in
     let m = r .machine in
     let waits = ltb c (b .state .workers) && b .state .requested in
-    store r w c v Record inv turn Field.Record v (afterLast (b .state) c) (dirtyCount (b .state)) (b .entries) (changed (m .current) c v) (m .marked) none crashed (changed-other (m .current) c v) (λ d o. refl)
+    store r w c v Record inv turn Field.Record v (afterLast (b .state) c) (b .state .dirty) (changed (m .current) c v) (m .marked) none crashed (changed-other (m .current) c v) (λ d o. refl)
     (cell-recorded (cell-inv (turn .now .run) (turn .now .stage) c (turn .cell)) v (turn .before) (changed-at (m .current) c v))
-    (list-inv (turn .now .run) (turn .now .stage)) refl
+    (turn .now .run .dirty)
     (on (λ (k : Condition). WorkerInv (m .lines) (recorded (b .cache) c v) k none) waits Waiting Free (λ t. refl) (λ t. refl))
     (on (λ (k : Condition). (d : ℕ) → Touches k d → c ≡ d) waits Waiting Free (λ t d n. absurd n) (λ t d n. absurd n))
 

@@ -5,8 +5,10 @@ use mathlib.Core.List.{List}
 use mathlib.Core.Bool.{true, false, _&&_, false≢true}
 use native.Mathlib.Omega.{arith}
 use native.Mathlib.Decide.{ℕ-discrete, decLt}
-use lib.ListN.{getD, set}
-use borrow.Author.Tests.{ne-eqb}
+use lib.ListN.{set}
+use borrow.Author.Tests.{eq-eqb, ne-eqb}
+use Rattle.bitset.specs.Words.{capacity, contains, size, nth}
+use Rattle.bitset.proofs.Passing.{count-less, nth-one}
 use Rattle.line.specs.Cell.{cellLine}
 use Rattle.board.specs.declared.Condition.{Condition}
 use Rattle.board.specs.declared.Condition.the-variants.{Free, Waiting, Updating, Away}
@@ -18,13 +20,13 @@ use Rattle.board.specs.Effects.{writtenBack, cached, stated, Act, writeL
 use Rattle.board.specs.Machine.{Unfinished, Machine, counted, completed, dropped, checkpointStep}
 use Rattle.board.specs.Sequence.{Run}
 use Rattle.board.proofs.Laws.Bools.{chosen}
-use Rattle.board.proofs.Laws.View.{View, view, Sized, cell-line, view-backed, view-header}
-use Rattle.board.proofs.Invariant.{AllQuiescent, Undo, WorkerInv, Touches, SameRecords, Early, Late, Stage, early, gap, late, RunningInv, Inv}
+use Rattle.board.proofs.Laws.View.{View, view, Sized, view-backed, view-header}
+use Rattle.board.proofs.Invariant.{AllQuiescent, Undo, WorkerInv, Touches, SameRecords, Dirty, Early, Late, Stage, early, gap, late, RunningInv, Inv}
 use Rattle.board.proofs.Laws.Rows.{epoch-set, sized-set, header-set, spare-set, own-same, sizes-same, sizes-set}
-use Rattle.board.proofs.Laws.Taken.{workers-in, afterTaken}
+use Rattle.board.proofs.Laws.Taken.{lines-in, workers-in, afterTaken}
 use Rattle.board.proofs.Laws.Workers.{released-condition}
-use Rattle.board.proofs.Laws.Count.{count-none}
-use Rattle.board.proofs.Checkpoint.Run.{Carried, quietly, RunningRun, running-run, inv-running}
+use Rattle.board.proofs.Laws.Dirty.{nth-line, dirty-fine, marked-line, dirty-none}
+use Rattle.board.proofs.Checkpoint.Run.{Carried, quietly, RunningRun, running-run, running-count, inv-running}
 use Rattle.board.proofs.Checkpoint.Stages.{moved, early-placed, early-back}
 use Rattle.board.proofs.Checkpoint.Back.{quiet-back, header-back}
 use Rattle.board.proofs.Checkpoint.Acts.{act-line, act-epoch, act-header, act-release, machine-counts, machine-completes, machine-drops, acted, step-acts, step-ready}
@@ -48,20 +50,21 @@ released-touches Away d t = t
 
 -- ---- the epoch's store
 
--- At the list's end memory has the record of every cell.
-early-same : {l : ℕ} (b : Board) {m : Machine} → b .state .requested ≡ true → b .state .place ≡ dirtyCount (b .state) → Early l b m → SameRecords l b
-early-same b on end e c h =
+-- Past the dirty lines memory has the record of every cell.
+early-same : {l : ℕ} (b : Board) {m : Machine} → l ≤ 511 → b .state .requested ≡ true → b .state .place ≡ dirtyCount (b .state) → Dirty l (b .state .dirty) (m .marked) → Early l b m → SameRecords l b
+unfolding size
+early-same b {m} most on end d e c h =
     elim (ℕ-discrete (view (b .cache) c .mark) (epochOf (b .memory))) [
       | yes q ↦
-          let (i, p, k) = e .listing c h q in
-          subst (λ (n : ℕ). view (b .memory) n .value ≡ view (b .cache) n .value) k
-          (e .written i (omega (arith, chosen (b .state .requested) (b .state .place) 0 on)))
+          let set = marked-line (b .state .dirty) (m .marked) d c h (e .marks c h ∙ eq-eqb _ _ q) in
+          let before = count-less (cellLine c) capacity (contains (b .state .dirty)) (omega arith) set in
+          e .written c h set (omega (arith, chosen (b .state .requested) (b .state .place) 0 on))
       | no o ↦ e .clean c h o
     ]
 
 -- The epoch's store leads into the gap.
-running-epoch : {l : ℕ} (b : Board) (m : Machine) → Sized l (b .cache) → b .state .requested ≡ true → b .state .place ≡ dirtyCount (b .state) → AllQuiescent (b .state) → Early l b m → RunningInv l b m → RunningInv l (cached (set (b .cache) 0 (epochOf (b .cache) + 1)) (placed (b .state) (b .state .place + 1) (b .state .undo)) b) (counted m)
-running-epoch {l} b m z on end wait e v =
+running-epoch : {l : ℕ} (b : Board) (m : Machine) → l ≤ 511 → Sized l (b .cache) → b .state .requested ≡ true → b .state .place ≡ dirtyCount (b .state) → AllQuiescent (b .state) → Early l b m → RunningInv l b m → RunningInv l (cached (set (b .cache) 0 (epochOf (b .cache) + 1)) (placed (b .state) (b .state .place + 1) (b .state .undo)) b) (counted m)
+running-epoch {l} b m most z on end wait e v =
     record {
       lines = v .lines;
       workers = v .workers;
@@ -72,15 +75,14 @@ running-epoch {l} b m z on end wait e v =
       undoes = λ c h. subst (Undo (epochOf (b .memory)) (m .checkpointed c)) (sym (same c)) (v .undoes c h);
       current = λ c h. ap (λ (k : View). k .value) (same c) ∙ v .current c h;
       spare = spare-set (b .memory) (b .cache) (epochOf (b .cache) + 1) (v .spare);
-      count = v .count;
-      listed = v .listed;
+      dirty = v .dirty;
       steps = λ q. ap (λ (n : ℕ). n + 1) (v .steps q);
       stage =
           gap (record {
             request = on;
             place = ap (λ (n : ℕ). n + 1) end;
             epochs = epoch-set (b .cache) (epochOf (b .cache) + 1) z ∙ ap (λ (n : ℕ). n + 1) (e .epochs);
-            same = λ c h. early-same b on end e c h ∙ sym (ap (λ (k : View). k .value) (same c));
+            same = λ c h. early-same b most on end (v .dirty) e c h ∙ sym (ap (λ (k : View). k .value) (same c));
             waiting = wait;
           });
       worker = λ w h. quiescent-worker l (b .cache) (set (b .cache) 0 (epochOf (b .cache) + 1)) (conditionOf (b .state) w) (m .unfinished w) (wait w h) (v .worker w h) .0;
@@ -105,16 +107,14 @@ running-release {l} b m e v =
       undoes = v .undoes;
       current = v .current;
       spare = v .spare;
-      count = sym (count-none (cells (m .lines)) (λ c. false) (λ c. refl));
-      listed = λ i h. absurd (omega arith);
+      dirty = dirty-none l (λ c. false) (λ c. refl);
       steps = λ q. absurd (false≢true q);
       stage =
           early (record {
             epochs = e .epochs;
             marks = λ c h. sym (ne-eqb (view (b .cache) c .mark) (epochOf (b .memory)) (e .unlogged c h));
             clean = λ c h o. e .same c h;
-            listing = λ c h q. absurd (e .unlogged c h q);
-            written = λ i h. absurd (omega arith);
+            written = λ c h t p. absurd (omega arith);
             within = omega arith;
             waiting = λ h. absurd (omega arith);
             room = λ q. absurd (false≢true q);
@@ -138,7 +138,7 @@ module _ (r : Run) (s : RunningRun r) (on : r .board .state .requested ≡ true)
   by-act act m p q o =
       subst (Carried false r) (sym (step-acts r (s .phase) (s .running .request ∙ on) ∙ (λ i. acted r (p i) (q i)))) o
 
-  -- An entry's line written back.
+  -- A dirty line written back.
   line-carried : r .board .state .place < dirtyCount (r .board .state) → Early (r .machine .lines) (r .board) (r .machine) → Carried false r (acted r writeLine (counted (r .machine)))
   unfolding performAct
   line-carried h e =
@@ -146,13 +146,13 @@ module _ (r : Run) (s : RunningRun r) (on : r .board .state .requested ≡ true)
       let m = r .machine in
       let z = s .inv .sizes in
       let v = s .running in
-      let c = getD (b .entries) (b .state .place) 0 in
-      let p : c < cells (m .lines) = v .listed (b .state .place) h in
-      let i = cellLine c in
-      let q : i ≤ m .lines = cell-line (m .lines) c p in
+      let i = nth (b .state .dirty) (b .state .place) in
+      let found = nth-line (b .state .dirty) (m .lines) (dirty-fine (b .state .dirty) (m .marked) (v .dirty)) (b .state .place) h in
+      let q : i ≤ m .lines = found .2 in
       quiet-back r s (b .state .place + 1) (m .steps + 1) placed-steps (r .crashed && true) i q (λ k. e .epochs) (m .checkpointed) (λ d k. refl)
-      (early (early-placed (moved b (writtenBack i b) (b .state .place)) (m .steps + 1) (early-back b z i q (v .listed) e) on h wait
-      (ap (λ (k : View). k .value) (view-backed (b .memory) (b .cache) (z .memory) (z .cache) i c p refl))))
+      (early (early-placed (moved b (writtenBack i b) (b .state .place)) (m .steps + 1) (early-back b z i q e) on h wait
+      (λ c p t k. ap (λ (w : View). w .value) (view-backed (b .memory) (b .cache) (z .memory) (z .cache) i c p
+      (nth-one {n = capacity} {m = capacity} (contains (b .state .dirty)) (cellLine c) i (record { passes = t; rank = k; within = omega (arith, lines-in (m .lines) (z .limits) .1) }) (found .0))))))
 
   -- The epoch stored.
   epoch-carried : r .board .state .place ≡ dirtyCount (r .board .state) → Early (r .machine .lines) (r .board) (r .machine) → Carried false r (acted r storeEpoch (counted (r .machine)))
@@ -162,7 +162,7 @@ module _ (r : Run) (s : RunningRun r) (on : r .board .state .requested ≡ true)
       let z = s .inv .sizes in
       quietly (inv-running (acted r storeEpoch (counted (r .machine))) (s .on) (s .phase)
       (record { limits = z .limits; memory = z .memory; cache = sized-set (b .cache) (epochOf (b .cache) + 1) (z .cache) })
-      (s .inv .kept (s .on)) (running-epoch b (r .machine) (z .cache) on end wait e (s .running))) refl refl (λ c. refl)
+      (s .inv .kept (s .on)) (running-epoch b (r .machine) (lines-in (r .machine .lines) (z .limits) .1) (z .cache) on end wait e (s .running))) refl refl (λ c. refl)
 
   -- Line 0 written back.
   header-carried : r .board .state .place ≡ dirtyCount (r .board .state) + 1 → Carried false r (acted r writeHeader (completed (counted (r .machine))))
@@ -183,7 +183,7 @@ module _ (r : Run) (s : RunningRun r) (on : r .board .state .requested ≡ true)
   header-step : r .board .state .place ≡ dirtyCount (r .board .state) + 1 → Carried false r (afterTaken Step r)
   header-step e =
       by-act writeHeader (completed (counted (r .machine))) (act-header (dirtyCount (r .board .state)) (r .board .state .place) e)
-      (machine-completes (r .machine) (omega (arith, s .running .count, s .running .steps on))) (header-carried e)
+      (machine-completes (r .machine) (omega (arith, running-count s, s .running .steps on))) (header-carried e)
 
   -- A step in each stage.
   stage-step : Stage (r .machine .lines) (r .board) (r .machine) → Carried false r (afterTaken Step r)
@@ -191,7 +191,7 @@ module _ (r : Run) (s : RunningRun r) (on : r .board .state .requested ≡ true)
       let n = dirtyCount (r .board .state) in
       let place = r .board .state .place in
       let within : place ≤ n = omega (arith, e .within, chosen (r .board .state .requested) place 0 on) in
-      let counts : checkpointStep (r .machine) ≡ counted (r .machine) = machine-counts (r .machine) (omega (arith, s .running .count, s .running .steps on)) in
+      let counts : checkpointStep (r .machine) ≡ counted (r .machine) = machine-counts (r .machine) (omega (arith, running-count s, s .running .steps on)) in
       elim (decLt place n) [
         | yes h ↦ by-act writeLine (counted (r .machine)) (act-line n place h) counts (line-carried h e)
         | no o ↦ let end : place ≡ n = omega arith in by-act storeEpoch (counted (r .machine)) (act-epoch n place end) counts (epoch-carried end e)
@@ -204,7 +204,7 @@ module _ (r : Run) (s : RunningRun r) (on : r .board .state .requested ≡ true)
         | yes q ↦ header-step q
         | no o ↦
             let end : place ≡ n + 2 = omega (arith, e .low, e .high) in
-            by-act release (dropped (counted (r .machine))) (act-release n place end) (machine-drops (r .machine) (omega (arith, s .running .count, s .running .steps on))) (release-carried e)
+            by-act release (dropped (counted (r .machine))) (act-release n place end) (machine-drops (r .machine) (omega (arith, running-count s, s .running .steps on))) (release-carried e)
       ]
 
 -- What a taken step of a running board leaves.

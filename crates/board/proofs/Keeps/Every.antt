@@ -7,7 +7,7 @@ use borrow.Author.Tests.{eqb-true, eqb-false}
 use Rattle.board.specs.declared.Phase.{Phase}
 use Rattle.board.specs.declared.Phase.the-variants.{Off, Formatting, Recovering, Running}
 use Rattle.board.specs.declared.Call.{Call}
-use Rattle.board.specs.declared.Call.the-variants.{FormatStart, RecoveryStart, Step, Update, RestartPoint, Advance, Request, WriteBack, Read, GoAway, ComeBack}
+use Rattle.board.specs.declared.Call.the-variants.{FormatStart, RecoveryStart, Step, Update, RestartPoint, Advance, Request, WriteBack, Read, GoAway, ComeBack, Count}
 use Rattle.board.specs.Board.{Board}
 use Rattle.board.specs.State.{isOff, isFormatting}
 use Rattle.board.specs.Effects.{effect}
@@ -30,7 +30,7 @@ use Rattle.board.proofs.Keeps.Update.{keeps-update, keeps-restart}
 use Rattle.board.proofs.Keeps.Advance.{carried-advance}
 use Rattle.board.proofs.Keeps.Request.{keeps-request}
 use Rattle.board.proofs.Keeps.WriteBack.{carried-write-back}
-use Rattle.board.proofs.Keeps.Quiet.{carried-read}
+use Rattle.board.proofs.Keeps.Quiet.{carried-read, carried-count}
 use Rattle.board.proofs.Keeps.Away.{carried-go-away, carried-come-back}
 
 -- A call other than a start that is allowed after no cut alone was made after none.
@@ -68,6 +68,7 @@ carried-call (WriteBack l) r i a t = carried-write-back r l i (uncut r a) t
 carried-call (Read c) r i a t = carried-read r c i (uncut r a) t
 carried-call (GoAway w) r i a t = carried-go-away r w i (uncut r a) t
 carried-call (ComeBack w) r i a t = carried-come-back r w i (uncut r a) t
+carried-call Count r i a t = carried-count r i (uncut r a) t
 
 -- Whatever happens.
 pub carried : {r r′ : Run} → Inv r → (e : Happens r r′) → Carried (formatStepIn e) r r′
@@ -81,13 +82,13 @@ carried i (performs {r = r} k number value b p a) =
     (λ t. subst (λ (d : Board). Carried false r (unfed d r)) (sym (performed-refused k (r .board) p (eqb-false number 0 t))) (quietly i refl refl (λ c. refl)))
 carried i (pages {r = r} text left number b p) =
     subst (λ (d : Board). Carried false r (unfed d r)) (sym (page-board (r .board) text p)) (quietly i refl refl (λ c. refl))
-carried i (cuts {r = r} s cache entries p) =
+carried i (cuts {r = r} s cache p) =
     quietly
     (record {
       sizes = record {
         limits = i .sizes .limits;
         memory = i .sizes .memory;
-        cache = record { size = p .0 ∙ i .sizes .cache .size };
+        cache = record { size = p ∙ i .sizes .cache .size };
       };
       kept = i .kept;
       lost = i .lost;

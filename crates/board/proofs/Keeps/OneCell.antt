@@ -1,37 +1,36 @@
--- The start of an update and each of its stores: at most one cell, one worker and the list's end change, and the invariant stays.
-use Prim.Native.Nat.{ℕ, suc, _+_, _≤_, _<_}
-use mathlib.Core.Path.{_≡_, refl, sym, ap, subst, subst₂, subst₃, _∙_}
+-- The start of an update and each of its stores: at most one cell, one worker and one line's bit change, and the invariant stays.
+use Prim.Native.Nat.{ℕ, _+_, _≤_, _<_}
+use mathlib.Core.Path.{_≡_, refl, sym, subst, subst₂, subst₃, _∙_}
 use mathlib.Core.List.{List}
 use mathlib.Core.Bool.{Bool, true, false, not}
 use native.Mathlib.Omega.{arith}
 use native.Mathlib.Decide.{ℕ-discrete}
-use native.Mathlib.Numerals.{add-one}
 use lib.Dec.{eqb}
-use lib.ListN.{length, getD, set, length-set}
-use lib.Seq.{getD-set-same, getD-set-other}
-use borrow.Author.Tests.{leb-false, eqb-true, eq-eqb}
+use lib.ListN.{length, getD, length-set}
+use borrow.Author.Tests.{leb-false}
 use Rattle.line.specs.declared.Field.{Field}
 use Rattle.line.specs.Line.{lineStart}
 use Rattle.line.specs.Cell.{withField}
 use Rattle.line.proofs.Laws.{length-withField, header-withField, spare-withField}
+use Rattle.board.specs.declared.State.{State}
 use Rattle.board.specs.declared.Condition.{Condition}
 use Rattle.board.specs.declared.Condition.the-variants.{Free, Waiting, Updating, Away}
 use Rattle.board.specs.declared.Phase.{Phase}
 use Rattle.board.specs.declared.Phase.the-variants.{Off, Formatting, Recovering, Running}
 use Rattle.board.specs.Board.{Board, cells, epochOf}
-use Rattle.board.specs.State.{conditionOf, conditioned, relisted, quiescent, isRunning, dirtyCount}
+use Rattle.board.specs.State.{conditionOf, conditioned, quiescent, isRunning}
 use Rattle.board.specs.Causes.{noWorker, notRunning}
-use Rattle.board.specs.Machine.{Unfinished, Machine, changed, countUnder}
+use Rattle.board.specs.Machine.{Unfinished, Machine, changed}
 use Rattle.board.specs.Sequence.{Run}
 use Rattle.board.proofs.Laws.Bools.{clash, not-off}
 use Rattle.board.proofs.Laws.View.{View, view, view-other}
-use Rattle.board.proofs.Invariant.{Undo, WorkerInv, BeforeStore, Touches, progress, Early, Stage, early, gap, late, RunningInv, InPhase, Inv}
+use Rattle.board.proofs.Invariant.{Undo, WorkerInv, BeforeStore, Touches, progress, Dirty, Early, Stage, early, gap, late, RunningInv, InPhase, Inv}
 use Rattle.board.proofs.Laws.Taken.{workers-in}
 use Rattle.board.proofs.Laws.Workers.{condition-at, condition-other}
 use Rattle.board.proofs.Laws.Rows.{header-same, own-same, sizes-same}
-use Rattle.board.proofs.Laws.Count.{changed-at, changed-other, at-each, count-most, count-more}
+use Rattle.board.proofs.Laws.Count.{changed-at, changed-other, at-each}
 
--- ---- one cell, and the list
+-- ---- one cell
 
 -- What holds of one cell before the epoch's store: `e` is memory's epoch, `x` the checkpointed value, `y` the current one.
 pub record CellInv (e x y : ℕ) (marked : Bool) (memory v : View) : Type 0 where
@@ -40,59 +39,9 @@ pub record CellInv (e x y : ℕ) (marked : Bool) (memory v : View) : Type 0 wher
   pub marks : marked ≡ eqb (v .mark) e
   pub clean : (v .mark ≡ e → ⊥) → memory .value ≡ v .value
 
--- What holds of the list on a board of `n` cells before the epoch's store.
-pub record ListInv (n listed : ℕ) (entries : List ℕ) (marked : ℕ → Bool) : Type 0 where
-  pub count : listed ≡ countUnder n marked
-  pub names : (i : ℕ) → i < listed → getD entries i 0 < n
-  pub listing : (c : ℕ) → c < n → marked c ≡ true → (i : ℕ) × (i < listed) × (getD entries i 0 ≡ c)
-
 -- Each cell of an early board.
 pub cell-inv : {l : ℕ} {b : Board} {m : Machine} → RunningInv l b m → Early l b m → (c : ℕ) → c < cells l → CellInv (epochOf (b .memory)) (m .checkpointed c) (m .current c) (m .marked c) (view (b .memory) c) (view (b .cache) c)
 cell-inv run ear c h = record { undo = run .undoes c h; current = run .current c h; marks = ear .marks c h; clean = ear .clean c h }
-
--- The list of an early board.
-pub list-inv : {b : Board} {m : Machine} → RunningInv (m .lines) b m → Early (m .lines) b m → ListInv (cells (m .lines)) (dirtyCount (b .state)) (b .entries) (m .marked)
-list-inv run ear =
-    record {
-      count = run .count;
-      names = run .listed;
-      listing = λ c h t. ear .listing c h (eqb-true _ _ (sym (ear .marks c h) ∙ t));
-    }
-
--- A cell that is marked anew is added to the list, which has room for it.
-pub list-more : {n listed : ℕ} {entries : List ℕ} {marked : ℕ → Bool} (c : ℕ) → c < n → n ≤ length entries → marked c ≡ false → ListInv n listed entries marked → ListInv n (listed + 1) (set entries listed c) (changed marked c true)
-list-more {n} {listed} {entries} {marked} c h z off inv =
-    record {
-      count = ap (λ (k : ℕ). k + 1) (inv .count) ∙ add-one (countUnder n marked) ∙ sym more;
-      names = names;
-      listing = at-each (λ (d : ℕ). d < n → changed marked c true d ≡ true → On d) c (λ b t. (listed, omega arith, here)) other;
-    }
-  where
-    On : ℕ → Type 0
-    On d = (i : ℕ) × (i < listed + 1) × (getD (set entries listed c) i 0 ≡ d)
-
-    more : countUnder n (changed marked c true) ≡ suc (countUnder n marked)
-    more = count-more n c marked h off
-
-    room : listed < length entries
-    room = omega (arith, inv .count, more, count-most n (changed marked c true))
-
-    here : getD (set entries listed c) listed 0 ≡ c
-    here = getD-set-same entries listed c 0 room
-
-    before : (i : ℕ) → i < listed → getD (set entries listed c) i 0 ≡ getD entries i 0
-    before i b = getD-set-other entries listed i c 0 (λ e. omega arith)
-
-    names : (i : ℕ) → i < listed + 1 → getD (set entries listed c) i 0 < n
-    names =
-        at-each (λ (i : ℕ). i < listed + 1 → getD (set entries listed c) i 0 < n) listed
-        (λ b. subst (λ (k : ℕ). k < n) (sym here) h)
-        (λ i o b. let under : i < listed = omega arith in subst (λ (k : ℕ). k < n) (sym (before i under)) (inv .names i under))
-
-    other : (d : ℕ) → (c ≡ d → ⊥) → d < n → changed marked c true d ≡ true → On d
-    other d o b t =
-        let old = inv .listing d b (sym (changed-other marked c true d o) ∙ t) in
-        (old .0, omega (arith, old .1), before (old .0) (old .1) ∙ old .2)
 
 -- ---- what changes
 
@@ -122,9 +71,8 @@ pub record Change : Type 0 where
   pub worker : ℕ
   pub cell : ℕ
   pub condition : Condition
-  pub listed : ℕ
+  pub dirty : List ℕ
   pub cache : List ℕ
-  pub entries : List ℕ
   pub current : ℕ → ℕ
   pub marked : ℕ → Bool
   pub unfinished : Unfinished
@@ -132,7 +80,9 @@ pub record Change : Type 0 where
 -- The board after a change.
 abbrev pub changedBoard : Change → Board → Board
 changedBoard ch b =
-    record { state = relisted (conditioned (b .state) (ch .worker) (ch .condition)) (ch .listed); memory = b .memory; cache = ch .cache }
+    let s = conditioned (b .state) (ch .worker) (ch .condition) in
+    let state : State = record { phase = s .phase; lines = s .lines; workers = s .workers; place = s .place; undo = s .undo; requested = s .requested; dirty = ch .dirty; worker = s .worker } in
+    record { state = state; memory = b .memory; cache = ch .cache }
 
 -- The machine after a change.
 abbrev pub changedMachine : Change → Machine → Machine
@@ -145,8 +95,7 @@ pub record Fits (b : Board) (m : Machine) (ch : Change) : Type 0 where
   pub currents : (d : ℕ) → (ch .cell ≡ d → ⊥) → ch .current d ≡ m .current d
   pub marks : (d : ℕ) → (ch .cell ≡ d → ⊥) → ch .marked d ≡ m .marked d
   pub here : CellInv (epochOf (b .memory)) (m .checkpointed (ch .cell)) (ch .current (ch .cell)) (ch .marked (ch .cell)) (view (b .memory) (ch .cell)) (view (ch .cache) (ch .cell))
-  pub list : ListInv (cells (m .lines)) (ch .listed) (ch .entries) (ch .marked)
-  pub size : length (ch .entries) ≡ length (b .entries)
+  pub dirty : Dirty (m .lines) (ch .dirty) (ch .marked)
   pub worker : WorkerInv (m .lines) (ch .cache) (ch .condition) (ch .unfinished)
   pub own : (d : ℕ) → Touches (ch .condition) d → ch .cell ≡ d
   pub alone : (u : ℕ) → u < b .state .workers → (ch .worker ≡ u → ⊥) → Touches (conditionOf (b .state) u) (ch .cell) → ⊥
@@ -238,8 +187,7 @@ module _ (b : Board) (m : Machine) (ch : Change) (run : RunningInv (m .lines) b 
         epochs = same-epoch ∙ ear .epochs;
         marks = λ c h. each-cell c h .marks;
         clean = λ c h. each-cell c h .clean;
-        listing = λ c h e. fits .list .listing c h (each-cell c h .marks ∙ eq-eqb _ _ e);
-        written = λ i h. absurd (not-begun (omega arith));
+        written = λ c h t p. absurd (not-begun (omega arith));
         within = omega arith;
         waiting = λ h. absurd (not-begun h);
         room = λ t e. ear .room t (sym same-epoch ∙ e);
@@ -300,8 +248,7 @@ module _ (b : Board) (m : Machine) (ch : Change) (run : RunningInv (m .lines) b 
         undoes = λ c h. each-cell c h .undo;
         current = λ c h. each-cell c h .current;
         spare = λ i k h n p q. fits .only .spare i k p q ∙ run .spare i k h n p q;
-        count = fits .list .count;
-        listed = fits .list .names;
+        dirty = fits .dirty;
         steps = run .steps;
         stage = early early-after;
         worker = each-worker;
@@ -312,7 +259,7 @@ module _ (b : Board) (m : Machine) (ch : Change) (run : RunningInv (m .lines) b 
 pub one-cell : (r : Run) (ch : Change) (crashed : Bool) → Inv r → Ready r (ch .worker) → Fits (r .board) (r .machine) ch → Inv (changedRun ch crashed r)
 one-cell r ch crashed inv now fits =
     record {
-      sizes = record { limits = inv .sizes .limits; memory = inv .sizes .memory; cache = record { size = fits .only .size ∙ inv .sizes .cache .size }; entries = subst (λ (n : ℕ). listWords (r .machine .lines) ≤ n) (sym (fits .size)) (inv .sizes .entries) };
+      sizes = record { limits = inv .sizes .limits; memory = inv .sizes .memory; cache = record { size = fits .only .size ∙ inv .sizes .cache .size } };
       kept = inv .kept;
       lost = inv .lost;
       phase = λ d. subst (λ (p : Phase). InPhase p (changedRun ch crashed r)) (sym (now .phase))

@@ -8,10 +8,10 @@ use lib.ListN.{length, getD}
 use Rattle.board.specs.declared.State.{State}
 use Rattle.board.specs.declared.Worker.{Worker}
 use Rattle.board.specs.declared.Phase.the-variants.{Running}
-use Rattle.board.specs.declared.Call.the-variants.{Read}
+use Rattle.board.specs.declared.Call.the-variants.{Read, Count}
 use Rattle.board.specs.Board.{Board}
 use Rattle.board.specs.State.{freeWorker, conditionOf, isRunning, dirtyCount}
-use Rattle.board.specs.Causes.{causes}
+use Rattle.board.specs.Causes.{causes, notRunning}
 use Rattle.board.specs.Effects.{stated, effect}
 use Rattle.board.specs.Next.{Taken}
 use Rattle.board.specs.Machine.{Machine, Unfinished, feed}
@@ -24,7 +24,7 @@ use Rattle.board.proofs.Checkpoint.Run.{Carried, quietly, is-running, r
 -- The record with other workers.
 abbrev pub manned : State → List Worker → State
 manned s workers =
-    record { phase = s .phase; lines = s .lines; workers = s .workers; listed = dirtyCount s; place = s .place; undo = s .undo; requested = s .requested; worker = workers }
+    record { phase = s .phase; lines = s .lines; workers = s .workers; place = s .place; undo = s .undo; requested = s .requested; dirty = s .dirty; worker = workers }
 
 -- The workers `ws` have the unfinished updates of the record's own, and no fewer of them wait once a checkpoint has taken a step.
 pub record Alike (s : State) (ws : List Worker) : Type 0 where
@@ -37,7 +37,7 @@ module _ {l : ℕ} (b : Board) (m : Machine) (ws : List Worker) (alike : Alike (
   -- The stage of a checkpoint stays.
   stage-manned : Stage l b m → Stage l (stated (manned (b .state) ws) b) m
   stage-manned (early e) =
-      early (record { epochs = e .epochs; marks = e .marks; clean = e .clean; listing = e .listing; written = e .written; within = e .within; waiting = λ h. alike .waits h (e .waiting h); room = e .room })
+      early (record { epochs = e .epochs; marks = e .marks; clean = e .clean; written = e .written; within = e .within; waiting = λ h. alike .waits h (e .waiting h); room = e .room })
   stage-manned (gap g) =
       gap (record {
         request = g .request;
@@ -71,8 +71,7 @@ module _ {l : ℕ} (b : Board) (m : Machine) (ws : List Worker) (alike : Alike (
         undoes = v .undoes;
         current = v .current;
         spare = v .spare;
-        count = v .count;
-        listed = v .listed;
+        dirty = v .dirty;
         steps = v .steps;
         stage = stage-manned (v .stage);
         worker = λ w h. alike .work w h l (b .cache) (m .unfinished w) (v .worker w h);
@@ -90,9 +89,18 @@ carried-workers r ws crashed inv d p alike =
     (running-manned (r .board) (r .machine) ws alike (s .running)))
     refl refl (λ c. refl)
 
+-- What leaves a running board and the machine as they were.
+carried-same : (r : Run) (crashed : Bool) → Inv r → r .crashed ≡ false → notRunning (r .board) ≡ false → Carried false r (record { board = r .board; machine = r .machine; crashed = crashed; erased = r .erased })
+carried-same r crashed inv d on =
+    carried-workers r (r .board .state .worker) crashed inv d (is-running (r .board .state .phase) (not-off (isRunning (r .board .state .phase)) on))
+    (record { eight = refl; work = λ w h l cache u i. i; touches = λ w n h t. t; waits = λ h a. a })
+
 -- A taken read.
 pub carried-read : (r : Run) (c : ℕ) → Inv r → r .crashed ≡ false → Taken (Read c) (r .board) → Carried false r (afterTaken (Read c) r)
 unfolding standsAt causes effect feed
-carried-read r c inv d t =
-    carried-workers r (r .board .state .worker) _ inv d (is-running (r .board .state .phase) (not-off (isRunning (r .board .state .phase)) (passed (Read c) (r .board) t 2)))
-    (record { eight = refl; work = λ w h l cache u i. i; touches = λ w n h t. t; waits = λ h a. a })
+carried-read r c inv d t = carried-same r _ inv d (passed (Read c) (r .board) t 2)
+
+-- A taken count.
+pub carried-count : (r : Run) → Inv r → r .crashed ≡ false → Taken Count (r .board) → Carried false r (afterTaken Count r)
+unfolding standsAt causes effect feed
+carried-count r inv d t = carried-same r _ inv d (passed Count (r .board) t 2)

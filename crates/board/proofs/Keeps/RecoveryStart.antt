@@ -29,7 +29,7 @@ started-recovery l xs b lim k =
     record {
       lines = k .header .lines;
       workers = k .header .workers;
-      listed = refl;
+      clean = refl;
       request = refl;
       free = refl;
       within = some-cell l lim;

@@ -24,10 +24,10 @@ use Rattle.board.specs.Machine.{Machine, counted, stepped, feed}
 use Rattle.board.specs.Sequence.{Run, erasedBy}
 use Rattle.board.proofs.Laws.Bools.{passedOver, clash, and-off}
 use Rattle.board.proofs.Laws.View.{View, view, view-mark, view-backup, view-store, view-backed, cell-line}
-use Rattle.board.proofs.Invariant.{Sizes, SameSizes, Own, AtPlace, RecoveryInv, RecoveryMachine, WorkerInv, Touches, progress, Early, early, RunningInv, InPhase, Inv}
+use Rattle.board.proofs.Invariant.{Sizes, SameSizes, Own, AtPlace, RecoveryInv, RecoveryMachine, WorkerInv, Touches, progress, Dirty, Early, early, RunningInv, InPhase, Inv}
 use Rattle.board.proofs.Laws.Taken.{afterTaken}
 use Rattle.board.proofs.Recovery.Board.{recovery-cases, past-cases, Underway, underway-placed, underway-opened, all-free}
-use Rattle.board.proofs.Laws.Count.{count-none}
+use Rattle.board.proofs.Laws.Dirty.{dirty-none}
 use Rattle.board.proofs.Laws.Rows.{epoch-back-other, spare-back, own-same, sizes-same, sizes-store, sizes-back}
 use Rattle.board.specs.Statements.{Unchanged}
 use Rattle.board.proofs.Checkpoint.Run.{Carried, quiet}
@@ -65,7 +65,7 @@ recovering b u own k here =
     record {
       lines = u .lines;
       workers = u .workers;
-      listed = u .listed;
+      clean = u .clean;
       request = u .request;
       free = u .free;
       within = u .within;
@@ -87,8 +87,7 @@ passed-early b m v u k =
       epochs = k .cache .epoch;
       marks = λ c h. v .marked c ∙ sym (ne-eqb (view (b .cache) c .mark) (epochOf (b .memory)) (k .marks .passedCache c h));
       clean = λ c h o. k .memory .undoes c h .plain (k .marks .passedMemory c h) ∙ sym (k .cache .undoes c h .plain o);
-      listing = λ c h q. absurd (k .marks .passedCache c h q);
-      written = λ i h. absurd (omega (arith, still));
+      written = λ c h t p. absurd (omega (arith, still));
       within = omega (arith, still);
       waiting = λ h. absurd (omega (arith, still));
       room = λ t. absurd (clash t (u .request));
@@ -110,8 +109,7 @@ running {l} b m v u own k =
       undoes = k .cache .undoes;
       current = λ c h. k .cache .undoes c h .plain (k .marks .passedCache c h) ∙ sym (v .current c);
       spare = k .spare;
-      count = u .listed ∙ sym (count-none _ (m .marked) (v .marked));
-      listed = λ i h. absurd (omega (arith, u .listed));
+      dirty = subst (λ (words : List ℕ). Dirty l words (m .marked)) (sym (u .clean)) (dirty-none l (m .marked) (v .marked));
       steps = λ t. absurd (clash t (u .request));
       stage = early (passed-early b m v u k);
       worker = λ n h. subst (λ (x : Condition). WorkerInv l (b .cache) x (m .unfinished n)) (sym (all-free u n)) (v .unfinished n);
@@ -123,7 +121,7 @@ running {l} b m v u own k =
 module _ (r : Run) (m : RecoveryMachine (r .machine)) (off : r .erased ≡ false) (on : r .board .state .phase ≡ Recovering) (sizes : Sizes (r .machine .lines) (r .board)) (u : Underway (r .machine .lines) (r .board .state)) (own : Own (r .board)) where
   -- The board with other rows and another state record.
   abbrev left : State → List ℕ → List ℕ → Board
-  left s memory cache = record { state = s; memory = memory; cache = cache; entries = r .board .entries }
+  left s memory cache = record { state = s; memory = memory; cache = cache }
 
   -- What holds in every phase holds of a recovery's rows.
   every-phase : {e place : ℕ} (s : State) (memory cache : List ℕ) → Restoring (r .machine .lines) e (r .machine .checkpointed) place memory cache → InPhase (s .phase) (stepRun r (left s memory cache)) → Inv (stepRun r (left s memory cache))
@@ -152,9 +150,9 @@ module _ (r : Run) (m : RecoveryMachine (r .machine)) (off : r .erased ≡ false
       ))
 
   -- The step that ends the recovery.
-  ends : {e : ℕ} (memory cache : List ℕ) → SameSizes (r .board .memory) memory → SameSizes (r .board .cache) cache → Restoring (r .machine .lines) e (r .machine .checkpointed) (cells (r .machine .lines)) memory cache → Inv (stepRun r (left (opened (r .board .state) (dirtyCount (r .board .state))) memory cache))
+  ends : {e : ℕ} (memory cache : List ℕ) → SameSizes (r .board .memory) memory → SameSizes (r .board .cache) cache → Restoring (r .machine .lines) e (r .machine .checkpointed) (cells (r .machine .lines)) memory cache → Inv (stepRun r (left (opened (r .board .state) (r .board .state .dirty)) memory cache))
   ends memory cache sm sc k =
-      let s = opened (r .board .state) (dirtyCount (r .board .state)) in
+      let s = opened (r .board .state) (r .board .state .dirty) in
       every-phase s memory cache k
       (running (left s memory cache) (counted (r .machine)) counting (underway-opened (omega (arith, u .within)) u) (own-same (r .board) (left s memory cache) refl sm sc own) (restoring-own k), off)
 
@@ -226,7 +224,7 @@ keeps-recovery-step r inv lit phase =
     let i = p .0 in
     let h = i .within in
     let k = rows-of r inv (p .2) i in
-    let u : Underway (r .machine .lines) s = record { lines = i .lines; workers = i .workers; listed = i .listed; request = i .request; free = i .free; within = h } in
+    let u : Underway (r .machine .lines) s = record { lines = i .lines; workers = i .workers; clean = i .clean; request = i .request; free = i .free; within = h } in
     subst Inv (after-step r (p .1))
     (recovery-cases (λ (b : Board). Inv (stepRun r b)) (r .board) phase
     (λ q y.

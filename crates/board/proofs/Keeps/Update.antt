@@ -21,7 +21,7 @@ use Rattle.board.proofs.Laws.Bools.{clash, or-right, and-not, and-both,
 use Rattle.board.proofs.Laws.View.{View, view, view-mark}
 use Rattle.board.proofs.Invariant.{BeforeStore, storesLeft, WorkerInv, Touches, Inv}
 use Rattle.board.proofs.Laws.Taken.{standsAt, passed, afterTaken, workers-in}
-use Rattle.board.proofs.Keeps.OneCell.{cell-inv, list-inv, only-none, Change, changedRun, Ready, ready, one-cell}
+use Rattle.board.proofs.Keeps.OneCell.{cell-inv, only-none, Change, changedRun, Ready, ready, one-cell}
 use Rattle.board.specs.Next.{Taken}
 
 -- ---- what the passed tests say
@@ -57,7 +57,7 @@ started-worker l c v cache marked h e =
 -- What the start of an update of cell `c` leaves.
 abbrev starting : ℕ → ℕ → ℕ → Board → Machine → Change
 starting w c v b m =
-    record { worker = w; cell = c; condition = Updating (firstStore (b .cache) c) c v; listed = dirtyCount (b .state); cache = b .cache; entries = b .entries; current = m .current; marked = m .marked; unfinished = update c v (cond (m .marked c) 1 3) }
+    record { worker = w; cell = c; condition = Updating (firstStore (b .cache) c) c v; dirty = b .state .dirty; cache = b .cache; current = m .current; marked = m .marked; unfinished = update c v (cond (m .marked c) 1 3) }
 
 -- A cell is marked in the machine where it is logged in the cache.
 pub marked-logged : (r : Run) {w : ℕ} → Ready r w → (c : ℕ) → c < cells (r .machine .lines) → r .machine .marked c ≡ logged (r .board .cache) c
@@ -74,8 +74,7 @@ start r w c v crashed inv now h e =
       currents = λ d o. refl;
       marks = λ d o. refl;
       here = cell-inv (now .run) (now .stage) c h;
-      list = list-inv (now .run) (now .stage);
-      size = refl;
+      dirty = now .run .dirty;
       worker = started-worker (m .lines) c v (b .cache) (m .marked c) h (marked-logged r now c h);
       own = λ d t. t;
       alone = alone (b .state) w c (workers-in (m .lines) (b .state .workers) (now .run .workers) .1) e;

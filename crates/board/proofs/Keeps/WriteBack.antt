@@ -22,7 +22,7 @@ use Rattle.board.proofs.Laws.View.{View, view, sized-back}
 use Rattle.board.proofs.Invariant.{Undoes, Sizes, AtPlace, RecoveryInv, Stage, early, gap, late, RunningInv, InPhase, Inv}
 use Rattle.board.proofs.Laws.Rows.{spare-back, spare-backed, own-same, sizes-same, sizes-back}
 use Rattle.board.proofs.Laws.Taken.{standsAt, passed, afterTaken}
-use Rattle.board.proofs.Checkpoint.Run.{Carried, RunningRun, running-run}
+use Rattle.board.proofs.Checkpoint.Run.{Carried, RunningRun, running-run, running-count}
 use Rattle.board.proofs.Checkpoint.Memory.{both-back, epoch-back, kept-back}
 use Rattle.board.proofs.Checkpoint.Stages.{place-high, early-back, gap-back, late-back}
 use Rattle.board.proofs.Checkpoint.Back.{backRun, quiet-back, header-back}
@@ -43,7 +43,7 @@ recovery-back {l} {xs} b z i h v =
     record {
       lines = v .lines;
       workers = v .workers;
-      listed = v .listed;
+      clean = v .clean;
       request = v .request;
       free = v .free;
       within = v .within;
@@ -137,7 +137,7 @@ carried-running r s i h =
     header : (i ≡ 0) × (m .requested ≡ true) × (markedCount m + 1 ≤ m .steps) → Carried false r (after i (m .current))
     header p =
         let on : b .state .requested ≡ true = sym (v .request) ∙ p .1 in
-        let past : dirtyCount (b .state) + 1 ≤ b .state .place = omega (arith, v .count, v .steps on, p .2) in
+        let past : dirtyCount (b .state) + 1 ≤ b .state .place = omega (arith, running-count s, v .steps on, p .2) in
         subst (λ (j : ℕ). Carried false r (after j (m .current))) (sym (p .0))
         (header-back r s (b .state .place) (m .steps) (v .steps) (r .crashed && true) on past past (place-high on (v .stage)) (v .stage))
 
@@ -145,9 +145,9 @@ carried-running r s i h =
     quiet e stage = quiet-back r s (b .state .place) (m .steps) (v .steps) (r .crashed && true) i h e (m .checkpointed) (λ c p. refl) stage
 
     other : completes i m ≡ false → Stage (m .lines) b m → Carried false r (after i (m .checkpointed))
-    other f (early e) = quiet (λ q. e .epochs) (early (early-back b (s .inv .sizes) i h (v .listed) e))
+    other f (early e) = quiet (λ q. e .epochs) (early (early-back b (s .inv .sizes) i h e))
     other f (gap g) =
-        let o : i ≡ 0 → ⊥ = completes-not i m f (v .request ∙ g .request) (omega (arith, v .count, v .steps (g .request), g .place)) in
+        let o : i ≡ 0 → ⊥ = completes-not i m f (v .request ∙ g .request) (omega (arith, running-count s, v .steps (g .request), g .place)) in
         quiet (λ q. absurd (o q)) (gap (gap-back b (s .inv .sizes) i h o g))
     other f (late e) =
         let z = s .inv .sizes in

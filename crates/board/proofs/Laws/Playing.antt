@@ -9,7 +9,7 @@ use Rattle.board.specs.declared.Call.{Call}
 use Rattle.board.specs.declared.Call.the-variants.{RecoveryStart, Step}
 use Rattle.board.specs.Board.{Board}
 use Rattle.board.specs.Causes.{cause}
-use Rattle.board.specs.Next.{Taken, taken, next, Kind, startsFormat, startsRecovery, stepping, writing, other, reading, kind, isStart, isStep, valueOf, Performed}
+use Rattle.board.specs.Next.{Taken, taken, next, Kind, startsFormat, startsRecovery, stepping, writing, counting, other, reading, kind, isStart, isStep, valueOf, Performed}
 use Rattle.board.specs.Sequence.{Takes, finished, steps, between, Run, takenCall, unfed, called, Happens, performs, History, further, recoverySteps}
 use Rattle.board.specs.Statements.{Recovered}
 use Rattle.board.specs.Bench.{afterCalls}
@@ -53,6 +53,7 @@ byKind startsFormat more same = false
 byKind startsRecovery more same = false
 byKind stepping more same = more
 byKind writing more same = same
+byKind counting more same = same
 byKind other more same = same
 byKind (reading c) more same = same
 
@@ -74,6 +75,7 @@ taken-test b more same k startsRecovery e t f g h = absurd (false≢true h)
 taken-test {n} {b′} b more same k stepping e t f g h =
     subst (λ (j : Call). Taken j b → Takes n (next j b) b′ → Takes (suc n) b b′) (sym (of-kind k stepping e)) (λ s rest. steps (performing Step b s refl refl) rest) t (f h)
 taken-test b more same k writing e t f g h = between k (performing k b t refl refl) (λ z. ap (λ (x : Kind). isStart x || isStep x) e) (g h)
+taken-test b more same k counting e t f g h = between k (performing k b t refl refl) (λ z. ap (λ (x : Kind). isStart x || isStep x) e) (g h)
 taken-test b more same k other e t f g h = between k (performing k b t refl refl) (λ z. ap (λ (x : Kind). isStart x || isStep x) e) (g h)
 taken-test b more same k (reading c) e t f g h = between k (performing k b t refl refl) (λ z. ap (λ (x : Kind). isStart x || isStep x) e) (g h)
 

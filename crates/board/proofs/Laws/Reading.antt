@@ -23,7 +23,7 @@ use Rattle.board.specs.Sequence.{Run}
 use Rattle.board.proofs.Laws.Bools.{split, chosen, and-off, and-off-right, not-on}
 use Rattle.board.proofs.Laws.View.{view, view-value}
 use Rattle.board.proofs.Invariant.{Inv, InPhase, RunningInv, Stage, early, gap, late, WorkerInv, progress}
-use Rattle.board.proofs.Laws.Count.{count-most}
+use Rattle.board.proofs.Laws.Dirty.{dirty-fine}
 use Rattle.board.proofs.Laws.Taken.{Clear, take, rows-fine, record-fine}
 
 -- A checkpoint's place is at most two past the list.
@@ -42,10 +42,10 @@ cell-fine l b Away u i = refl
 cell-fine l b (Updating next c v) u i = lt-leb (cells l) c (i .1)
 
 -- The state record of a running board passes its test.
-pub running-record : (l : ℕ) (b : Board) (m : Machine) → linesOutside l ≡ false → b .state .phase ≡ Running → RunningInv l b m → m .lines ≡ l → badRecord (b .state) ≡ false
-running-record l b m lo p i n =
+pub running-record : (l : ℕ) (b : Board) (m : Machine) → linesOutside l ≡ false → b .state .phase ≡ Running → RunningInv l b m → badRecord (b .state) ≡ false
+running-record l b m lo p i =
     record-fine l (b .state) (i .lines) lo (i .workers)
-    (let h = count-most (cells (m .lines)) (m .marked) in omega (arith, i .count, n))
+    (dirty-fine (b .state .dirty) (m .marked) (i .dirty))
     (subst (λ (ph : Phase). placePast ph (b .state) ≡ false) (sym p)
     (split (b .state .requested)
     (λ q. and-off-right (b .state .requested) (ltb (dirtyCount (b .state) + 2) (b .state .place)) (le-ltb (dirtyCount (b .state) + 2) (b .state .place) (place-in l b m (i .stage) q)))
@@ -73,7 +73,7 @@ running-passes r i d p =
     let v : RunningInv (r .machine .lines) (r .board) (r .machine) = in-phase r i d Running p .0 in
     record {
       phase = not-on (isRunning (r .board .state .phase)) (ap isRunning p);
-      state = running-record (r .machine .lines) (r .board) (r .machine) (i .sizes .limits) p v refl;
+      state = running-record (r .machine .lines) (r .board) (r .machine) (i .sizes .limits) p v;
       rows = subst (λ (l : ℕ). badRows l (r .board) ≡ false) (sym (v .lines)) (rows-fine (r .machine .lines) (r .board) (i .sizes));
     }
 

@@ -44,7 +44,7 @@ ready-within b k = omega (arith, k .underway .lines, k .underway .within)
 pub ready-taken : {l : ℕ} (b : Board) → Ready l b → Taken Step b
 ready-taken {l} b k =
     let u = k .underway in
-    idle-step-taken l b (k .sizes) (u .lines) (u .workers) (u .listed) (u .free) (ap isOff (k .phase)) (ap isRunning (k .phase))
+    idle-step-taken l b (k .sizes) (u .lines) (u .workers) (u .clean) (u .free) (ap isOff (k .phase)) (ap isRunning (k .phase))
     (subst (λ (p : Phase). placePast p (b .state) ≡ false) (sym (k .phase)) (lt-leb (cells (b .state .lines)) (b .state .place) (ready-within b k)))
 
 -- Where the recovery goes on after a step, the next step can be taken too.
@@ -86,7 +86,7 @@ ready-start b t =
     record {
       phase = refl;
       sizes = z;
-      underway = record { lines = refl; workers = started-header b t .2; listed = refl; request = refl; free = refl; within = some-cell (linesOf (b .memory)) (z .limits) };
+      underway = record { lines = refl; workers = started-header b t .2; clean = refl; request = refl; free = refl; within = some-cell (linesOf (b .memory)) (z .limits) };
     }
 
 -- ---- the end

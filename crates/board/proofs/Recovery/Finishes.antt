@@ -15,7 +15,7 @@ use Rattle.board.specs.declared.Call.the-variants.{RecoveryStart, Step, 
 use Rattle.board.specs.Board.{Board, cells, workersOf}
 use Rattle.board.specs.State.{isRunning}
 use Rattle.board.specs.Effects.{effect}
-use Rattle.board.specs.Next.{Taken, valueRead, Kind, startsFormat, startsRecovery, stepping, writing, other, reading, kind, isStart, isStep}
+use Rattle.board.specs.Next.{Taken, valueRead, Kind, startsFormat, startsRecovery, stepping, writing, counting, other, reading, kind, isStart, isStep}
 use Rattle.board.specs.Machine.{Machine, feed, stepped, finishesFormat, beginning, counted, completed, checkpointStep, writeBackSeen, markedCount}
 use Rattle.board.specs.Sequence.{Run, Takes, finished, steps, between, paged, recoverySteps}
 use Rattle.board.specs.Statements.{Recovered, SameBoard, Completes}
@@ -154,6 +154,7 @@ module _ (l w : ℕ) (xs : ℕ → ℕ) where
       by-kind writing q o p =
           let (i, same) = of-kind k writing q in
           subst (λ (x : Call). Underway n l w xs (afterTaken x r)) (sym same) (written-back n i r u (subst (λ (x : Call). Taken x (r .board)) same t))
+      by-kind counting q o p = absurd (not-running (r .board) (u .phase) p)
       by-kind other q o p = absurd (not-running (r .board) (u .phase) p)
       by-kind (reading c) q o p = absurd (not-running (r .board) (u .phase) p)
 

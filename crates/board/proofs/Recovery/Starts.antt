@@ -26,12 +26,10 @@ rows-pass l b z =
     let m = z .memory .size in
     let k = z .cache .size in
     let n = length (b .memory) in
-    or-none (not (eqb (n % 8) 0 && leb 16 n && leb n 4096) || not (eqb (length (b .cache)) n)) (ltb (length (b .entries)) (n / 4 - 2))
-    (or-none (not (eqb (n % 8) 0 && leb 16 n && leb n 4096)) (not (eqb (length (b .cache)) n))
+    or-none (not (eqb (n % 8) 0 && leb 16 n && leb n 4096)) (not (eqb (length (b .cache)) n))
     (not-on (eqb (n % 8) 0 && leb 16 n && leb n 4096)
     (and-both (eqb (n % 8) 0 && leb 16 n) (leb n 4096) (and-both (eqb (n % 8) 0) (leb 16 n) (eq-eqb (n % 8) 0 (omega arith)) (le-leb 16 n (omega arith))) (le-leb n 4096 (omega arith))))
-    (not-on (eqb (length (b .cache)) n) (eq-eqb (length (b .cache)) n (k ∙ sym m))))
-    (le-ltb (length (b .entries)) (n / 4 - 2) (omega (arith, z .entries)))
+    (not-on (eqb (length (b .cache)) n) (eq-eqb (length (b .cache)) n (k ∙ sym m)))
 
 -- A good header passes recovery's test.
 header-passes : (l : ℕ) (b : Board) → Sizes l b → Header l (b .memory) → badHeader (b .memory) ≡ false

@@ -1,10 +1,12 @@
 -- What a request leaves, and the end of a format or recovery.
 use Prim.Native.Nat.{ℕ}
 use mathlib.Core.Path.{_≡_, refl, sym, ap, subst, _∙_}
+use mathlib.Core.List.{List}
 use native.Mathlib.Omega.{arith}
 use lib.Dec.{leb}
 use lib.ListN.{length}
 use borrow.Author.Tests.{lt-leb}
+use Rattle.bitset.specs.Words.{empty}
 use Rattle.board.specs.declared.State.{State}
 use Rattle.board.specs.declared.Phase.{Phase}
 use Rattle.board.specs.declared.Phase.the-variants.{Recovering}
@@ -24,16 +26,16 @@ pub requests : Requests
 unfolding effect
 requests b t =
     subst (Asked b) (sym (taken-next Request b t))
-    (record { request = refl; place = refl; undo = refl; phase = refl; lines = refl; workers = refl; listed = refl; worker = refl; memory = refl; cache = refl; entries = refl })
+    (record { request = refl; place = refl; undo = refl; phase = refl; lines = refl; workers = refl; dirty = refl; worker = refl; memory = refl; cache = refl })
 
 -- A board with an opened record.
-opens : (listed : ℕ) (b b′ : Board) → b′ .state ≡ opened (b .state) listed → Opened listed b b′
-opens listed b b′ e =
+opens : (dirty : List ℕ) (b b′ : Board) → b′ .state ≡ opened (b .state) dirty → Opened dirty b b′
+opens dirty b b′ e =
     record {
       phase = ap (λ (s : State). s .phase) e;
       lines = ap (λ (s : State). s .lines) e;
       workers = ap (λ (s : State). s .workers) e;
-      list = ap (λ (s : State). dirtyCount s) e;
+      lineBits = ap (λ (s : State). s .dirty) e;
       place = ap (λ (s : State). s .place) e;
       undo = ap (λ (s : State). s .undo) e;
       request = ap (λ (s : State). s .requested) e;
@@ -45,7 +47,7 @@ opens listed b b′ e =
 pub format-opens : FormatOpens
 unfolding effect step formatStep
 format-opens b p t e =
-    opens 0 b _ (ap (λ (d : Board). d .state)
+    opens empty b _ (ap (λ (d : Board). d .state)
     (taken-next Step b t ∙ ap (λ (q : Phase). step q (b .state) b) p
     ∙ passedOver (leb (b .state .place) (b .state .lines)) (erasing b) (finishing b) (lt-leb (b .state .place) (b .state .lines) (omega arith))))
 
@@ -57,7 +59,7 @@ past-opens s p = past-cases (λ (x : State). (x .phase ≡ Recovering → ⊥) �
 pub recovery-opens : RecoveryOpens
 recovery-opens b p t o =
     let same = taken-next Step b t in
-    subst (Opened (dirtyCount (b .state)) b) (sym same)
-    (recovery-cases (λ (d : Board). (d .state .phase ≡ Recovering → ⊥) → Opened (dirtyCount (b .state)) b d) b p
+    subst (Opened (b .state .dirty) b) (sym same)
+    (recovery-cases (λ (d : Board). (d .state .phase ≡ Recovering → ⊥) → Opened (b .state .dirty) b d) b p
     (λ q y n. absurd (n p)) (λ q y n. opens _ b _ (past-opens (b .state) p n)) (λ q n. absurd (n p)) (λ q n. opens _ b _ (past-opens (b .state) p n))
     (λ e. o (ap (λ (d : Board). d .state .phase) same ∙ e)))

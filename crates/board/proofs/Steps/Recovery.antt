@@ -15,10 +15,9 @@ use Rattle.board.specs.declared.UndoStep.the-variants.{Unmark, WriteLine
 use Rattle.board.specs.declared.Call.the-variants.{Step}
 use Rattle.board.specs.Board.{Board, cells}
 use Rattle.board.specs.State.{placed, isRecovering}
-use Rattle.board.specs.Causes.{causes, placePast, badRows, badEntry}
+use Rattle.board.specs.Causes.{causes, placePast, badRows}
 use Rattle.board.specs.Effects.{cached, stated, backed, pastCell}
 use Rattle.board.specs.Steps.{OnlyCell, RecoveryWrites}
-use Rattle.board.proofs.Laws.Bools.{or-left}
 use Rattle.board.proofs.Laws.View.{cell-in}
 use Rattle.board.proofs.Invariant.{Sizes}
 use Rattle.board.proofs.Laws.Taken.{standsAt, passed, taken-next, record-within}
@@ -32,7 +31,7 @@ use Rattle.board.specs.Next.{Taken}
 step-sizes : (b : Board) → Taken Step b → Sizes (b .state .lines) b
 unfolding standsAt causes
 step-sizes b t =
-    rows-sized (b .state .lines) b (record-within (b .state) (passed Step b t 3) .0) (or-left (badRows (b .state .lines) b) (badEntry b) (passed Step b t 4))
+    rows-sized (b .state .lines) b (record-within (b .state) (passed Step b t 3) .0) (passed Step b t 4)
 
 -- A taken step of a recovery is at a cell of the board.
 step-cell : (b : Board) → b .state .phase ≡ Recovering → Taken Step b → b .state .place < cells (b .state .lines)
@@ -64,7 +63,7 @@ stores-cell b f v other s e =
 -- A step that stores nothing.
 stores-none : (b : Board) → OnlyCell (b .state .place) b (stated (pastCell (b .state)) b)
 stores-none b =
-    record { cache = λ i r m. refl; cacheSize = refl; memory = λ i o. refl; memorySize = refl; entries = refl; place = past-place (b .state) }
+    record { cache = λ i r m. refl; cacheSize = refl; memory = λ i o. refl; memorySize = refl; place = past-place (b .state) }
 
 -- The line of the cell at the place written back.
 stores-line : (b : Board) → Sizes (b .state .lines) b → b .state .place < cells (b .state .lines) → OnlyCell (b .state .place) b (backed (cellLine (b .state .place)) (pastCell (b .state)) b)

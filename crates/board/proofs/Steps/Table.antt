@@ -65,7 +65,7 @@ table-both-ways k b =
 -- Within 01's limits and with rows that fit, a format starts on any board.
 pub format-starts : FormatStarts
 unfolding Clear causes
-format-starts l w b l1 l511 w1 w8 less memory cache entries =
+format-starts l w b l1 l511 w1 w8 less memory cache =
     let limits = in-lines l (l1, l511) in
-    let sizes : Sizes l b = record { limits = limits; memory = record { size = memory }; cache = record { size = cache }; entries = entries } in
+    let sizes : Sizes l b = record { limits = limits; memory = record { size = memory }; cache = record { size = cache } } in
     take (FormatStart l w) b (or-none (linesOutside l) (workersOutside l w) limits (in-workers l w (w1, w8, less)), (rows-fine l b sizes, tt))

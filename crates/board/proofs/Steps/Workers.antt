@@ -38,7 +38,7 @@ releases b e t p =
     (record {
       eight = refl;
       workersAfter = released-away (b .state);
-      empty = refl;
+      clean = refl;
       request = refl;
       place = refl;
       undo = refl;
@@ -93,7 +93,7 @@ only-worker w condition b h =
       phase = refl;
       lines = refl;
       workers = refl;
-      listed = refl;
+      dirty = refl;
       place = refl;
       undo = refl;
       request = refl;

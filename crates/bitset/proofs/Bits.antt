@@ -1,0 +1,195 @@
+-- Laws of a word's bits.
+use Prim.Native.Nat.{ℕ, zero, suc, _+_, _-_, _*_, _/_, _%_, _^_, _≤_, _<_, max}
+use mathlib.Core.Path.{_≡_, refl, sym, ap, ap₂, subst, _∙_}
+use mathlib.Core.Bool.{Bool, true, false, cond, _&&_}
+use native.Mathlib.Omega.{arith}
+use native.Mathlib.Decide.{decLt}
+use native.Mathlib.Nat.{suc-mul, mul-comm, max-zero, mod-lt, div-one, zero-div, div-self, div-eq-of-lt, mul-div-cancel, mul-mod-left, pow-suc}
+use native.Mathlib.Numerals.{one-add}
+use lib.Dec.{ltb, eqb}
+use lib.Arith.{digits-mod}
+use lib.Pow.{pow-pos, pow-lt, pow-add, shr-shr, shr-lt, shl-shr, split as divided}
+use lib.Bits.{bitOr, or-step, or-block, or-shr, or-zero-r}
+use lib.Count.{ones, ones-step, trailingZeros}
+use borrow.Author.Tests.{ltb-true, lt-ltb, eqb-true, eqb-false, eq-eqb, ne-eqb}
+use Rattle.text.proofs.Bools.{split, chosen, passedOver, and-off, and-off-right, and-before}
+use Rattle.bitset.specs.Passing.{anyUnder, countUnder, nthUnder}
+use Rattle.bitset.specs.Words.{bitOf, withBit}
+use Rattle.bitset.proofs.Passing.{none-under, under-none, oneIf, Nth, one-on, one-off, count-alike, count-split, count-shift, count-mono, nth-found, nth-unique}
+
+-- ---- a word shifted
+
+-- The bits of a word shifted down by `k` are its bits from `k` on.
+pub bit-shift : (n k i : ℕ) → bitOf (n / 2 ^ k) i ≡ bitOf n (k + i)
+unfolding bitOf
+bit-shift n k i = ap (λ (x : ℕ). eqb (x % 2) 1) (shr-shr n k i)
+
+-- The same by one bit.
+bit-half : (n i : ℕ) → bitOf n (suc i) ≡ bitOf (n / 2) i
+bit-half n i = ap (bitOf n) (sym (one-add i)) ∙ sym (bit-shift n 1 i)
+
+halved : (n : ℕ) → _≡_ {A = ℕ → Bool} (λ i. bitOf n (suc i)) (bitOf (n / 2))
+halved n j i = bit-half n i j
+
+-- The lowest bit.
+pub low-bit : (n : ℕ) → bitOf n 0 ≡ eqb (n % 2) 1
+unfolding bitOf
+low-bit n = ap (λ (x : ℕ). eqb (x % 2) 1) (div-one n)
+
+low-on : (n : ℕ) → bitOf n 0 ≡ true → n % 2 ≡ 1
+low-on n t = eqb-true (n % 2) 1 (sym (low-bit n) ∙ t)
+
+low-off : (n : ℕ) → bitOf n 0 ≡ false → n % 2 ≡ 0
+low-off n t = let odd = eqb-false (n % 2) 1 (sym (low-bit n) ∙ t) in omega arith
+
+half-lt : (n k : ℕ) → n < 2 ^ suc k → n / 2 < 2 ^ k
+half-lt n k h = shr-lt k 1 (subst (λ (x : ℕ). n < 2 ^ x) (let e : suc k ≡ k + 1 = omega arith in e) h)
+
+-- ---- how many are set
+
+-- A word of `k` bits has as many set as it has digits that are 1.
+pub ones-count : (k n : ℕ) → n < 2 ^ k → ones n ≡ countUnder k (bitOf n)
+unfolding ones countUnder
+ones-count zero n h = ap ones (let e : n ≡ 0 = omega arith in e)
+ones-count (suc k) n h =
+    let below = ones-count k (n / 2) (half-lt n k h) in
+    let rest = count-shift k (bitOf n) ∙ ap (λ (f : ℕ → Bool). oneIf (bitOf n 0) + countUnder k f) (halved n) in
+    let low : n % 2 ≡ oneIf (bitOf n 0) =
+      split (bitOf n 0) (λ t. low-on n t ∙ sym (one-on (bitOf n 0) t)) (λ t. low-off n t ∙ sym (one-off (bitOf n 0) t)) in
+    ones-step n ∙ ap₂ (λ (x y : ℕ). x + y) low below ∙ sym rest
+
+-- ---- the lowest that is set
+
+-- As many zeros stand below the lowest set bit as its number says.
+trailing : (k n : ℕ) → trailingZeros k n ≡ nthUnder k (bitOf n) 0
+unfolding trailingZeros nthUnder
+trailing zero n = refl
+trailing (suc k) n =
+    split (bitOf n 0)
+    (λ t. rw (low-on n t, t))
+    (λ t. rw (low-off n t, t) (ap suc (trailing k (n / 2) ∙ ap (λ (f : ℕ → Bool). nthUnder k f 0) (sym (halved n)))))
+
+-- Of a word in which bits from `at` on are set, the lowest of them is as far from `at` as there are zeros below it in the word shifted down to it.
+pub next-set : (w at : ℕ) → countUnder at (bitOf w) < countUnder 64 (bitOf w) → Nth 64 (bitOf w) (countUnder at (bitOf w)) (at + trailingZeros 64 (w / 2 ^ at))
+next-set w at h =
+    let t = trailingZeros 64 (w / 2 ^ at) in
+    let from : _≡_ {A = ℕ → Bool} (bitOf (w / 2 ^ at)) (λ i. bitOf w (at + i)) = λ j i. bit-shift w at i j in
+    let shifted = ap (countUnder 64) from in
+    let left : 0 < countUnder 64 (bitOf (w / 2 ^ at)) =
+      omega (arith, count-split at 64 (bitOf w), count-mono 64 (at + 64) (bitOf w) (omega arith)) in
+    let lowest : Nth 64 (bitOf (w / 2 ^ at)) 0 t =
+      subst (Nth 64 (bitOf (w / 2 ^ at)) 0) (sym (trailing 64 (w / 2 ^ at))) (nth-found 64 (bitOf (w / 2 ^ at)) 0 left) in
+    let none : countUnder t (λ i. bitOf w (at + i)) ≡ 0 = ap (countUnder t) (sym from) ∙ lowest .rank in
+    let same : countUnder (at + t) (bitOf w) ≡ countUnder at (bitOf w) = omega (arith, count-split at t (bitOf w)) in
+    let inside : at + t < 64 =
+      elim (decLt (at + t) 64) [ yes b ↦ b | no b ↦ absurd (omega (arith, count-mono 64 (at + t) (bitOf w) (omega arith))) ] in
+    record { passes = sym (bit-shift w at t) ∙ lowest .passes; rank = same; within = inside }
+
+-- ---- a bit set
+
+-- The digit of a power of two at its own place, and at another.
+power-own : (b : ℕ) → 2 ^ b / 2 ^ b % 2 ≡ 1
+power-own b = ap (λ (x : ℕ). x % 2) (div-self (pow-pos b))
+
+power-below : (j k : ℕ) → 2 ^ (j + suc k) / 2 ^ j % 2 ≡ 0
+power-below j k =
+    ap (λ (x : ℕ). x / 2 ^ j % 2) (pow-add 2 j (suc k) ∙ mul-comm (2 ^ j) (2 ^ suc k))
+    ∙ ap (λ (x : ℕ). x % 2) (mul-div-cancel (2 ^ suc k) (pow-pos j) ∙ pow-suc 2 k)
+    ∙ mul-mod-left (2 ^ k) 2
+
+power-other : (b j : ℕ) → (j ≡ b → ⊥) → 2 ^ b / 2 ^ j % 2 ≡ 0
+power-other b j n =
+    elim (decLt j b) [
+      | yes h ↦
+          let e : b ≡ j + suc (b - suc j) = omega arith in
+          ap (λ (x : ℕ). 2 ^ x / 2 ^ j % 2) e ∙ power-below j (b - suc j)
+      | no h ↦ ap (λ (x : ℕ). x % 2) (div-eq-of-lt (pow-lt (let l : b < j = omega (arith, n) in l)))
+    ]
+
+-- The digit of a union is the greater of the two.
+or-digit : (a c j : ℕ) → bitOr a c / 2 ^ j % 2 ≡ max (a / 2 ^ j % 2) (c / 2 ^ j % 2)
+or-digit a c j =
+    ap (λ (x : ℕ). x % 2) (or-shr a c j ∙ or-step (a / 2 ^ j) (c / 2 ^ j))
+    ∙ digits-mod (bitOr (a / 2 ^ j / 2) (c / 2 ^ j / 2)) (let l : max (a / 2 ^ j % 2) (c / 2 ^ j % 2) < 2 = omega arith in l)
+
+bit-on : (w b : ℕ) → bitOf w b ≡ true → w / 2 ^ b % 2 ≡ 1
+unfolding bitOf
+bit-on w b t = eqb-true (w / 2 ^ b % 2) 1 t
+
+bit-off : (w b : ℕ) → bitOf w b ≡ false → w / 2 ^ b % 2 ≡ 0
+unfolding bitOf
+bit-off w b t = let odd = eqb-false (w / 2 ^ b % 2) 1 t in omega arith
+
+-- A union with a power of two sets its bit: the digits from `b` on are united with 1.
+pub or-bit : (w b : ℕ) → bitOr w (2 ^ b) ≡ withBit w b
+unfolding withBit
+or-bit w b =
+    let h = w / 2 ^ b in
+    let l = w % 2 ^ b in
+    let apart = ap₂ bitOr (sym (divided w b)) (let e : 2 ^ b ≡ 1 * 2 ^ b + 0 = omega arith in e) ∙ or-block b h 1 l 0 (mod-lt w (pow-pos b)) (pow-pos b) in
+    let odd : bitOr h 1 ≡ h / 2 * 2 + 1 = or-step h 1 ∙ ap₂ (λ (x y : ℕ). x * 2 + y) (or-zero-r (h / 2)) (let e : max (h % 2) 1 ≡ 1 = omega arith in e) in
+    let united : bitOr w (2 ^ b) ≡ (h / 2 * 2 + 1) * 2 ^ b + l = apart ∙ ap₂ (λ (x y : ℕ). x * 2 ^ b + y) odd (or-zero-r l) in
+    split (bitOf w b)
+    (λ t.
+    let same : h / 2 * 2 + 1 ≡ h = omega (arith, bit-on w b t) in
+    united ∙ ap (λ (x : ℕ). x * 2 ^ b + l) same ∙ divided w b ∙ sym (chosen (bitOf w b) w (w + 2 ^ b) t))
+    (λ t.
+    let next : h / 2 * 2 + 1 ≡ suc h = omega (arith, bit-off w b t) in
+    united ∙ ap (λ (x : ℕ). x * 2 ^ b + l) next ∙ omega (arith, suc-mul h (2 ^ b), divided w b, passedOver (bitOf w b) w (w + 2 ^ b) t))
+
+-- The bit that is set.
+pub with-own : (w b : ℕ) → bitOf (withBit w b) b ≡ true
+unfolding bitOf
+with-own w b =
+    let digit = ap (λ (x : ℕ). x / 2 ^ b % 2) (sym (or-bit w b)) ∙ or-digit w (2 ^ b) b ∙ ap (max (w / 2 ^ b % 2)) (power-own b) in
+    let odd : withBit w b / 2 ^ b % 2 ≡ 1 = omega (arith, digit) in
+    eq-eqb (withBit w b / 2 ^ b % 2) 1 odd
+
+-- Every other bit.
+pub with-other : (w b j : ℕ) → (j ≡ b → ⊥) → bitOf (withBit w b) j ≡ bitOf w j
+unfolding bitOf
+with-other w b j n =
+    let digit = ap (λ (x : ℕ). x / 2 ^ j % 2) (sym (or-bit w b)) ∙ or-digit w (2 ^ b) j ∙ ap (max (w / 2 ^ j % 2)) (power-other b j n) in
+    ap (λ (x : ℕ). eqb x 1) (digit ∙ max-zero (w / 2 ^ j % 2))
+
+-- No bit of 0 is set.
+pub bit-zero : (i : ℕ) → bitOf 0 i ≡ false
+unfolding bitOf
+bit-zero i = ap (λ (x : ℕ). eqb (x % 2) 1) (zero-div (2 ^ i))
+
+-- ---- the bits from `m` on
+
+-- A word of `k` bits, none of which is set.
+none-set : (k w : ℕ) → w < 2 ^ k → ((i : ℕ) → i < k → bitOf w i ≡ false) → w ≡ 0
+none-set zero w h none = omega arith
+none-set (suc k) w h none =
+    let half = none-set k (w / 2) (half-lt w k h) (λ i l. sym (bit-half w i) ∙ none (suc i) (omega arith)) in
+    omega (arith, low-off w (none 0 (omega arith)))
+
+-- Whether a bit of a word is set whose number, counted from `base`, is past `last`: not where those are the bits from `m` on and the word shifted down to them is 0.
+pub past-off : (w base last m : ℕ) → w / 2 ^ m ≡ 0 → ((b : ℕ) → last < base + b → m ≤ b) → anyUnder 64 (λ b. bitOf w b && ltb last (base + b)) ≡ false
+past-off w base last m e from =
+    under-none 64 (λ b. bitOf w b && ltb last (base + b))
+    (λ b h.
+    split (ltb last (base + b))
+    (λ t.
+    let l = from b (ltb-true last (base + b) t) in
+    let same : m + (b - m) ≡ b = omega arith in
+    and-off (bitOf w b) (ltb last (base + b)) (ap (bitOf w) (sym same) ∙ sym (bit-shift w m (b - m)) ∙ ap (λ (x : ℕ). bitOf x (b - m)) e ∙ bit-zero (b - m)))
+    (λ t. and-off-right (bitOf w b) (ltb last (base + b)) t))
+
+-- And so where it is not 0.
+pub past-on : (w base last m : ℕ) → w < 2 ^ 64 → m ≤ 64 → ((b : ℕ) → m ≤ b → last < base + b) → (w / 2 ^ m ≡ 0 → ⊥) → anyUnder 64 (λ b. bitOf w b && ltb last (base + b)) ≡ true
+past-on w base last m h l past some =
+    let f : ℕ → Bool = λ b. bitOf w b && ltb last (base + b) in
+    split (anyUnder 64 f)
+    (λ t. t)
+    (λ t.
+    let short : w / 2 ^ m < 2 ^ (64 - m) = shr-lt (64 - m) m (subst (λ (x : ℕ). w < 2 ^ x) (let e : 64 ≡ 64 - m + m = omega arith in e) h) in
+    absurd
+    (some
+    (none-set (64 - m) (w / 2 ^ m) short
+    (λ i k.
+    bit-shift w m i
+    ∙ and-before (bitOf w (m + i)) (ltb last (base + (m + i))) (none-under 64 f t (m + i) (omega arith))
+    (lt-ltb last (base + (m + i)) (past (m + i) (omega arith)))))))
