@@ -1,6 +1,6 @@
 -- Laws of a set in eight words.
-use Prim.Native.Nat.{ℕ, zero, suc, _+_, _*_, _/_, _%_, _≤_, _<_}
-use mathlib.Core.Path.{_≡_, refl, sym, ap, ap₂, subst, _∙_}
+use Prim.Native.Nat.{ℕ, zero, suc, _+_, _-_, _*_, _/_, _%_, _≤_, _<_}
+use mathlib.Core.Path.{_≡_, refl, sym, ap, ap₂, _∙_}
 use mathlib.Core.Bool.{Bool, true, false, _&&_, _||_}
 use mathlib.Core.List.{List}
 use native.Mathlib.Omega.{arith}
@@ -13,7 +13,7 @@ use borrow.Author.Tests.{eqb-true, eqb-false}
 use Rattle.text.proofs.Bools.{split, and-off-right}
 use Rattle.bitset.specs.Passing.{anyUnder, countUnder, nthUnder}
 use Rattle.bitset.specs.Words.{bitOf, withBit, contains, inserted, empty, size, nth, strays}
-use Rattle.bitset.proofs.Passing.{Nth, count-alike, count-split, nth-found, nth-unique}
+use Rattle.bitset.proofs.Passing.{count-alike, count-split, nth-found, nth-unique}
 use Rattle.bitset.proofs.Bits.{bit-zero, with-own, with-other}
 
 -- ---- a number that is put in
@@ -51,7 +51,7 @@ pub empty-contains : (i : ℕ) → contains empty i ≡ false
 unfolding contains
 empty-contains i =
     let none : getD empty (i / 64) 0 ≡ 0 =
-      elim (decLt (i / 64) 8) [ yes h ↦ getD-replicate 8 (i / 64) 0 0 h | no h ↦ List·getD-eq-default empty 0 (let l : 8 ≤ i / 64 = omega arith in l) ] in
+    elim (decLt (i / 64) 8) [ yes h ↦ getD-replicate 8 (i / 64) 0 0 h | no h ↦ List·getD-eq-default empty 0 (let l : 8 ≤ i / 64 = omega arith in l) ] in
     ap (λ (w : ℕ). bitOf w (i % 64)) none ∙ bit-zero (i % 64)
 
 pub past-words : (words : List ℕ) (i : ℕ) → length words ≡ 8 → 512 ≤ i → contains words i ≡ false
@@ -92,24 +92,53 @@ nth-word words k left p l e h =
     let q = nthUnder 64 (bitOf (getD words k 0)) left in
     let found = nth-found 64 (bitOf (getD words k 0)) left h in
     let below : countUnder q (λ b. contains words (64 * k + b)) ≡ countUnder q (bitOf (getD words k 0)) =
-      count-alike q (λ b. contains words (64 * k + b)) (bitOf (getD words k 0)) (λ b m. contains-word words k b (omega (arith, found .within))) in
+    count-alike q (λ b. contains words (64 * k + b)) (bitOf (getD words k 0)) (λ b m. contains-word words k b (omega (arith, found .within))) in
     nth-unique 512 (contains words) p (64 * k + q)
     (record {
       passes = contains-word words k q (found .within) ∙ found .passes;
       rank = omega (arith, count-split (64 * k) q (contains words), found .rank);
-      within = omega (arith, found .within)
+      within = omega (arith, found .within);
     })
 
 count-start : (f : ℕ → Bool) → countUnder 0 f ≡ 0
 unfolding countUnder
 count-start f = refl
 
+-- The walk to number `p` of the set: it has come to word `k`, which has `count` numbers, and `left` are to be passed over from there.
+pub record Walk (words : List ℕ) (p k left count : ℕ) : Type 0 where
+  pub counted : count ≡ wordCount words k
+  pub passed : countUnder (64 * k) (contains words) + left ≡ p
+  pub within : k < 8
+
+-- A word that is passed over is not the last.
+pub walk-within : (words : List ℕ) (p k left count : ℕ) → p < size words → Walk words p k left count → count ≤ left → k + 1 < 8
+unfolding size
+walk-within words p k left count h w l =
+    elim (decLt (k + 1) 8) [
+      | yes b ↦ b
+      | no b ↦
+          let seven : k ≡ 7 = omega (arith, w .within) in
+          let all : countUnder 512 (contains words) ≡ countUnder (64 * k) (contains words) + wordCount words k =
+          ap (λ (n : ℕ). countUnder n (contains words)) (let e : 512 ≡ 64 * k + 64 = omega arith in e) ∙ count-word words k in
+          absurd (omega (arith, w .passed, w .counted))
+    ]
+
+pub walk-on : (words : List ℕ) (p k left count next : ℕ) → p < size words → Walk words p k left count → count ≤ left → next ≡ wordCount words (k + 1)
+    → Walk words p (k + 1) (left - count) next
+walk-on words p k left count next h w l e =
+    let over : countUnder (64 * (k + 1)) (contains words) ≡ countUnder (64 * k) (contains words) + wordCount words k =
+    ap (λ (n : ℕ). countUnder n (contains words)) (let e : 64 * (k + 1) ≡ 64 * k + 64 = omega arith in e) ∙ count-word words k in
+    record { counted = e; passed = omega (arith, w .passed, w .counted); within = walk-within words p k left count h w l }
+
+pub walk-start : (words : List ℕ) (p count : ℕ) → count ≡ wordCount words 0 → Walk words p 0 p count
+walk-start words p count e = record { counted = e; passed = omega (arith, count-start (contains words)); within = omega arith }
+
 -- The size is the sum of the words' counts.
 pub size-words : (words : List ℕ) → size words ≡ wordCount words 0 + wordCount words 1 + wordCount words 2 + wordCount words 3 + wordCount words 4 + wordCount words 5 + wordCount words 6 + wordCount words 7
 unfolding size
 size-words words =
     let more : (k n : ℕ) → countUnder (64 * k) (contains words) ≡ n → countUnder (64 * k + 64) (contains words) ≡ n + wordCount words k =
-      λ k n e. count-word words k ∙ ap (λ (x : ℕ). x + wordCount words k) e in
+    λ k n e. count-word words k ∙ ap (λ (x : ℕ). x + wordCount words k) e in
     more 7 _ (more 6 _ (more 5 _ (more 4 _ (more 3 _ (more 2 _ (more 1 _ (more 0 0 (count-start (contains words)) ∙ zero-add (wordCount words 0))))))))
 
 -- ---- whether a number is in it that may not be

@@ -70,7 +70,6 @@ module _ {r : Run} {w c v : ℕ} {next : Store} (u : Before r w c v next) where
         ),
       )
 
-
   -- What it leaves of the board.
   advanced-board : effect (Advance w) (r .board) ≡ advance next w c v (r .board .state) (r .board)
   unfolding effect advanceOf

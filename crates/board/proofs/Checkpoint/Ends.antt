@@ -193,7 +193,7 @@ room b m on (gap g) h = absurd (omega (arith, g .place))
 room b m on (late a) h = absurd (omega (arith, a .low))
 
 -- A worker that waits or is away holds nothing up.
-all-quiescent : (s : State) → AllWaitOrAway s → AllQuiescent s
+pub all-quiescent : (s : State) → AllWaitOrAway s → AllQuiescent s
 all-quiescent s f w h = by (f w h)
   where
     by : (conditionOf s w ≡ Waiting) ⊎ (conditionOf s w ≡ Away) → quiescent (conditionOf s w) ≡ true

@@ -1,1 +1,116 @@
--- stub
+-- THE THEOREMS about document 02, ticket 5: every statement of `specs/Foretold.antt`, proved.
+use Prim.Native.Nat.{ℕ, suc, _+_, _/_, _≤_, _<_}
+use mathlib.Core.Path.{_≡_, refl, sym, ap, subst, _∙_}
+use mathlib.Core.List.{List, [], _∷_, _++_, map}
+use mathlib.Core.Bool.{true, false, cond, _&&_}
+use native.Mathlib.Omega.{arith}
+use lib.Dec.{leb, ltb}
+use lib.ListN.{length, drop}
+use borrow.Author.Tests.{eq-eqb, leb-false, lt-ltb}
+use Rattle.bitset.specs.Words.{contains, inserted}
+use Rattle.bitset.proofs.Words.{contains-inserted, contains-other}
+use Rattle.line.specs.Cell.{cellLine}
+use Rattle.board.specs.declared.State.{State}
+use Rattle.board.specs.declared.Condition.{Condition}
+use Rattle.board.specs.declared.Condition.the-variants.{Updating}
+use Rattle.board.specs.declared.Store.{Store}
+use Rattle.board.specs.declared.Phase.the-variants.{Running}
+use Rattle.board.specs.declared.Call.the-variants.{Advance, Count}
+use Rattle.board.specs.Board.{Board, cells}
+use Rattle.board.specs.State.{conditionOf, updates, anyWorker, dirtyCount}
+use Rattle.board.specs.Causes.{cause, causes, badRecord}
+use Rattle.board.specs.Effects.{advance, advanceOf, effect}
+use Rattle.board.specs.Next.{Taken, taken, next, stepsOf, valueCounted, valueOf, Performed}
+use Rattle.board.specs.Sequence.{Run}
+use Rattle.board.specs.Foretold.{LineSet, MarkSets, DirtyLines, CountWithin, CountLeaves, ToRelease, Gathered, Foretold, StepsWrite, EachLineOnce}
+use Rattle.board.proofs.Laws.Bools.{split, chosen, passedOver, and-not, none-under}
+use Rattle.board.proofs.Laws.Taken.{Clear, take, standsAt, passed, taken-next, performed-number, performed-value, performed-taken, lines-in, workers-in, record-within, record-cells}
+use Rattle.board.proofs.Laws.Reading.{in-phase, running-passes}
+use Rattle.board.proofs.Laws.Dirty.{size-most}
+use Rattle.board.proofs.Invariant.{AllQuiescent, progress}
+use Rattle.board.proofs.Checkpoint.Run.{is-running}
+use Rattle.board.proofs.Checkpoint.Ends.{all-quiescent}
+use Rattle.board.proofs.Keeps.Every.{history-inv}
+use Rattle.board.proofs.Foretold.Rising.{plan}
+use Rattle.board.proofs.Foretold.Steps.{Waits, Followed, follow}
+
+-- ---- 1. which lines are dirty
+
+-- The mark's store sets the bit of the cell's line, and no other.
+pub mark-sets : MarkSets
+unfolding standsAt causes effect advanceOf advance
+mark-sets w c v b eight here t =
+    let s = b .state in
+    let l = cellLine c in
+    let fine = passed (Advance w) b t 3 in
+    let cell : c < cells (s .lines) = leb-false (cells (s .lines)) c (subst (λ (k : Condition). updates (leb (cells (s .lines))) k ≡ false) here (record-cells s fine w (leb-false (s .workers) w (passed (Advance w) b t 6)))) in
+    let same : next (Advance w) b .state .dirty ≡ inserted (s .dirty) l = ap (λ (d : Board). d .state .dirty) (taken-next (Advance w) b t ∙ ap (λ (k : Condition). advanceOf k w s b) here) in
+    record {
+      set = ap (λ (words : List ℕ). contains words l) same ∙ contains-inserted (s .dirty) l (omega (arith, eight, lines-in (s .lines) (record-within s fine .0) .1));
+      others = λ i o. ap (λ (words : List ℕ). contains words i) same ∙ contains-other (s .dirty) l i o;
+    }
+
+-- A running board's dirty lines are the lines with a marked cell.
+pub dirty-lines : DirtyLines
+dirty-lines r h d e =
+    let v = in-phase r (history-inv r h) d Running (is-running (r .board .state .phase) e) .0 in
+    (λ i p. v .dirty .lines i p, v .dirty .own)
+
+-- ---- 2. the count
+
+-- It is 3 at least and L + 3 at most.
+pub count-within : CountWithin
+count-within s e =
+    let fine = record-within s e in
+    (omega arith, omega (arith, size-most (s .dirty) (s .lines) (fine .3) (lines-in (s .lines) (fine .0) .1)))
+
+-- It changes nothing.
+pub count-leaves : CountLeaves
+unfolding next effect
+count-leaves b = split (taken Count b) (λ t. chosen (taken Count b) b b t) (λ t. passedOver (taken Count b) b b t)
+
+-- A taken count gives the steps.
+count-value : (b : Board) → Taken Count b → valueOf Count b ≡ stepsOf b
+unfolding valueOf valueCounted
+count-value b t = chosen (taken Count b) (stepsOf b) 0 (eq-eqb (cause Count b) 0 t)
+
+-- ---- 3. the count foretells the steps
+
+module _ (r : Run) (g : Gathered r) where
+  -- The board waits.
+  waits : Waits (r .board)
+  waits = record { phase = is-running (r .board .state .phase) (g .running); workers = all-quiescent (r .board .state) (g .waiting) }
+
+  -- No step was taken.
+  unbegun : progress (r .board .state) ≡ 0
+  unbegun =
+      split (r .board .state .requested)
+      (λ t. chosen (r .board .state .requested) (r .board .state .place) 0 t ∙ g .before t)
+      (λ t. passedOver (r .board .state .requested) (r .board .state .place) 0 t)
+
+  -- The count can be learned.
+  count-taken : Taken Count (r .board)
+  unfolding Clear causes
+  count-taken =
+      let y = running-passes r (history-inv r (g .reached)) (g .uncut) (waits .phase) in
+      take Count (r .board) (y .phase, (y .state, (y .rows, tt)))
+
+-- Learned where all workers wait or are away and no step was taken, the count is the number of steps up to and with the release.
+pub foretold : Foretold
+unfolding effect
+foretold r g number value b p =
+    let t = count-taken r g in
+    let zero-number : number ≡ 0 = performed-number Count (r .board) p ∙ t in
+    let same : b ≡ r .board = performed-taken Count (r .board) p zero-number .1 in (
+      zero-number,
+      λ n b′ calls.
+          let f = follow (subst (λ (d : Board). ToRelease n d b′) same calls) (waits r g) in
+          omega (arith, f .count, unbegun r g, performed-value Count (r .board) p, count-value (r .board) t),
+    )
+
+-- ---- 4. each line once
+
+-- Those steps write each dirty line once, rising, then line 0.
+pub each-line-once : EachLineOnce
+each-line-once r g n b′ calls =
+    subst (λ (p : ℕ). StepsWrite calls (drop p (plan (r .board .state)))) (unbegun r g) (follow calls (waits r g) .written)

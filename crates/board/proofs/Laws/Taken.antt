@@ -21,7 +21,7 @@ use Rattle.board.specs.Effects.{effect}
 use Rattle.board.specs.Page.{PageOutcome, PagePerformed}
 use Rattle.board.specs.Sequence.{Run, takenCall}
 use Rattle.board.specs.Next.{Taken, taken, next, Kind, startsFormat, startsRecovery, stepping, writing, counting, other, reading, kind, valueOf, Outcome, Performed}
-use Rattle.board.proofs.Laws.Bools.{split, chosen, passedOver, or-left, or-right, or-none, and-left, and-right, and-both, and-if, not-off, not-on, none-under, under-none}
+use Rattle.board.proofs.Laws.Bools.{split, chosen, passedOver, or-left, or-right, or-none, and-left, and-right, and-both, and-not, and-if, not-off, not-on, none-under, under-none}
 use Rattle.board.proofs.Invariant.{Sizes}
 
 -- ---- a call's causes
@@ -246,3 +246,13 @@ record-within s e =
     let three : limits || long || past ≡ false = or-left (limits || long || past) (anyWorker s (updates (leb (cells (s .lines))))) e in
     let sizes : limits ≡ false = or-left limits long (or-left (limits || long) past three) in
     (or-left (linesOutside (s .lines)) (workersOutside (s .lines) (s .workers)) sizes, or-right (linesOutside (s .lines)) (workersOutside (s .lines) (s .workers)) sizes, or-right (limits || long) past three, or-right limits long (or-left (limits || long) past three))
+
+-- Nor has a worker under W an update of a cell that is not there.
+pub record-cells : (s : State) → badRecord s ≡ false → (w : ℕ) → w < s .workers → updates (leb (cells (s .lines))) (conditionOf s w) ≡ false
+unfolding badRecord
+record-cells s e w h =
+    let test = updates (leb (cells (s .lines))) in
+    let none : anyWorker s test ≡ false = or-right (outside (s .lines) (s .workers) || strays (s .dirty) (s .lines) || placePast (s .phase) s) (anyWorker s test) e in
+    and-not (ltb w (s .workers)) (test (conditionOf s w))
+    (none-under 8 (λ i. ltb i (s .workers) && test (conditionOf s i)) none w (omega (arith, workers-in (s .lines) (s .workers) (record-within s e .1) .1)))
+    (lt-ltb w (s .workers) h)

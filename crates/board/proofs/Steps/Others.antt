@@ -28,7 +28,7 @@ use Rattle.board.proofs.Checkpoint.Acts.{act-cases, effect-acts, step-r
 -- ---- a checkpoint's step
 
 -- A taken step of a running board is at most at the release.
-step-within : (b : Board) → b .state .phase ≡ Running → Taken Step b → b .state .place ≤ dirtyCount (b .state) + 2
+pub step-within : (b : Board) → b .state .phase ≡ Running → Taken Step b → b .state .place ≤ dirtyCount (b .state) + 2
 unfolding standsAt causes
 step-within b e t =
     let s = b .state in
