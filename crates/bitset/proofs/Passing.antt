@@ -42,24 +42,23 @@ one-off t e = ap oneIf e
 -- One number more.
 pub count-next : (n : ℕ) (f : ℕ → Bool) → countUnder (suc n) f ≡ countUnder n f + oneIf (f n)
 unfolding countUnder
-count-next n f =
-    split (f n)
-    (λ t. chosen (f n) _ _ t ∙ omega (arith, one-on (f n) t))
-    (λ t. passedOver (f n) _ _ t ∙ omega (arith, one-off (f n) t))
+count-next n f = refl
 
 -- At most `n` numbers below `n` pass.
 pub count-most : (n : ℕ) (f : ℕ → Bool) → countUnder n f ≤ n
 unfolding countUnder
 count-most zero f = omega arith
-count-most (suc n) f =
-    let most = count-most n f in
-    on (λ (k : ℕ). k ≤ suc n) (f n) (suc (countUnder n f)) (countUnder n f) (λ e. omega arith) (λ e. omega arith)
+count-most (suc n) f = omega (arith, count-most n f, one-most (f n))
+  where
+    one-most : (t : Bool) → oneIf t ≤ 1
+    one-most true = omega arith
+    one-most false = omega arith
 
 -- No number below `n` passes.
 pub count-none : (n : ℕ) (f : ℕ → Bool) → ((c : ℕ) → f c ≡ false) → countUnder n f ≡ 0
 unfolding countUnder
 count-none zero f none = refl
-count-none (suc n) f none = passedOver (f n) (suc (countUnder n f)) (countUnder n f) (none n) ∙ count-none n f none
+count-none (suc n) f none = omega (arith, count-none n f none, one-off (f n) (none n))
 
 -- Tests that agree below `n` are passed equally often.
 pub count-alike : (n : ℕ) (f g : ℕ → Bool) → ((c : ℕ) → c < n → f c ≡ g c) → countUnder n f ≡ countUnder n g
@@ -67,7 +66,7 @@ unfolding countUnder
 count-alike zero f g same = refl
 count-alike (suc n) f g same =
     let below = count-alike n f g (λ c h. same c (omega arith)) in
-    λ i. cond (same n (omega arith) i) (suc (below i)) (below i)
+    λ i. below i + oneIf (same n (omega arith) i)
 
 -- The numbers below `n`, and those from `n` on, are counted apart.
 pub count-split : (n m : ℕ) (f : ℕ → Bool) → countUnder (n + m) f ≡ countUnder n f + countUnder m (λ i. f (n + i))

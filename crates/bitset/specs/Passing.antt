@@ -1,5 +1,5 @@
 -- The numbers that pass a test: whether there is one, how many there are, and which is the p-th.
-use Prim.Native.Nat.{ℕ, zero, suc, _-_}
+use Prim.Native.Nat.{ℕ, zero, suc, _+_, _-_}
 use mathlib.Core.Bool.{Bool, false, cond, _&&_, _||_}
 use lib.Dec.{eqb}
 
@@ -11,7 +11,7 @@ anyUnder (suc n) test = anyUnder n test || test n
 -- How many numbers below `n` pass the test.
 unfoldable pub countUnder : ℕ → (ℕ → Bool) → ℕ
 countUnder zero test = 0
-countUnder (suc n) test = cond (test n) (suc (countUnder n test)) (countUnder n test)
+countUnder (suc n) test = countUnder n test + cond (test n) 1 0
 
 -- The p-th number below `n`, counted from 0, that passes the test, searched for from 0 up; `n` where there is none.
 unfoldable pub nthUnder : ℕ → (ℕ → Bool) → ℕ → ℕ

@@ -23,11 +23,12 @@ use Rattle.board.specs.Statements.{AllWaitOrAway}
 
 -- ---- 1. which lines are dirty
 
--- "Marking a cell now promises its line's bit too": of a record with eight words the mark's store sets the bit of the cell's line, and leaves every other.
+-- The bit of cell `c`'s line is set, and every other is as it was.
 pub record LineSet (c : ℕ) (b b′ : Board) : Type 0 where
   pub set : contains (b′ .state .dirty) (1 + c / 2) ≡ true
   pub others : (l : ℕ) → (l ≡ 1 + c / 2 → ⊥) → contains (b′ .state .dirty) l ≡ contains (b .state .dirty) l
 
+-- "Marking a cell now promises its line's bit too": the mark's store, on a record of eight words.
 abbrev pub MarkSets : Type 0
 MarkSets =
     (w c v : ℕ) (b : Board) → length (b .state .dirty) ≡ 8 → conditionOf (b .state) w ≡ Updating Store.Mark c v → Taken (Advance w) b → LineSet c b (next (Advance w) b)
