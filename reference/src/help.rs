@@ -39,8 +39,8 @@ const COMMANDS: [(&str, &str); 11] = [
     ("explore --exhaustive", "every state of the smallest board, from a format and from foreign memories"),
     (
         "bench",
-        "a workload's checksum: update, again, checkpoint, checkpoint-away, recovery, write-back, page-equal, \
-         page-rising or page-random",
+        "a workload's checksum: update, again, checkpoint, checkpoint-pairs, checkpoint-away, recovery, write-back, \
+         page-equal, page-rising or page-random",
     ),
 ];
 

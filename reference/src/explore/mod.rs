@@ -1,8 +1,10 @@
 //! `explore`: random sequences of calls and cuts, the board beside the simple machine, every statement checked.
 
 mod away;
+mod bits;
 pub mod check;
 mod choose;
+mod count;
 pub mod exhaustive;
 pub mod foreign;
 pub(crate) mod garbage;
@@ -99,8 +101,9 @@ impl Explorer {
     fn sequence(&mut self, most: u64) -> Result<(), Violation> {
         self.trace.clear();
         let lines = match self.random.below(2000) {
-            0 => 511,
-            1..=20 => 10 + self.random.below(30),
+            0..=2 => 511,
+            3..=5 => 60 + self.random.below(450),
+            6..=25 => 10 + self.random.below(30),
             _ => 1 + self.random.below(4),
         };
         let (beginning, mut watched) = self.begin(lines)?;
