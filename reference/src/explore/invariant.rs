@@ -138,7 +138,7 @@ fn early(board: &Board, machine: &Machine, set: &[usize]) -> Finding {
         ensure(marked == value.marked, || format!("cell {cell} marked {marked}, in the machine {}", value.marked))?;
     }
     for (before, line) in set.iter().enumerate() {
-        let mut cells = [2 * line - 2, 2 * line - 1].into_iter();
+        let mut cells = (2 * line).saturating_sub(2)..2 * line;
         let marked = cells.clone().any(|cell| machine.values.get(cell).is_some_and(|value| value.marked));
         ensure(marked, || format!("line {line} is set and none of its cells is marked"))?;
         let written = cells.all(|cell| board.cache[record_at(cell)] == board.memory[record_at(cell)]);

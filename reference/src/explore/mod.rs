@@ -194,6 +194,9 @@ impl Explorer {
         self.trace.push(format!("{call:?}"));
         let done = watched.call(call)?;
         self.tally.answer(call, done.answer.number);
+        if let Some(foretold) = &done.foretold {
+            self.tally.foretold(&foretold.lines, watched.marked_before());
+        }
         match done.finished {
             Some(Finished::Format) => self.tally.formats += 1,
             Some(Finished::Checkpoint) => self.tally.checkpoint(&watched.board.state),

@@ -23,6 +23,8 @@ pub enum Beginning {
 pub struct Done {
     pub answer: Answer,
     pub finished: Option<Finished>,
+    /// What a count had foretold of the checkpoint that the call released.
+    pub foretold: Option<Foretold>,
 }
 
 /// The board, the machine and what is owed.
@@ -83,19 +85,19 @@ impl Watched {
             let owed = owed || (*call == Call::Recovery && !self.promise.broken_format);
             let finding = || ensure(!owed, || format!("{call:?} was owed and refused by {}", answer.number));
             self.checks.run(Check::Progress, finding)?;
-            return Ok(Done { answer, finished: None });
+            return Ok(Done { answer, finished: None, foretold: None });
         }
         self.machine.taken(call);
         self.cut &= !call.is_start();
         let finished = self.promise.taken(call, &self.before, &self.machine);
         self.after_taken(call, answer, finished)?;
-        self.follow_count(call)?;
+        let foretold = self.follow_count(call)?;
         let format_step = *call == Call::Step && self.before.state.phase == Phase::Formatting;
         if format_step {
             self.erase_spare(self.before.state.place as usize);
         }
         self.after_event(format_step)?;
-        Ok(Done { answer, finished })
+        Ok(Done { answer, finished, foretold })
     }
 
     /// A format's step at this place: 0 is what that line's words 6 and 7 are to be from now on.
@@ -104,22 +106,28 @@ impl Watched {
         line.into_iter().for_each(|words| *words = [0; 2]);
     }
 
-    /// What a count foretold, after a taken call; and what it foretells from here on.
-    fn follow_count(&mut self, call: &Call) -> Result<(), Violation> {
+    /// What a count foretold, after a taken call, and what it foretells from here on; gives what was fulfilled.
+    fn follow_count(&mut self, call: &Call) -> Result<Option<Foretold>, Violation> {
         if call.is_start() || matches!(call, Call::ComeBack { .. }) {
             self.foretold = None;
         }
-        if let (Call::Step, Some(mut foretold)) = (call, self.foretold.take()) {
+        let mut fulfilled = None;
+        if let (Call::Step, Some(foretold)) = (call, &mut self.foretold) {
             foretold.step(&self.before);
             let released = !self.board.state.requested;
             self.checks.run(Check::Foretold, || foretold.kept(released))?;
             if released {
                 self.checks.run(Check::Lines, || foretold.each_once())?;
-            } else {
-                self.foretold = Some(foretold);
+                fulfilled = self.foretold.take();
             }
         }
-        self.learn_count()
+        self.learn_count()?;
+        Ok(fulfilled)
+    }
+
+    /// How many cells the machine had marked before the last event.
+    pub fn marked_before(&self) -> usize {
+        self.values_before.iter().filter(|value| value.marked).count()
     }
 
     /// A count learned where it foretells something, the same as before if no step was taken since.
