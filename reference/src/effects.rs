@@ -171,7 +171,7 @@ fn begin(worker: u64, cell: u64, value: u64, state: &mut State, rows: &mut Rows,
     state.worker[worker as usize] = Condition::Updating(Update { cell: cell as u16, value, next });
 }
 
-/// "backup := record; mark := epoch, and the cell is added to the list; record := value"
+/// "backup := record; mark := epoch, ...; record := value", with the mark its line's bit
 fn advance(worker: usize, state: &mut State, rows: &mut Rows, mistake: Option<Mistake>) {
     let Condition::Updating(update) = state.worker[worker] else {
         return;
@@ -211,8 +211,8 @@ fn set_bit(cell: usize, state: &mut State, mistake: Option<Mistake>) {
 
 /// "the count of set bits"
 fn set_count(bits: &LineBits, mistake: Option<Mistake>) -> u16 {
-    let words = if mistake == Some(Mistake::SevenWords) { &bits[..BIT_WORDS - 1] } else { bits };
-    bits::count(words)
+    let counted = if mistake == Some(Mistake::SevenWords) { BIT_WORDS - 1 } else { BIT_WORDS };
+    bits::count(&bits[..counted])
 }
 
 /// How many line write-backs a checkpoint begins with.

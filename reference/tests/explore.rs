@@ -25,6 +25,9 @@ fn random_sequences_hold() {
         assert!(present > 1000 && tally.some_away > 300 && tally.all_away > 300, "{tally}");
         assert!([0, 2, 3, 4, 6, 8].iter().all(|number| tally.going_away[*number] > 20), "{tally}");
         assert!([0, 2, 3, 4, 6, 8, 13].iter().all(|number| tally.coming_back[*number] > 20), "{tally}");
+        assert!([0, 2, 3, 4].iter().all(|number| tally.counts[*number] > 100), "{tally}");
+        assert!(tally.foretold > 1000 && tally.in_pairs > 300, "{tally}");
+        assert!(tally.in_words > 10 && tally.in_eighth > 0, "{tally}");
     }
 }
 

@@ -102,7 +102,7 @@ fn any_bits(random: &Random) -> LineBits {
 /// Bits of lines 1 to L: none, all, or some, the last line's more often.
 pub fn allowed_bits(random: &Random, lines: u64) -> LineBits {
     let mut set = NO_LINES;
-    let some = random.pick(&[1, 2, lines / 2, lines.min(12)]);
+    let some = random.pick(&[1, 2, lines.min(511) / 2, lines.min(12)]);
     match random.below(6) {
         0 => {}
         1 => (1..=lines.min(511)).for_each(|line| bits::set(&mut set, line as usize)),

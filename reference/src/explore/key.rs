@@ -106,7 +106,7 @@ fn encode_foretold(foretold: Option<&Foretold>, out: &mut Writer) {
     let Some(Foretold { count, lines, steps, written }) = foretold else {
         return (0..4).for_each(|_| out.put(0));
     };
-    let lines = lines.iter().map(|line| 1 << line).sum();
+    let lines = lines.iter().map(|line| 1u64 << line).sum();
     let written = written.iter().fold(0, |code, line| 3 * code + *line as u64 + 1);
     [*count, lines, *steps, written].into_iter().for_each(|number| out.put(number));
 }

@@ -136,10 +136,9 @@ impl Watched {
             Err(text) => self.checks.run(Check::Foretold, || Err(text)),
             Ok(None) => Ok(()),
             Ok(Some(again)) => {
-                let earlier = self.foretold.replace(again);
-                let (earlier, again) = (earlier.iter(), self.foretold.iter());
-                let mut findings = earlier.zip(again).map(|(earlier, again)| earlier.learned_again(again));
-                self.checks.run(Check::Foretold, || findings.next().unwrap_or(Ok(())))
+                let finding = self.foretold.as_ref().map_or(Ok(()), |earlier| earlier.learned_again(&again));
+                self.foretold = Some(again);
+                self.checks.run(Check::Foretold, || finding)
             }
         }
     }
