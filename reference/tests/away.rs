@@ -259,7 +259,7 @@ fn a_start_and_the_end_of_a_format_or_recovery_free_all_eight() {
 #[test]
 fn the_workload_checkpoint_away_is_taken_throughout_and_has_one_restart_point() {
     let workload = Workload::named("checkpoint-away").unwrap();
-    for (lines, workers, n) in [(1, 1, 1), (2, 1, 2), (2, 3, 3), (4, 4, 6), (64, 8, 68), (511, 8, 515)] {
+    for (lines, workers, n) in [(1, 1u64, 1), (2, 1, 2), (2, 3, 3), (4, 4, 6), (64, 8, 68), (511, 8, 515)] {
         for rounds in [0, 1, 7] {
             let reads = (0..n - workers).map(|k| 2 * (workers.div_ceil(2) + k)).sum::<u64>() + 3;
             assert_eq!(run(workload, lines, workers, n, rounds, 5), Some(reads), "{lines} {workers} {n} {rounds}");

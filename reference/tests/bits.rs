@@ -68,7 +68,10 @@ fn a_lines_bit_stands_in_word_l_div_64_from_the_lowest() {
         set(&mut bits, line);
         let told: [u64; 8] = std::array::from_fn(|at| if at == line / 64 { 1 << (line % 64) } else { 0 });
         assert_eq!(bits, told);
-        assert_eq!((count(&bits), last(&bits), set_line(&bits, 0), set_line(&bits, 1)), (1, Some(line), Some(line), None));
+        assert_eq!(
+            (count(&bits), last(&bits), set_line(&bits, 0), set_line(&bits, 1)),
+            (1, Some(line), Some(line), None)
+        );
     }
     assert_eq!((count(&NO_LINES), last(&NO_LINES), set_line(&NO_LINES, 0)), (0, None, None));
 }

@@ -280,7 +280,9 @@ fn a_page_is_refused_by_the_first_cause_that_holds() {
     let pages: Vec<&String> = broken.iter().filter(|answer| answer.starts_with('p')).collect();
     let whole = format!("p 0 {}", sum_of_text(PAGE, 0));
     assert_eq!(pages, [&none(2, 203), &none(3, 203), &none(4, 203), &none(12, 203), &whole]);
-    for (line, number) in [("B 1 512", 3), ("B 2 2", 3), ("K 0 2 0 2 0", 3), ("Q 0 4", 3), ("W 16 24", 4), ("W 15 16", 4)] {
+    for (line, number) in
+        [("B 1 512", 3), ("B 2 2", 3), ("K 0 2 0 2 0", 3), ("Q 0 4", 3), ("W 16 24", 4), ("W 15 16", 4)]
+    {
         assert_eq!(last(&format!("F 1 1\n{line}\np 69700")), none(number, 69_700), "{line}");
         assert_eq!(last(&format!("F 1 1\n{line}\np 10")), none(number, 10), "{line}");
     }
@@ -296,7 +298,8 @@ fn a_count_of_the_set_bits() {
     for (line, refused) in [("Q 0 1", 3), ("Q 0 3", 3), ("Q 0 4", 3), ("Q 7 1", 3), ("W 16 15", 4), ("B 0 2", 2)] {
         assert_eq!(last(&format!("F 1 1\nQ 0 2\n{line}\nn")), format!("n {refused} 0"), "{line}");
     }
-    let all = format!("Q 0 {}\n{}", u64::MAX - 1, (1..8).map(|at| format!("Q {at} {}\n", u64::MAX)).collect::<String>());
+    let all =
+        format!("Q 0 {}\n{}", u64::MAX - 1, (1..8).map(|at| format!("Q {at} {}\n", u64::MAX)).collect::<String>());
     assert_eq!(last(&format!("F 511 8\n{all}n")), "n 0 514");
     assert_eq!(last(&format!("F 510 8\n{all}n")), "n 3 0");
     assert_eq!(last("F 511 8\nQ 7 9223372036854775808\nn"), "n 0 4");
@@ -307,7 +310,10 @@ fn a_count_of_the_set_bits() {
 fn a_checkpoint_of_the_set_lines() {
     let board = "F 100 1\nQ 0 4\nQ 1 17\nN 16 5\nN 512 6\nN 544 7\nN 552 8\nK 0 3 0 0 0\nC";
     assert_eq!(last(&format!("{board}\nn")), "n 0 6");
-    assert_eq!(fault(&format!("{board}\nS\nS\nS\nS\nS\nS\nS"))[9..], ["S 0 -"; 6].into_iter().chain(["S 10 -"]).collect::<Vec<_>>());
+    assert_eq!(
+        fault(&format!("{board}\nS\nS\nS\nS\nS\nS\nS"))[9..],
+        ["S 0 -"; 6].into_iter().chain(["S 10 -"]).collect::<Vec<_>>()
+    );
     let with = |steps: &str, words: &str| sum(&format!("{board}{steps}")) == sum(&format!("{board}\n{words}"));
     assert!(with("\nS", "B 4 1\nM 16 5"));
     assert!(with("\nS\nS", "B 4 2\nM 16 5\nM 512 6"));

@@ -101,9 +101,9 @@ impl Explorer {
     fn sequence(&mut self, most: u64) -> Result<(), Violation> {
         self.trace.clear();
         let lines = match self.random.below(2000) {
-            0..=2 => 511,
-            3..=5 => 60 + self.random.below(450),
-            6..=25 => 10 + self.random.below(30),
+            0..=3 => 511,
+            4..=9 => 60 + self.random.below(451),
+            10..=29 => 10 + self.random.below(30),
             _ => 1 + self.random.below(4),
         };
         let (beginning, mut watched) = self.begin(lines)?;

@@ -12,11 +12,9 @@ pub fn rows_changed(call: &Call, before: &Board, after: &Board) -> Finding {
             unchanged(call, before, after)
         }
         Call::Step if before.state.phase == Phase::Formatting => format_line(before, after),
-        Call::Recovery => {
-            ensure(after.memory == before.memory && after.cache == before.memory, || {
-                "a recovery's start copied something else than memory to cache".into()
-            })
-        }
+        Call::Recovery => ensure(after.memory == before.memory && after.cache == before.memory, || {
+            "a recovery's start copied something else than memory to cache".into()
+        }),
         _ => one_store(before, after),
     }?;
     match *call {

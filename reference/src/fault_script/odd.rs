@@ -42,11 +42,7 @@ impl Script {
             0 => self.random.pick(&[0, 1, 2, 3, 3, 3]),
             1 => self.random.pick(&[self.about(self.lines()), self.about(511)]),
             2 => self.random.pick(&[self.about(self.workers()), self.about(8), 255]).min(255),
-            4 => self.random.pick(&[
-                self.about(self.lines() + 1),
-                self.about(self.cells()),
-                self.about(self.n() + 2),
-            ]),
+            4 => self.random.pick(&[self.about(self.lines() + 1), self.about(self.cells()), self.about(self.n() + 2)]),
             5 => self.random.below(3),
             _ => self.random.below(2),
         };
