@@ -142,7 +142,7 @@ fn a_script_of_line_bits_counts_and_releases_checkpoints_of_several_lines() {
             let several = before.line_bits.iter().filter(|word| **word != 0).count() > 1;
             releases += (several && line == b"S" && before.requested && !board.state.requested) as u64;
         }
-        assert!([0, 2, 3].iter().all(|number| counts[number] >= 15), "seed {seed}: {counts:?}");
+        assert!([0, 2, 3, 4].iter().all(|number| counts[number] >= 8), "seed {seed}: {counts:?}");
         assert!(releases >= 15, "seed {seed}: {releases}");
     }
 }

@@ -106,7 +106,7 @@ impl Script {
     }
 
     /// A worker under W tries to come back, to go away or to do something else; coming back is tried most.
-    fn tries(&mut self) {
+    pub(super) fn tries(&mut self) {
         let worker = self.random.below(self.workers().max(1));
         let value = self.word();
         let cell = self.workers() + self.random.below((self.cells() - self.workers()).max(1));

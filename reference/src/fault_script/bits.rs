@@ -17,9 +17,9 @@ impl Script {
     /// One stretch about line bits.
     pub(super) fn line_bits(&mut self) {
         self.wide_ground();
-        match self.random.below(5) {
-            0 => self.bits_astray(),
-            1 => self.bits_at_an_end(),
+        match self.random.below(6) {
+            0 | 1 => self.refused_counts(),
+            2 => self.bits_at_an_end(),
             _ => self.checkpoint_of_lines(),
         }
     }
@@ -80,9 +80,14 @@ impl Script {
         Call::Count
     }
 
-    /// A bit that must not be set, calls on such a record, and the same calls once it is taken back.
-    fn bits_astray(&mut self) {
-        let damage = self.bit_astray();
+    /// A bit that must not be set, or another reason to refuse a count, calls on such a board, and counts once it is
+    /// repaired.
+    fn refused_counts(&mut self) {
+        let damage = match self.random.below(5) {
+            0 => self.lengths_fault(),
+            1 => Damage::Field { k: 0, number: self.random.below(3) },
+            _ => self.bit_astray(),
+        };
         let repair = damage.repair(&self.board);
         let cell = self.random.below(self.cells());
         let calls = [Call::Count, Call::Step, Call::Read { cell }, Call::Request, Call::Count];
@@ -128,6 +133,10 @@ impl Script {
             let numbers = self.random.pick(&[AWAY, [1, 0, 0, 0]]);
             self.damage(Damage::Worker { worker, numbers });
         }
+        if self.random.chance(1, 2) {
+            let damage = self.worker_from_w_on();
+            self.damage(damage);
+        }
         self.call(Call::Count);
         self.field(6, 0);
         self.call(Call::Request);
@@ -139,8 +148,9 @@ impl Script {
     /// Updates of both cells of a line, or of one, up to their marks or to their ends.
     fn mark_a_pair(&mut self) {
         let workers = self.workers();
-        let cell = workers + self.random.below(self.cells() - workers);
-        let value = self.word();
+        let any = workers + self.random.below(self.cells() - workers);
+        let last = self.cells() - 1 - self.random.below(4.min(self.cells() - workers));
+        let (cell, value) = (self.random.pick(&[any, any, last]), self.word());
         for cell in [cell, (cell ^ 1).max(workers)] {
             self.call(Call::Update { worker: 0, cell, value });
             (0..3).for_each(|_| self.call(Call::Advance { worker: 0 }));
@@ -150,15 +160,16 @@ impl Script {
         }
     }
 
-    /// A checkpoint's steps with counts and write-backs between them; of many lines only some, the last among them.
+    /// A checkpoint's steps with counts, write-backs and workers' tries between them; of many lines only some, the last among them.
     fn lines_written(&mut self) {
         for left in (0..18).rev() {
             let n = self.n();
             if left == 8 && n > 20 {
                 self.field(4, self.random.pick(&[n - 2, n - 1, self.random.below(n)]));
             }
-            match self.random.below(6) {
+            match self.random.below(7) {
                 0 => self.call(Call::Count),
+                2 if self.board.state.place > 0 => self.tries(),
                 1 => self.call(Call::WriteBack { line: self.random.pick(&[0, 1 + self.random.below(self.lines())]) }),
                 _ => {}
             }

@@ -12,7 +12,7 @@ use crate::work::{good_call_with_away, some_workers, Leave};
 impl Script {
     /// One stretch, and a checksum after it.
     pub(super) fn stretch(&mut self) {
-        match self.random.below(50) {
+        match self.random.below(51) {
             0..=5 => self.work(40),
             6..=23 => self.aimed(),
             24 | 25 => self.odd_record(),
@@ -20,7 +20,7 @@ impl Script {
             29 => self.foreign_board(),
             30 => self.broken_format(),
             31 | 32 => self.other_forms(),
-            33 | 34 => self.pages(),
+            33 | 34 | 46 => self.pages(),
             35 | 36 => self.leaving(),
             37 => self.odd_away(),
             38 | 39 => self.foreign_memory(),
