@@ -99,13 +99,12 @@ fn step_cause(state: &State, rows: &Lent, mistake: Option<Mistake>) -> u8 {
     if common != 0 || state.phase != Phase::Running {
         return common;
     }
-    let n = writes(state, mistake);
-    let released = mistake == Some(Mistake::EarlyRelease) && state.place == n + 2;
+    let released = mistake == Some(Mistake::EarlyRelease) && state.place == writes(state, mistake) + 2;
     let waiting = state.active_workers().iter().all(|condition| waits(condition, mistake));
     if !state.requested || !(waiting || released) {
         return 10;
     }
-    if state.place == n && rows.cache[0] == u64::MAX {
+    if rows.cache[0] == u64::MAX && state.place == writes(state, mistake) {
         return 11;
     }
     0

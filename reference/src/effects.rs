@@ -283,10 +283,9 @@ fn checkpoint_step(state: &mut State, rows: &mut Rows, mistake: Option<Mistake>)
 
 /// "writes the set lines in rising order": the one that has so many set ones before it.
 fn write_set_line(before: u16, state: &State, rows: &mut Rows, mistake: Option<Mistake>) {
-    let last = bits::count(&state.line_bits) - 1;
     let before = match mistake {
-        Some(Mistake::HighestFirst) => last - before,
-        Some(Mistake::LineTwice) => before.min(last),
+        Some(Mistake::HighestFirst) => bits::count(&state.line_bits) - 1 - before,
+        Some(Mistake::LineTwice) => before.min(bits::count(&state.line_bits) - 1),
         _ => before,
     };
     let line = bits::set_line(&state.line_bits, before);
