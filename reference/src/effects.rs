@@ -268,7 +268,13 @@ fn checkpoint_step(state: &mut State, rows: &mut Rows, mistake: Option<Mistake>)
                 state.line_bits = NO_LINES;
             }
         }
-        Act::WriteHeader => write_back(0, rows, mistake),
+        Act::WriteHeader => {
+            write_back(0, rows, mistake);
+            if mistake == Some(Mistake::ReleaseWithHeader) {
+                free_workers(state, false);
+                end_checkpoint(state, mistake);
+            }
+        }
         Act::FreeWorkers => free_workers(state, false),
         Act::WriteHeaderAndEnd => {
             write_back(0, rows, mistake);

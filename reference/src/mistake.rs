@@ -89,6 +89,8 @@ pub enum Mistake {
     BitsClearedEarly,
     /// The last set line written by two steps.
     LineTwice,
+    /// The step that writes line 0 back releases too.
+    ReleaseWithHeader,
     /// The set lines in falling order.
     HighestFirst,
     /// The bit of the cell's number set in place of its line's.
@@ -108,7 +110,7 @@ pub enum Mistake {
 }
 
 /// Every mistake with its name and a few words.
-pub const MISTAKES: [(&str, Mistake, &str); 51] = [
+pub const MISTAKES: [(&str, Mistake, &str); 52] = [
     ("mark-first", Mistake::MarkFirst, "an update stores the mark before the backup"),
     ("recovery-mark-first", Mistake::RecoveryMarkFirst, "recovery clears a mark before it restores the record"),
     ("recovery-cache-only", Mistake::RecoveryCacheOnly, "recovered lines are not written back"),
@@ -152,6 +154,7 @@ pub const MISTAKES: [(&str, Mistake, &str); 51] = [
     ("recovery-keeps-bits", Mistake::RecoveryKeepsBits, "recovery's start leaves the bits of the lines"),
     ("bits-cleared-early", Mistake::BitsClearedEarly, "the bits are cleared at the epoch's store"),
     ("line-twice", Mistake::LineTwice, "a checkpoint writes its last set line twice"),
+    ("release-with-header", Mistake::ReleaseWithHeader, "line 0's write-back releases too: n + 2 steps"),
     ("highest-first", Mistake::HighestFirst, "a checkpoint writes the highest set line first"),
     ("bit-of-cell", Mistake::BitOfCell, "a mark's store sets the bit of the cell's number, not of its line"),
     ("seven-words", Mistake::SevenWords, "set bits of the eighth word are not counted"),

@@ -10,7 +10,7 @@ use reference::explore::{exhaustive, explore, Options};
 use reference::mistake::{Mistake, MISTAKES};
 
 /// Each mistake with the checks that must each catch it when made alone.
-const CATCHERS: [(Mistake, &[Check]); 51] = [
+const CATCHERS: [(Mistake, &[Check]); 52] = [
     (Mistake::MarkFirst, &[Outcome, Recovery, TwoBoards, Invariant]),
     (Mistake::RecoveryMarkFirst, &[Outcome, Recovery, TwoBoards, Invariant]),
     (Mistake::RecoveryCacheOnly, &[Outcome, Recovery, TwoBoards, Invariant]),
@@ -65,6 +65,10 @@ const CATCHERS: [(Mistake, &[Check]); 51] = [
             Causes, Outcome, Reads, Recovery, Completion, TwoBoards, Progress, Invariant, Page, Away, Foretold, Lines,
             Bits,
         ],
+    ),
+    (
+        Mistake::ReleaseWithHeader,
+        &[Outcome, Reads, Recovery, Completion, TwoBoards, Progress, Invariant, Away, Foretold, Bits],
     ),
     (Mistake::HighestFirst, &[Outcome, Invariant, Lines]),
     (Mistake::BitOfCell, &[Outcome, Reads, Recovery, Completion, TwoBoards, Invariant, Bits]),
