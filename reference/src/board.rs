@@ -1,6 +1,7 @@
 //! The state record and the lent rows.
 
-use crate::line::{cells, row_words, MOST_WORKERS};
+use crate::bits::{LineBits, NO_LINES};
+use crate::line::{row_words, MOST_WORKERS};
 use crate::mistake::Mistake;
 
 /// "the phase (off, formatting, recovering, running)"
@@ -51,11 +52,11 @@ pub struct State {
     pub phase: Phase,
     pub lines: u16,
     pub workers: u8,
-    pub list_length: u16,
     pub place: u16,
     pub undo: UndoStep,
     pub requested: bool,
     pub worker: [Condition; MOST_WORKERS],
+    pub line_bits: LineBits,
 }
 
 impl State {
@@ -65,11 +66,11 @@ impl State {
             phase,
             lines,
             workers,
-            list_length: 0,
             place: 0,
             undo: UndoStep::Record,
             requested: false,
             worker: [Condition::Free; MOST_WORKERS],
+            line_bits: NO_LINES,
         }
     }
 
@@ -90,20 +91,18 @@ impl State {
 pub struct Lent<'a> {
     pub memory: &'a [u64],
     pub cache: &'a [u64],
-    pub list: &'a [u16],
 }
 
-/// "Memory and cache are lent as two rows", "The list is a third lent row"
+/// "Memory and cache are lent as two rows"
 pub struct Rows<'a> {
     pub memory: &'a mut [u64],
     pub cache: &'a mut [u64],
-    pub list: &'a mut [u16],
 }
 
 impl Rows<'_> {
     /// The same rows, lent on for reading.
     pub fn lent(&self) -> Lent<'_> {
-        Lent { memory: self.memory, cache: self.cache, list: self.list }
+        Lent { memory: self.memory, cache: self.cache }
     }
 }
 
@@ -113,7 +112,6 @@ pub struct Board {
     pub state: State,
     pub memory: Vec<u64>,
     pub cache: Vec<u64>,
-    pub list: Vec<u16>,
     pub mistake: Option<Mistake>,
 }
 
@@ -121,25 +119,18 @@ impl Board {
     /// "before one they are empty and the phase is off"
     pub fn empty(mistake: Option<Mistake>) -> Board {
         let state = State::started(Phase::Off, 0, 0);
-        Board { state, memory: Vec::new(), cache: Vec::new(), list: Vec::new(), mistake }
+        Board { state, memory: Vec::new(), cache: Vec::new(), mistake }
     }
 
     /// Rows that fit a board of so many lines.
     pub fn resize(&mut self, lines: u64) {
         self.memory.resize(row_words(lines) as usize, 0);
         self.cache.resize(row_words(lines) as usize, 0);
-        self.list.resize(cells(lines) as usize, 0);
-    }
-
-    /// Rows made anew for a format of so many lines: the list all 0; memory and cache the format itself overwrites.
-    pub fn renew(&mut self, lines: u64) {
-        self.list.clear();
-        self.resize(lines);
     }
 
     /// The rows, lent for reading.
     pub fn lent(&self) -> Lent<'_> {
-        Lent { memory: &self.memory, cache: &self.cache, list: &self.list }
+        Lent { memory: &self.memory, cache: &self.cache }
     }
 
     /// Take over another board's contents, keeping the allocations.
@@ -147,7 +138,6 @@ impl Board {
         self.state = other.state;
         self.memory.clone_from(&other.memory);
         self.cache.clone_from(&other.cache);
-        self.list.clone_from(&other.list);
         self.mistake = other.mistake;
     }
 }

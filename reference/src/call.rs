@@ -2,7 +2,7 @@
 
 use crate::board::{Board, Rows, State};
 use crate::causes::cause;
-use crate::effects::take;
+use crate::effects::{foretold, take};
 use crate::mistake::Mistake;
 
 /// One call with its arguments, each the number it is.
@@ -45,6 +45,8 @@ pub enum Call {
     ComeBack {
         worker: u64,
     },
+    /// "the host can learn the count of set bits plus 3"
+    Count,
 }
 
 impl Call {
@@ -54,7 +56,7 @@ impl Call {
     }
 }
 
-/// "A taken call returns 0", a refused one its cause; a read gives a value too.
+/// "A taken call returns 0", a refused one its cause; a read and a count give a value too.
 #[derive(Clone, Copy, PartialEq, Eq, Debug)]
 pub struct Answer {
     pub number: u8,
@@ -64,14 +66,18 @@ pub struct Answer {
 /// Perform a call: refused with its cause and all left as it was, or taken.
 pub fn perform(call: &Call, state: &mut State, rows: &mut Rows, mistake: Option<Mistake>) -> Answer {
     let number = cause(call, state, &rows.lent(), mistake);
-    let value = if number == 0 { take(call, state, rows, mistake) } else { 0 };
+    let value = match (number, call) {
+        (0, _) => take(call, state, rows, mistake),
+        (_, Call::Count) if mistake == Some(Mistake::CountRefused) => foretold(state, mistake),
+        _ => 0,
+    };
     Answer { number, value }
 }
 
 impl Board {
     /// Perform a call on this board.
     pub fn perform(&mut self, call: &Call) -> Answer {
-        let mut rows = Rows { memory: &mut self.memory, cache: &mut self.cache, list: &mut self.list };
+        let mut rows = Rows { memory: &mut self.memory, cache: &mut self.cache };
         perform(call, &mut self.state, &mut rows, self.mistake)
     }
 

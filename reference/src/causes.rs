@@ -1,9 +1,10 @@
 //! Why a call is turned down: the table of 01, tested in rising order of number, and what 02 adds to it, 13 directly
 //! after 8 and 14 directly after 5.
 
-use crate::board::{Condition, Lent, Phase, State, Store};
+use crate::bits;
+use crate::board::{Condition, Lent, Phase, State};
 use crate::call::Call;
-use crate::effects::{act_at, Act};
+use crate::effects::writes;
 use crate::line::{cells, row_words, sizes_allowed, LINE_WORDS};
 use crate::mistake::Mistake;
 use crate::page::page_bytes;
@@ -19,13 +20,14 @@ pub fn cause(call: &Call, state: &State, rows: &Lent, mistake: Option<Mistake>) 
         Call::Step => step_cause(state, rows, mistake),
         Call::Update { worker, cell, .. } => update_cause(worker, cell, state, rows, mistake),
         Call::RestartPoint { worker, .. } => restart_point_cause(worker, state, rows, mistake),
-        Call::Advance { worker } => advance_cause(worker, state, rows),
-        Call::Request => request_cause(state, rows),
-        Call::WriteBack { line } => write_back_cause(line, state, rows),
-        Call::Read { cell } => read_cause(cell, state, rows),
+        Call::Advance { worker } => advance_cause(worker, state, rows, mistake),
+        Call::Request => request_cause(state, rows, mistake),
+        Call::WriteBack { line } => write_back_cause(line, state, rows, mistake),
+        Call::Read { cell } => read_cause(cell, state, rows, mistake),
         Call::Page { room } => page_cause(room, state, rows, mistake),
         Call::GoAway { worker } => go_away_cause(worker, state, rows, mistake),
         Call::ComeBack { worker } => come_back_cause(worker, state, rows, mistake),
+        Call::Count => running_cause(state, rows, mistake),
     }
 }
 
@@ -46,7 +48,7 @@ fn recovery_cause(rows: &Lent, mistake: Option<Mistake>) -> u8 {
     if !words.is_multiple_of(LINE_WORDS) || !(16..=4096).contains(&words) {
         return 4;
     }
-    if rows.cache.len() != words || rows.list.len() < words / 4 - 2 {
+    if rows.cache.len() != words {
         return 4;
     }
     if mistake == Some(Mistake::Cause14First) && marked_past_epoch(rows, mistake) {
@@ -93,19 +95,16 @@ fn step_cause(state: &State, rows: &Lent, mistake: Option<Mistake>) -> u8 {
     if state.phase == Phase::Off {
         return 2;
     }
-    let common = record_and_rows_cause(state, rows);
+    let common = record_and_rows_cause(state, rows, mistake);
     if common != 0 || state.phase != Phase::Running {
         return common;
     }
-    if state.requested && !entry_used_fits(state, rows, mistake) {
-        return 4;
-    }
-    let released = mistake == Some(Mistake::EarlyRelease) && state.place == state.list_length + 2;
+    let released = mistake == Some(Mistake::EarlyRelease) && state.place == writes(state, mistake) + 2;
     let waiting = state.active_workers().iter().all(|condition| waits(condition, mistake));
     if !state.requested || !(waiting || released) {
         return 10;
     }
-    if state.place == state.list_length && rows.cache[0] == u64::MAX {
+    if rows.cache[0] == u64::MAX && state.place == writes(state, mistake) {
         return 11;
     }
     0
@@ -120,17 +119,9 @@ fn waits(condition: &Condition, mistake: Option<Mistake>) -> bool {
     }
 }
 
-/// "a list entry that this step uses is 2L or more", turned round
-fn entry_used_fits(state: &State, rows: &Lent, mistake: Option<Mistake>) -> bool {
-    match act_at(state.place, state.list_length, mistake) {
-        Act::WriteListed(entry) => (rows.list[entry as usize] as u64) < cells(state.lines as u64),
-        _ => true,
-    }
-}
-
 /// The start of an update.
 fn update_cause(worker: u64, cell: u64, state: &State, rows: &Lent, mistake: Option<Mistake>) -> u8 {
-    let common = worker_cause(worker, state, rows);
+    let common = worker_cause(worker, state, rows, mistake);
     if common != 0 {
         return common;
     }
@@ -142,7 +133,7 @@ fn update_cause(worker: u64, cell: u64, state: &State, rows: &Lent, mistake: Opt
 
 /// The start of a restart point, on the worker's own restart cell.
 fn restart_point_cause(worker: u64, state: &State, rows: &Lent, mistake: Option<Mistake>) -> u8 {
-    match worker_cause(worker, state, rows) {
+    match worker_cause(worker, state, rows, mistake) {
         0 => begin_cause(worker as usize, worker, state, mistake),
         common => common,
     }
@@ -163,26 +154,11 @@ fn begin_cause(worker: usize, cell: u64, state: &State, mistake: Option<Mistake>
     0
 }
 
-/// An advance; "must add a cell and the length is 2L" is cause 3.
-fn advance_cause(worker: u64, state: &State, rows: &Lent) -> u8 {
-    if state.phase != Phase::Running {
-        return 2;
-    }
-    if !record_sound(state) {
-        return 3;
-    }
-    let full = state.list_length as u64 == cells(state.lines as u64);
-    let known = worker < state.workers as u64;
-    let adds =
-        known && matches!(state.worker[worker as usize], Condition::Updating(update) if update.next == Store::Mark);
-    if adds && full {
-        return 3;
-    }
-    if !rows_fit(state.lines as u64, rows) {
-        return 4;
-    }
-    if !known {
-        return 6;
+/// "advance of one free or waiting" is 8.
+fn advance_cause(worker: u64, state: &State, rows: &Lent, mistake: Option<Mistake>) -> u8 {
+    let common = worker_cause(worker, state, rows, mistake);
+    if common != 0 {
+        return common;
     }
     if !matches!(state.worker[worker as usize], Condition::Updating(_)) {
         return 8;
@@ -191,8 +167,8 @@ fn advance_cause(worker: u64, state: &State, rows: &Lent) -> u8 {
 }
 
 /// The request for a checkpoint.
-fn request_cause(state: &State, rows: &Lent) -> u8 {
-    let common = running_cause(state, rows);
+fn request_cause(state: &State, rows: &Lent, mistake: Option<Mistake>) -> u8 {
+    let common = running_cause(state, rows, mistake);
     if common != 0 {
         return common;
     }
@@ -206,11 +182,11 @@ fn request_cause(state: &State, rows: &Lent) -> u8 {
 }
 
 /// "Write-back needs recovering or running"; "line over L" is 7.
-fn write_back_cause(line: u64, state: &State, rows: &Lent) -> u8 {
+fn write_back_cause(line: u64, state: &State, rows: &Lent, mistake: Option<Mistake>) -> u8 {
     if state.phase != Phase::Recovering && state.phase != Phase::Running {
         return 2;
     }
-    let common = record_and_rows_cause(state, rows);
+    let common = record_and_rows_cause(state, rows, mistake);
     if common != 0 {
         return common;
     }
@@ -221,8 +197,8 @@ fn write_back_cause(line: u64, state: &State, rows: &Lent) -> u8 {
 }
 
 /// "read of 2L or more" is 7.
-fn read_cause(cell: u64, state: &State, rows: &Lent) -> u8 {
-    let common = running_cause(state, rows);
+fn read_cause(cell: u64, state: &State, rows: &Lent, mistake: Option<Mistake>) -> u8 {
+    let common = running_cause(state, rows, mistake);
     if common != 0 {
         return common;
     }
@@ -235,7 +211,7 @@ fn read_cause(cell: u64, state: &State, rows: &Lent) -> u8 {
 /// "12 where the row is too short, checked last"
 fn page_cause(room: u64, state: &State, rows: &Lent, mistake: Option<Mistake>) -> u8 {
     let short = room < page_bytes(state.lines as u64);
-    match running_cause(state, rows) {
+    match running_cause(state, rows, mistake) {
         0 if short => 12,
         4 if short && mistake == Some(Mistake::PageTextFirst) => 12,
         common => common,
@@ -244,7 +220,7 @@ fn page_cause(room: u64, state: &State, rows: &Lent, mistake: Option<Mistake>) -
 
 /// "8 for going away when not free"
 fn go_away_cause(worker: u64, state: &State, rows: &Lent, mistake: Option<Mistake>) -> u8 {
-    let common = worker_cause(worker, state, rows);
+    let common = worker_cause(worker, state, rows, mistake);
     if common != 0 {
         return common;
     }
@@ -257,7 +233,7 @@ fn go_away_cause(worker: u64, state: &State, rows: &Lent, mistake: Option<Mistak
 
 /// "8 for ... coming back when not away; 13 for coming back after a checkpoint's first step ..., after 8"
 fn come_back_cause(worker: u64, state: &State, rows: &Lent, mistake: Option<Mistake>) -> u8 {
-    let common = worker_cause(worker, state, rows);
+    let common = worker_cause(worker, state, rows, mistake);
     if common != 0 {
         return common;
     }
@@ -285,24 +261,24 @@ fn checkpoint_under_way(state: &State, mistake: Option<Mistake>) -> bool {
 }
 
 /// Causes 2, 3, 4 and 6 of a call that names a worker.
-fn worker_cause(worker: u64, state: &State, rows: &Lent) -> u8 {
-    match running_cause(state, rows) {
+fn worker_cause(worker: u64, state: &State, rows: &Lent, mistake: Option<Mistake>) -> u8 {
+    match running_cause(state, rows, mistake) {
         0 if worker >= state.workers as u64 => 6,
         common => common,
     }
 }
 
 /// Causes 2, 3 and 4 of a call that needs running.
-fn running_cause(state: &State, rows: &Lent) -> u8 {
+fn running_cause(state: &State, rows: &Lent, mistake: Option<Mistake>) -> u8 {
     if state.phase != Phase::Running {
         return 2;
     }
-    record_and_rows_cause(state, rows)
+    record_and_rows_cause(state, rows, mistake)
 }
 
 /// Causes 3 and 4 as they stand for every call but the starts.
-fn record_and_rows_cause(state: &State, rows: &Lent) -> u8 {
-    if !record_sound(state) {
+fn record_and_rows_cause(state: &State, rows: &Lent, mistake: Option<Mistake>) -> u8 {
+    if !record_sound(state, mistake) {
         return 3;
     }
     if !rows_fit(state.lines as u64, rows) {
@@ -311,21 +287,21 @@ fn record_and_rows_cause(state: &State, rows: &Lent) -> u8 {
     0
 }
 
-/// Cause 3 without the part about an advance.
-fn record_sound(state: &State) -> bool {
+/// Cause 3, turned round.
+fn record_sound(state: &State, mistake: Option<Mistake>) -> bool {
     let lines = state.lines as u64;
     if !sizes_allowed(lines, state.workers as u64) {
         return false;
     }
-    let (length, place) = (state.list_length as u64, state.place as u64);
-    if length > cells(lines) {
+    if bit_astray(state, mistake) {
         return false;
     }
+    let place = state.place as u64;
     let placed = match state.phase {
         Phase::Off => true,
         Phase::Formatting => place <= lines + 1,
         Phase::Recovering => place < cells(lines),
-        Phase::Running => !state.requested || place <= length + 2,
+        Phase::Running => !state.requested || place <= u64::from(writes(state, mistake)) + 2,
     };
     placed
         && state.active_workers().iter().all(|condition| match condition {
@@ -334,9 +310,19 @@ fn record_sound(state: &State) -> bool {
         })
 }
 
-/// "cache or memory not 8×(L+1) words, list under 2L"
+/// "A bit set for line 0 or past L"
+fn bit_astray(state: &State, mistake: Option<Mistake>) -> bool {
+    let of_line_0 = state.line_bits[0] & 1 == 1;
+    let (last, lines) = (bits::last(&state.line_bits).unwrap_or(0), state.lines as usize);
+    match mistake {
+        Some(Mistake::BitOfLine0Passes) => last > lines,
+        Some(Mistake::BitsPastLPass) => of_line_0,
+        Some(Mistake::BitOfLastLineRefused) => of_line_0 || last >= lines,
+        _ => of_line_0 || last > lines,
+    }
+}
+
+/// "cache or memory not 8×(L+1) words", turned round
 fn rows_fit(lines: u64, rows: &Lent) -> bool {
-    rows.memory.len() as u64 == row_words(lines)
-        && rows.cache.len() as u64 == row_words(lines)
-        && rows.list.len() as u64 >= cells(lines)
+    rows.memory.len() as u64 == row_words(lines) && rows.cache.len() as u64 == row_words(lines)
 }

@@ -8,14 +8,12 @@ pub fn of_numbers(numbers: impl Iterator<Item = u64>) -> u64 {
     numbers.fold(14_695_981_039_346_656_037, |sum, number| (sum ^ number).wrapping_mul(1_099_511_628_211))
 }
 
-/// "the fields of `B` ...; for each of the eight workers ...; then for memory, for the cache and ... for the list"
+/// "the fields of `B` ...; for each of the eight workers ...; ... the eight words of bits; ... memory, ... the cache"
 pub fn of_board(board: &Board) -> u64 {
-    let fields = (0..FIELDS).map(|k| field(&board.state, k));
+    let fields = FIELDS.iter().map(|k| field(&board.state, *k));
     let workers = board.state.worker.iter().flat_map(condition_numbers);
-    let memory = row(board.memory.len(), board.memory.iter().copied());
-    let cache = row(board.cache.len(), board.cache.iter().copied());
-    let list = row(board.list.len(), board.list.iter().map(|entry| u64::from(*entry)));
-    of_numbers(fields.chain(workers).chain(memory).chain(cache).chain(list))
+    let bits = board.state.line_bits;
+    of_numbers(fields.chain(workers).chain(bits).chain(row(&board.memory)).chain(row(&board.cache)))
 }
 
 /// "For `p` they are the bytes of the text row."
@@ -24,6 +22,6 @@ pub fn of_bytes(text: &[u8]) -> u64 {
 }
 
 /// "its length, then its words"
-fn row(length: usize, words: impl Iterator<Item = u64>) -> impl Iterator<Item = u64> {
-    std::iter::once(length as u64).chain(words)
+fn row(words: &[u64]) -> impl Iterator<Item = u64> + '_ {
+    std::iter::once(words.len() as u64).chain(words.iter().copied())
 }

@@ -59,7 +59,7 @@ impl Program for Drill {
             }
             Command::Call(call) => {
                 let Answer { number, value } = board.perform(&call);
-                Reply { number, value: matches!(call, Call::Read { .. }).then_some(value) }
+                Reply { number, value: matches!(call, Call::Read { .. } | Call::Count).then_some(value) }
             }
         })
     }
@@ -68,7 +68,7 @@ impl Program for Drill {
 /// "Rows are sized by the last taken F"; then the start and the steps to the format's end.
 fn format(board: &mut Board, lines: u64, workers: u64) -> Answer {
     if sizes_allowed(lines, workers) {
-        board.renew(lines);
+        board.resize(lines);
     }
     let answer = board.perform(&Call::Format { lines, workers });
     if answer.number == 0 {

@@ -1,11 +1,12 @@
 //! What a taken call does, sentence by sentence of 01's "Steps" and of what 02 adds to them.
 
+use crate::bits::{self, LineBits, BIT_WORDS, NO_LINES};
 use crate::board::{Condition, Phase, Rows, State, Store, UndoStep, Update};
 use crate::call::Call;
 use crate::line::{backup_at, cells, header, line_of, line_words, mark_at, record_at, LINE_WORDS};
 use crate::mistake::Mistake;
 
-/// Take a call that no cause turns down; gives the value read, 0 for all but a read.
+/// Take a call that no cause turns down; gives the value read or counted, 0 for all others.
 pub fn take(call: &Call, state: &mut State, rows: &mut Rows, mistake: Option<Mistake>) -> u64 {
     match *call {
         Call::Format { lines, workers } => {
@@ -30,6 +31,7 @@ pub fn take(call: &Call, state: &mut State, rows: &mut Rows, mistake: Option<Mis
         Call::Page { .. } => {}
         Call::GoAway { worker } => state.worker[worker as usize] = Condition::Away,
         Call::ComeBack { worker } => state.worker[worker as usize] = back(mistake),
+        Call::Count => return foretold(state, mistake),
     }
     0
 }
@@ -63,7 +65,7 @@ fn format_step(state: &mut State, rows: &mut Rows, mistake: Option<Mistake>) {
     if place <= lines {
         state.place += 1;
     } else {
-        state.list_length = 0;
+        state.line_bits = NO_LINES;
         run(state, true);
     }
 }
@@ -95,7 +97,7 @@ fn free_workers(state: &mut State, away_too: bool) {
     }
 }
 
-/// "The start copies memory to cache, list empty."
+/// "The start copies memory to cache"; no bit is set.
 fn start_recovery(state: &mut State, rows: &mut Rows, mistake: Option<Mistake>) {
     rows.cache.copy_from_slice(rows.memory);
     if mistake == Some(Mistake::RecoveryZeros) {
@@ -104,7 +106,9 @@ fn start_recovery(state: &mut State, rows: &mut Rows, mistake: Option<Mistake>) 
     if mistake == Some(Mistake::RecoveryClearsSpare) {
         rows.cache.chunks_exact_mut(LINE_WORDS).skip(1).for_each(|line| line[6..].fill(0));
     }
+    let kept = if mistake == Some(Mistake::RecoveryKeepsBits) { state.line_bits } else { NO_LINES };
     *state = State::started(Phase::Recovering, rows.memory[1] as u16, rows.memory[2] as u8);
+    state.line_bits = kept;
 }
 
 /// "a cell whose mark equals the epoch takes three steps ..., any other ... one step that stores nothing"
@@ -167,7 +171,7 @@ fn begin(worker: u64, cell: u64, value: u64, state: &mut State, rows: &mut Rows,
     state.worker[worker as usize] = Condition::Updating(Update { cell: cell as u16, value, next });
 }
 
-/// "backup := record; mark := epoch, and the cell is added to the list; record := value"
+/// "backup := record; mark := epoch, ...; record := value", with the mark its line's bit
 fn advance(worker: usize, state: &mut State, rows: &mut Rows, mistake: Option<Mistake>) {
     let Condition::Updating(update) = state.worker[worker] else {
         return;
@@ -181,7 +185,7 @@ fn advance(worker: usize, state: &mut State, rows: &mut Rows, mistake: Option<Mi
         }
         Store::Mark => {
             rows.cache[mark_at(cell)] = rows.cache[0];
-            add_to_list(update.cell, state, rows, mistake);
+            set_bit(cell, state, mistake);
             Some(if mark_first { Store::Backup } else { Store::Record })
         }
         Store::Record => {
@@ -196,17 +200,40 @@ fn advance(worker: usize, state: &mut State, rows: &mut Rows, mistake: Option<Mi
     };
 }
 
-/// "the cell is added to the list"
-fn add_to_list(cell: u16, state: &mut State, rows: &mut Rows, mistake: Option<Mistake>) {
-    if mistake != Some(Mistake::Unlisted) {
-        rows.list[state.list_length as usize] = cell;
-        state.list_length += 1;
+/// "Marking a cell now promises its line's bit too."
+fn set_bit(cell: usize, state: &mut State, mistake: Option<Mistake>) {
+    match mistake {
+        Some(Mistake::MarkWithoutBit) => {}
+        Some(Mistake::BitOfCell) => bits::set(&mut state.line_bits, cell % (64 * BIT_WORDS)),
+        _ => bits::set(&mut state.line_bits, line_of(cell)),
     }
 }
 
+/// "the count of set bits"
+fn set_count(bits: &LineBits, mistake: Option<Mistake>) -> u16 {
+    let counted = if mistake == Some(Mistake::SevenWords) { BIT_WORDS - 1 } else { BIT_WORDS };
+    bits::count(&bits[..counted])
+}
+
+/// How many line write-backs a checkpoint begins with.
+pub fn writes(state: &State, mistake: Option<Mistake>) -> u16 {
+    let n = set_count(&state.line_bits, mistake);
+    if mistake == Some(Mistake::LineTwice) {
+        n + n.min(1)
+    } else {
+        n
+    }
+}
+
+/// "the count of set bits plus 3"
+pub fn foretold(state: &State, mistake: Option<Mistake>) -> u64 {
+    let others = if mistake == Some(Mistake::CountShort) { 2 } else { 3 };
+    u64::from(set_count(&state.line_bits, mistake)) + others
+}
+
 /// What a checkpoint does at one place.
-pub enum Act {
-    WriteListed(u16),
+enum Act {
+    WriteSet(u16),
     StoreEpoch,
     WriteHeader,
     Release,
@@ -214,44 +241,70 @@ pub enum Act {
     WriteHeaderAndEnd,
 }
 
-/// "one step for each list entry in list order ...; epoch ...; line 0 ...; release": which comes at this place.
-pub fn act_at(place: u16, length: u16, mistake: Option<Mistake>) -> Act {
+/// "A checkpoint writes the set lines in rising order; ...; epoch ...; line 0 ...; release": which comes at this place.
+fn act_at(place: u16, n: u16, mistake: Option<Mistake>) -> Act {
     match mistake {
         Some(Mistake::CompleteEarly) if place == 0 => Act::StoreEpoch,
         Some(Mistake::CompleteEarly) if place == 1 => Act::WriteHeader,
-        Some(Mistake::CompleteEarly) if place < length + 2 => Act::WriteListed(place - 2),
-        Some(Mistake::EarlyRelease) if place == length + 1 => Act::FreeWorkers,
-        Some(Mistake::EarlyRelease) if place > length + 1 => Act::WriteHeaderAndEnd,
-        _ if place < length => Act::WriteListed(place),
-        _ if place == length => Act::StoreEpoch,
-        _ if place == length + 1 => Act::WriteHeader,
+        Some(Mistake::CompleteEarly) if place < n + 2 => Act::WriteSet(place - 2),
+        Some(Mistake::EarlyRelease) if place == n + 1 => Act::FreeWorkers,
+        Some(Mistake::EarlyRelease) if place > n + 1 => Act::WriteHeaderAndEnd,
+        _ if place < n => Act::WriteSet(place),
+        _ if place == n => Act::StoreEpoch,
+        _ if place == n + 1 => Act::WriteHeader,
         _ => Act::Release,
     }
 }
 
 /// One step of a requested checkpoint, all workers waiting or away; "Release leaves it away".
 fn checkpoint_step(state: &mut State, rows: &mut Rows, mistake: Option<Mistake>) {
-    let act = act_at(state.place, state.list_length, mistake);
+    let act = act_at(state.place, writes(state, mistake), mistake);
     state.place += 1;
     match act {
-        Act::WriteListed(entry) => write_back(line_of(rows.list[entry as usize] as usize), rows, mistake),
-        Act::StoreEpoch => rows.cache[0] = rows.cache[0].wrapping_add(1),
-        Act::WriteHeader => write_back(0, rows, mistake),
+        Act::WriteSet(before) => write_set_line(before, state, rows, mistake),
+        Act::StoreEpoch => {
+            rows.cache[0] = rows.cache[0].wrapping_add(1);
+            if mistake == Some(Mistake::BitsClearedEarly) {
+                state.line_bits = NO_LINES;
+            }
+        }
+        Act::WriteHeader => {
+            write_back(0, rows, mistake);
+            if mistake == Some(Mistake::ReleaseWithHeader) {
+                free_workers(state, false);
+                end_checkpoint(state, mistake);
+            }
+        }
         Act::FreeWorkers => free_workers(state, false),
         Act::WriteHeaderAndEnd => {
             write_back(0, rows, mistake);
-            end_checkpoint(state);
+            end_checkpoint(state, mistake);
         }
         Act::Release => {
             free_workers(state, mistake == Some(Mistake::ReleaseFreesAway));
-            end_checkpoint(state);
+            end_checkpoint(state, mistake);
         }
     }
 }
 
-/// "list empty, request gone", and the place 0.
-fn end_checkpoint(state: &mut State) {
-    state.list_length = 0;
+/// "writes the set lines in rising order": the one that has so many set ones before it.
+fn write_set_line(before: u16, state: &State, rows: &mut Rows, mistake: Option<Mistake>) {
+    let before = match mistake {
+        Some(Mistake::HighestFirst) => bits::count(&state.line_bits) - 1 - before,
+        Some(Mistake::LineTwice) => before.min(bits::count(&state.line_bits) - 1),
+        _ => before,
+    };
+    let line = bits::set_line(&state.line_bits, before);
+    if let Some(line) = line.filter(|line| *line <= state.lines as usize) {
+        write_back(line, rows, mistake);
+    }
+}
+
+/// "they stay set until release", "request gone", and the place 0.
+fn end_checkpoint(state: &mut State, mistake: Option<Mistake>) {
+    if mistake != Some(Mistake::BitsKept) {
+        state.line_bits = NO_LINES;
+    }
     state.requested = false;
     state.reset_place();
 }

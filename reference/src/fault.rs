@@ -13,7 +13,7 @@ use crate::text::{Fields, Unread};
 /// One line of a script.
 #[derive(Clone, Copy, PartialEq, Eq, Debug)]
 pub enum Command {
-    /// A letter of the drill, or a call that the drill has no letter for: `f`, a format's start alone, `a` and `b`.
+    /// A letter of the drill, or a call that the drill has no letter for: `f`, a format's start alone, `a`, `b` and `n`.
     Drill(drill::Command),
     /// `W M N Q B K`
     Damage(Damage),
@@ -41,9 +41,9 @@ pub const MOST_ROOM: u64 = 70_000;
 pub const BYTE_BEFORE: u8 = 0xAA;
 
 /// The letters that the drill has not, and how many numbers each has.
-pub const FORMS: [(u8, usize); 11] = [
+pub const FORMS: [(u8, usize); 12] = [
     (b'f', 2),
-    (b'W', 3),
+    (b'W', 2),
     (b'M', 2),
     (b'N', 2),
     (b'Q', 2),
@@ -53,6 +53,7 @@ pub const FORMS: [(u8, usize); 11] = [
     (b'p', 1),
     (b'a', 1),
     (b'b', 1),
+    (b'n', 0),
 ];
 
 /// The fault program as a program.
@@ -67,13 +68,14 @@ impl Program for Fault {
             (b'f', 2) => return alone(Call::Format { lines: a, workers: b }),
             (b'a', 1) => return alone(Call::GoAway { worker: a }),
             (b'b', 1) => return alone(Call::ComeBack { worker: a }),
+            (b'n', 0) => return alone(Call::Count),
             (b'T', 0) => return Ok(Command::Checksum),
             (b'p', 1) if a > MOST_ROOM => return Err(Unread::NoRoom),
             (b'p', 1) => return Ok(Command::Page { room: a }),
-            (b'W', 3) => Damage::Lengths { memory: a, cache: b, list: c },
+            (b'W', 2) => Damage::Lengths { memory: a, cache: b },
             (b'M', 2) => Damage::Memory { at: a, word: b },
             (b'N', 2) => Damage::Cache { at: a, word: b },
-            (b'Q', 2) => Damage::Entry { at: a, cell: b },
+            (b'Q', 2) => Damage::Bits { at: a, word: b },
             (b'B', 2) => Damage::Field { k: a, number: b },
             (b'K', 5) => Damage::Worker { worker: a, numbers: [b, c, d, e] },
             (letter, _) if FORMS.iter().any(|(known, _)| *known == letter) => return Err(fields.other_form(&FORMS)),

@@ -2,6 +2,7 @@
 #![deny(warnings)]
 
 pub mod bench;
+pub mod bits;
 pub mod board;
 pub mod call;
 pub mod causes;

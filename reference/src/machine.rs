@@ -70,7 +70,7 @@ impl Machine {
                 self.steps = 0;
             }
             Call::WriteBack { line } => self.write_back(line),
-            Call::Read { .. } | Call::Page { .. } | Call::GoAway { .. } | Call::ComeBack { .. } => {}
+            Call::Read { .. } | Call::Page { .. } | Call::GoAway { .. } | Call::ComeBack { .. } | Call::Count => {}
         }
     }
 
@@ -105,9 +105,14 @@ impl Machine {
         }
     }
 
-    /// "n cells being marked"
-    pub fn marked(&self) -> u64 {
-        self.values.iter().filter(|value| value.marked).count() as u64
+    /// Whether each of the lines 1 to L has a marked cell.
+    pub fn marked_lines(&self) -> impl Iterator<Item = bool> + '_ {
+        self.values.chunks(2).map(|line| line.iter().any(|value| value.marked))
+    }
+
+    /// n, "that of the lines with a marked cell"
+    fn n(&self) -> u64 {
+        self.marked_lines().filter(|marked| *marked).count() as u64
     }
 
     /// "Step L+2 after a format's start", "Step n+1 after a request ..., step n+3", "by step n+2"
@@ -116,7 +121,7 @@ impl Machine {
         if self.formatting.is_some_and(|lines| self.steps == lines + 2) {
             *self = Machine::begin(self.values.len() as u64);
         } else if self.requested {
-            let n = self.marked();
+            let n = self.n();
             if self.steps == n + 2 {
                 self.complete();
             }
@@ -130,7 +135,7 @@ impl Machine {
     /// "by a call between steps n+1 and n+3 while that request stands"
     fn write_back(&mut self, line: u64) {
         if line == 0 && self.requested {
-            let n = self.marked();
+            let n = self.n();
             if self.steps == n + 1 || self.steps == n + 2 {
                 self.complete();
             }

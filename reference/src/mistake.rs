@@ -27,8 +27,8 @@ pub enum Mistake {
     RefuseAll,
     /// Cause 9 dropped.
     NoCause9,
-    /// A marked cell that is not added to the list.
-    Unlisted,
+    /// A mark's store that leaves its line's bit as it was.
+    MarkWithoutBit,
     /// Equal marks by falling cell number.
     PageFallingCells,
     /// The oldest mark first.
@@ -81,10 +81,36 @@ pub enum Mistake {
     RecoveryClearsSpare,
     /// The machine begins at a recovery's start with memory's records in place of its undo.
     BeginWithRecords,
+    /// Release leaves the bits.
+    BitsKept,
+    /// Recovery's start leaves the bits.
+    RecoveryKeepsBits,
+    /// Bits cleared at the epoch's store and not at the release.
+    BitsClearedEarly,
+    /// The last set line written by two steps.
+    LineTwice,
+    /// The step that writes line 0 back releases too.
+    ReleaseWithHeader,
+    /// The set lines in falling order.
+    HighestFirst,
+    /// The bit of the cell's number set in place of its line's.
+    BitOfCell,
+    /// Bits of the eighth word not counted.
+    SevenWords,
+    /// The count one too low.
+    CountShort,
+    /// A refused count gives the number too.
+    CountRefused,
+    /// A bit of line L is cause 3 too.
+    BitOfLastLineRefused,
+    /// A bit of line 0 is no cause.
+    BitOfLine0Passes,
+    /// A bit past L is no cause.
+    BitsPastLPass,
 }
 
 /// Every mistake with its name and a few words.
-pub const MISTAKES: [(&str, Mistake, &str); 39] = [
+pub const MISTAKES: [(&str, Mistake, &str); 52] = [
     ("mark-first", Mistake::MarkFirst, "an update stores the mark before the backup"),
     ("recovery-mark-first", Mistake::RecoveryMarkFirst, "recovery clears a mark before it restores the record"),
     ("recovery-cache-only", Mistake::RecoveryCacheOnly, "recovered lines are not written back"),
@@ -97,7 +123,7 @@ pub const MISTAKES: [(&str, Mistake, &str); 39] = [
     ("write-back-nothing", Mistake::WriteBackNothing, "a write-back copies nothing"),
     ("refuse-all", Mistake::RefuseAll, "every call is turned down"),
     ("no-cause-9", Mistake::NoCause9, "two workers may update one cell"),
-    ("unlisted", Mistake::Unlisted, "a marked cell is not added to the list"),
+    ("mark-without-bit", Mistake::MarkWithoutBit, "a mark's store does not set its line's bit"),
     ("page-falling-cells", Mistake::PageFallingCells, "a page has equal marks by falling cell number"),
     ("page-older-first", Mistake::PageOlderFirst, "a page has the oldest mark first"),
     ("page-swapped", Mistake::PageSwapped, "a page has record and backup swapped"),
@@ -124,6 +150,19 @@ pub const MISTAKES: [(&str, Mistake, &str); 39] = [
     ("cause-14-first", Mistake::Cause14First, "14 is tested before 5"),
     ("recovery-clears-spare", Mistake::RecoveryClearsSpare, "recovery's start puts 0 into the cache's words 6 and 7"),
     ("begin-with-records", Mistake::BeginWithRecords, "the machine begins with memory's records, not its undo"),
+    ("bits-kept", Mistake::BitsKept, "a release leaves the bits of the lines"),
+    ("recovery-keeps-bits", Mistake::RecoveryKeepsBits, "recovery's start leaves the bits of the lines"),
+    ("bits-cleared-early", Mistake::BitsClearedEarly, "the bits are cleared at the epoch's store"),
+    ("line-twice", Mistake::LineTwice, "a checkpoint writes its last set line twice"),
+    ("release-with-header", Mistake::ReleaseWithHeader, "line 0's write-back releases too: n + 2 steps"),
+    ("highest-first", Mistake::HighestFirst, "a checkpoint writes the highest set line first"),
+    ("bit-of-cell", Mistake::BitOfCell, "a mark's store sets the bit of the cell's number, not of its line"),
+    ("seven-words", Mistake::SevenWords, "set bits of the eighth word are not counted"),
+    ("count-short", Mistake::CountShort, "the count is one too low"),
+    ("count-refused", Mistake::CountRefused, "a refused count gives the number too"),
+    ("bit-of-last-line-refused", Mistake::BitOfLastLineRefused, "a bit of line L is cause 3 too"),
+    ("bit-of-line-0-passes", Mistake::BitOfLine0Passes, "a bit of line 0 is no cause"),
+    ("bits-past-l-pass", Mistake::BitsPastLPass, "a bit of a line past L is no cause"),
 ];
 
 impl Mistake {

@@ -3,8 +3,8 @@
 use crate::board::{Condition, Phase, State, Store, UndoStep, Update};
 use crate::text::Unread;
 
-/// How many fields of the record `B` has.
-pub const FIELDS: u64 = 7;
+/// The fields of the record that `B` has.
+pub const FIELDS: [u64; 6] = [0, 1, 2, 4, 5, 6];
 
 /// The phases in the order of their numbers.
 const PHASES: [Phase; 4] = [Phase::Off, Phase::Formatting, Phase::Recovering, Phase::Running];
@@ -27,17 +27,16 @@ fn numbered<T: Copy>(of: &[T], number: u64) -> Result<T, Unread> {
 }
 
 /// A number in the width of its field.
-pub fn narrow<T: TryFrom<u64>>(number: u64) -> Result<T, Unread> {
+fn narrow<T: TryFrom<u64>>(number: u64) -> Result<T, Unread> {
     T::try_from(number).map_err(|_| Unread::TooLarge)
 }
 
-/// Field k of the record, 0 to 6.
+/// Field k of the record, one of `FIELDS`.
 pub fn field(state: &State, k: u64) -> u64 {
     match k {
         0 => number_of(&PHASES, state.phase),
         1 => state.lines.into(),
         2 => state.workers.into(),
-        3 => state.list_length.into(),
         4 => state.place.into(),
         5 => number_of(&UNDO_STEPS, state.undo),
         _ => state.requested.into(),
@@ -50,7 +49,6 @@ pub fn set_field(state: &mut State, k: u64, number: u64) -> Result<(), Unread> {
         0 => state.phase = numbered(&PHASES, number)?,
         1 => state.lines = narrow(number)?,
         2 => state.workers = narrow(number)?,
-        3 => state.list_length = narrow(number)?,
         4 => state.place = narrow(number)?,
         5 => state.undo = numbered(&UNDO_STEPS, number)?,
         6 => state.requested = numbered(&[false, true], number)?,

@@ -30,16 +30,17 @@ pub fn call_line(call: &Call) -> Vec<u8> {
         Call::Page { room } => line('p', &[room]),
         Call::GoAway { worker } => line('a', &[worker]),
         Call::ComeBack { worker } => line('b', &[worker]),
+        Call::Count => line('n', &[]),
     }
 }
 
 /// A damage's line.
 pub fn damage_line(damage: &Damage) -> Vec<u8> {
     match *damage {
-        Damage::Lengths { memory, cache, list } => line('W', &[memory, cache, list]),
+        Damage::Lengths { memory, cache } => line('W', &[memory, cache]),
         Damage::Memory { at, word } => line('M', &[at, word]),
         Damage::Cache { at, word } => line('N', &[at, word]),
-        Damage::Entry { at, cell } => line('Q', &[at, cell]),
+        Damage::Bits { at, word } => line('Q', &[at, word]),
         Damage::Field { k, number } => line('B', &[k, number]),
         Damage::Worker { worker, numbers: [c, n, a, v] } => line('K', &[worker, c, n, a, v]),
     }

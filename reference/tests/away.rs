@@ -132,7 +132,7 @@ fn coming_back_is_13_from_the_first_step_to_the_release() {
 }
 
 #[test]
-fn with_an_empty_list_the_epochs_store_is_the_first_step() {
+fn with_no_line_set_the_epochs_store_is_the_first_step() {
     let mut board = formatted(1, 1);
     taken(&mut board, &[AWAY, Call::Request]);
     let mut before = board.clone();
@@ -193,9 +193,9 @@ const FAULTS: [Fault; 7] = [
     (2, |board| board.state.phase = Phase::Off),
     (2, |board| board.state.phase = Phase::Recovering),
     (3, |board| board.state.lines = 0),
-    (3, |board| board.state.list_length = 5),
+    (3, |board| board.state.line_bits[0] = 1),
     (3, |board| board.state.place = 3),
-    (4, |board| board.list.truncate(3)),
+    (4, |board| board.cache.truncate(23)),
     (4, |board| board.memory.push(0)),
 ];
 
@@ -259,9 +259,9 @@ fn a_start_and_the_end_of_a_format_or_recovery_free_all_eight() {
 #[test]
 fn the_workload_checkpoint_away_is_taken_throughout_and_has_one_restart_point() {
     let workload = Workload::named("checkpoint-away").unwrap();
-    for (lines, workers, n) in [(1, 1, 1), (1, 1, 2), (2, 3, 3), (3, 4, 6), (64, 8, 100), (511, 8, 1022)] {
+    for (lines, workers, n) in [(1, 1u64, 1), (2, 1, 2), (2, 3, 3), (4, 4, 6), (64, 8, 68), (511, 8, 515)] {
         for rounds in [0, 1, 7] {
-            let reads = (workers..n).sum::<u64>() + 3;
+            let reads = (0..n - workers).map(|k| 2 * (workers.div_ceil(2) + k)).sum::<u64>() + 3;
             assert_eq!(run(workload, lines, workers, n, rounds, 5), Some(reads), "{lines} {workers} {n} {rounds}");
         }
     }

@@ -58,7 +58,7 @@ fn k5() -> Board {
     board
 }
 
-/// K8 up to some of its five steps.
+/// K8 up to some of its four steps.
 fn k8(steps: usize) -> Board {
     let mut board = k5();
     taken(&mut board, &[Call::Request, Call::RestartPoint { worker: 0, value: 3 }, ADVANCE, ADVANCE, ADVANCE]);
@@ -79,7 +79,7 @@ fn k2_format_limits() {
     assert_eq!(board.perform(&Call::Format { lines: 1, workers: 2 }).number, 1);
     assert_eq!(board.perform(&Call::Format { lines: 512, workers: 1 }).number, 1);
     board.resize(511);
-    assert_eq!((board.memory.len(), board.cache.len(), board.list.len()), (4096, 4096, 1022));
+    assert_eq!((board.memory.len(), board.cache.len()), (4096, 4096));
     assert_eq!(board.perform(&Call::Format { lines: 511, workers: 8 }).number, 0);
 }
 
@@ -88,7 +88,6 @@ fn k3_recovery_of_what_is_no_board() {
     let mut board = Board::empty(None);
     board.memory = vec![0; 15];
     board.cache = vec![0; 15];
-    board.list = vec![0; 2];
     assert_eq!(board.perform(&Call::Recovery).number, 4);
     board.memory = vec![0; 16];
     board.cache = vec![0; 16];
@@ -99,7 +98,7 @@ fn k3_recovery_of_what_is_no_board() {
 fn k4_two_advances() {
     let board = k4();
     assert_eq!(line(&board.cache, 1), [0, 0, 0, 0, 0, 1, 0, 0]);
-    assert_eq!(board.list[..board.state.list_length as usize], [1]);
+    assert_eq!(board.state.line_bits, [2, 0, 0, 0, 0, 0, 0, 0]);
 }
 
 #[test]
@@ -127,7 +126,7 @@ fn k7_second_update_in_one_epoch() {
 
 #[test]
 fn k8_checkpoint() {
-    let mut board = k8(5);
+    let mut board = k8(4);
     assert_eq!(line(&board.memory, 0), [2, 1, 1, 0, 0, 0, 0, 0]);
     assert_eq!(line(&board.memory, 1), [3, 0, 1, 7, 0, 1, 0, 0]);
     assert_eq!(board.perform(&Call::Step).number, 10);
@@ -135,17 +134,17 @@ fn k8_checkpoint() {
 
 #[test]
 fn k9_recovery_after_a_checkpoint() {
-    let mut board = k8(5);
+    let mut board = k8(4);
     assert_eq!(run_to_the_end(&mut board, Call::Recovery), 2);
     assert_eq!(read(&mut board, 1), 7);
 }
 
 #[test]
 fn k10_cut_within_a_checkpoint() {
-    let mut board = k8(3);
+    let mut board = k8(2);
     run_to_the_end(&mut board, Call::Recovery);
     assert_eq!((read(&mut board, 0), read(&mut board, 1)), (0, 0));
-    let mut board = k8(3);
+    let mut board = k8(2);
     taken(&mut board, &[Call::WriteBack { line: 0 }]);
     run_to_the_end(&mut board, Call::Recovery);
     assert_eq!(read(&mut board, 1), 7);

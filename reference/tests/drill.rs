@@ -53,12 +53,14 @@ fn before_a_format_rows_are_empty_and_the_phase_is_off() {
 
 #[test]
 fn lines_of_another_form() {
-    let bad: [&[u8]; 26] = [
+    let bad: [&[u8]; 28] = [
         b"f\t1\t1",
         b"p",
         b"p\t204",
         b"a\t0",
         b"b\t0",
+        b"n",
+        b"n\t0",
         b"F\t1",
         b"F\t1\t1\t1",
         b"F 1 1",
@@ -140,7 +142,7 @@ fn after_a_cut_only_starts_are_taken() {
 
 #[test]
 fn the_bench_cases_of_a_checkpoint() {
-    let k8 = "F\t1\t1\nU\t0\t1\t7\nA\t0\nA\t0\nA\t0\nC\nP\t0\t3\nA\t0\nA\t0\nA\t0\nS\nS\nS\n";
+    let k8 = "F\t1\t1\nU\t0\t1\t7\nA\t0\nA\t0\nA\t0\nC\nP\t0\t3\nA\t0\nA\t0\nA\t0\nS\nS\n";
     assert_eq!(last(&format!("{k8}S\nS\nX\nR\nS\nS\nG\t1")), "G 0 7");
     assert_eq!(last(&format!("{k8}X\nR\nS\nS\nS\nS\nS\nS\nG\t1")), "G 0 0");
     assert_eq!(last(&format!("{k8}E\t0\nX\nR\nS\nS\nG\t0")), "G 0 3");

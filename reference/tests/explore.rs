@@ -25,13 +25,16 @@ fn random_sequences_hold() {
         assert!(present > 1000 && tally.some_away > 300 && tally.all_away > 300, "{tally}");
         assert!([0, 2, 3, 4, 6, 8].iter().all(|number| tally.going_away[*number] > 20), "{tally}");
         assert!([0, 2, 3, 4, 6, 8, 13].iter().all(|number| tally.coming_back[*number] > 20), "{tally}");
+        assert!([0, 2, 3, 4].iter().all(|number| tally.counts[*number] > 100), "{tally}");
+        assert!(tally.foretold > 1000 && tally.in_pairs > 300, "{tally}");
+        assert!(tally.in_words > 10 && tally.in_eighth > 0, "{tally}");
     }
 }
 
 #[test]
 fn every_state_of_the_smallest_board_holds() {
     let reached = exhaustive::exhaust(None, None).expect("nothing is violated");
-    assert_eq!((reached.from_format, reached.states, reached.transitions), (130_577, 239_137, 1_484_900));
+    assert_eq!((reached.from_format, reached.states, reached.transitions), (120_457, 218_937, 1_341_112));
     assert_eq!((reached.taken_memories, reached.refused_memories), (464, 336));
 }
 

@@ -46,16 +46,15 @@ fn sum_of(numbers: &[u64]) -> u64 {
     sum as u64
 }
 
-/// The numbers of a board after `F 1 1`: seven fields, eight workers, memory, cache and list.
+/// The numbers of a board after `F 1 1`: six fields, eight workers, eight words of bits, memory and cache.
 fn small_board() -> Vec<u64> {
-    let mut numbers = vec![0; 7 + 32];
+    let mut numbers = vec![0; 6 + 32 + 8];
     numbers[..3].copy_from_slice(&[3, 1, 1]);
     for _ in 0..2 {
         numbers.push(16);
         numbers.extend([1, 1, 1]);
         numbers.extend([0; 13]);
     }
-    numbers.extend([2, 0, 0]);
     numbers
 }
 
@@ -96,17 +95,17 @@ fn drill_reads(line: &[u8]) -> bool {
 
 #[test]
 fn the_checksum_of_the_empty_board() {
-    assert_eq!(sum(""), sum_of(&[0; 7 + 32 + 3]));
-    assert_eq!(last("T"), "T 0 3040257032563193357");
+    assert_eq!(sum(""), sum_of(&[0; 6 + 32 + 8 + 2]));
+    assert_eq!(last("T"), "T 0 11573569732163983077");
 }
 
 #[test]
 fn the_checksum_of_a_small_board() {
-    assert_eq!(sum("F 1 1"), 640_608_966_353_289_868);
+    assert_eq!(sum("F 1 1"), 18_386_614_857_926_583_702);
     assert_eq!(sum("F 1 1"), sum_of(&small_board()));
-    assert_eq!(sum("F 1 1\nU 0 1 7"), small_board_with(&[(7, 2), (9, 1), (10, 7)]));
-    let listed = [(3, 1), (7, 2), (8, 2), (9, 1), (10, 7), (57 + 13, 1), (74, 1)];
-    assert_eq!(sum("F 1 1\nU 0 1 7\nA 0\nA 0"), small_board_with(&listed));
+    assert_eq!(sum("F 1 1\nU 0 1 7"), small_board_with(&[(6, 2), (8, 1), (9, 7)]));
+    let marked = [(6, 2), (7, 2), (8, 1), (9, 7), (64 + 13, 1), (38, 2)];
+    assert_eq!(sum("F 1 1\nU 0 1 7\nA 0\nA 0"), small_board_with(&marked));
 }
 
 #[test]
@@ -115,22 +114,22 @@ fn each_field_is_summed_where_it_stands() {
         ("B 0 2", 0, 2),
         ("B 1 65535", 1, 65_535),
         ("B 2 255", 2, 255),
-        ("B 3 65535", 3, 65_535),
-        ("B 4 65535", 4, 65_535),
-        ("B 5 2", 5, 2),
-        ("B 6 1", 6, 1),
-        ("K 0 1 0 0 0", 7, 1),
-        ("K 7 1 0 0 0", 35, 1),
-        ("K 7 3 0 0 0", 35, 3),
-        ("M 15 18446744073709551615", 40 + 15, u64::MAX),
-        ("N 15 18446744073709551615", 57 + 15, u64::MAX),
-        ("Q 0 65535", 74, 65_535),
-        ("Q 1 65535", 75, 65_535),
+        ("B 4 65535", 3, 65_535),
+        ("B 5 2", 4, 2),
+        ("B 6 1", 5, 1),
+        ("K 0 1 0 0 0", 6, 1),
+        ("K 7 1 0 0 0", 34, 1),
+        ("K 7 3 0 0 0", 34, 3),
+        ("Q 0 18446744073709551615", 38, u64::MAX),
+        ("Q 1 65536", 39, 65_536),
+        ("Q 7 1", 45, 1),
+        ("M 15 18446744073709551615", 47 + 15, u64::MAX),
+        ("N 15 18446744073709551615", 64 + 15, u64::MAX),
     ] {
         assert_eq!(fault(&format!("F 1 1\n{line}"))[1], format!("{} 0 -", &line[..1]));
         assert_eq!(sum(&format!("F 1 1\n{line}")), small_board_with(&[(at, number)]), "{line}");
     }
-    let update = [(7 + 12, 2), (8 + 12, 1), (9 + 12, 65_535), (10 + 12, u64::MAX)];
+    let update = [(6 + 12, 2), (7 + 12, 1), (8 + 12, 65_535), (9 + 12, u64::MAX)];
     assert_eq!(sum("F 1 1\nK 3 2 1 65535 18446744073709551615"), small_board_with(&update));
     assert_eq!(sum("F 1 1\nK 3 2 1 65535 9\nK 3 0 0 0 0"), sum("F 1 1"));
 }
@@ -140,10 +139,10 @@ fn going_away_and_coming_back() {
     let script = "F 2 2\nb 0\na 0\na 0\nU 0 3 7\nP 0 7\nA 0\nS\na 1\nC\nS\nb 1\nS\nS\nb 1\nb 1\na 2\nb 2\nX\na 0\nb 0";
     let expected = "F 0,b 8,a 0,a 8,U 8,P 8,A 8,S 10,a 0,C 0,S 0,b 13,S 0,S 0,b 0,b 8,a 6,b 6,X 0,a 2,b 2";
     assert_eq!(fault(script).join(",").replace(" -", ""), expected);
-    assert_eq!(sum("F 1 1\na 0"), small_board_with(&[(7, 3)]));
+    assert_eq!(sum("F 1 1\na 0"), small_board_with(&[(6, 3)]));
     assert_eq!(sum("F 1 1\na 0"), sum("F 1 1\nK 0 3 0 0 0"));
     assert_eq!(sum("F 1 1\na 0\nb 0"), sum("F 1 1"));
-    for (line, number_of_cause) in [("B 0 2", "2"), ("B 1 0", "3"), ("W 16 16 1", "4"), ("B 2 0", "3")] {
+    for (line, number_of_cause) in [("B 0 2", "2"), ("B 1 0", "3"), ("W 16 15", "4"), ("B 2 0", "3"), ("Q 0 1", "3")] {
         assert_eq!(number(&format!("F 1 1\n{line}\na 0")), number_of_cause, "{line}");
         assert_eq!(number(&format!("F 1 1\na 0\nB 6 1\nB 4 1\n{line}\nb 0")), number_of_cause, "{line}");
     }
@@ -162,9 +161,9 @@ fn a_worker_put_away() {
     assert_eq!(number("F 1 1\nK 0 3 0 0 0\nB 6 1\nB 4 2\nb 0"), "13");
     assert_eq!(number("F 1 1\nK 0 3 0 0 0\nB 6 1\nB 4 3\nb 0"), "3");
     let released = "F 1 1\nK 0 3 0 0 0\nK 7 3 0 0 0\nK 6 1 0 0 0\nC\nS\nS\nS";
-    assert_eq!(sum(released), small_board_with(&[(0, 3), (7, 3), (35, 3), (40, 2), (57, 2)]));
+    assert_eq!(sum(released), small_board_with(&[(0, 3), (6, 3), (34, 3), (47, 2), (64, 2)]));
     let recovered = format!("{released}\nK 7 3 0 0 0\nX\nR\nS\nS");
-    assert_eq!(sum(&recovered), small_board_with(&[(40, 2), (57, 2)]));
+    assert_eq!(sum(&recovered), small_board_with(&[(47, 2), (64, 2)]));
     assert_eq!(sum("F 1 1\nK 7 3 0 0 0\nB 0 2\nB 4 1\nS"), sum("F 1 1"));
 }
 
@@ -172,10 +171,10 @@ fn a_worker_put_away() {
 fn a_formats_start_alone() {
     assert_eq!(number("f 1 1"), "4");
     assert_eq!(number("f 1 2"), "1");
-    assert_eq!(number("W 16 16 2\nf 1 1"), "0");
-    assert_eq!(number("W 16 16 3\nf 1 1"), "0");
-    assert_eq!(number("W 16 16 1\nf 1 1"), "4");
-    assert_eq!(number("W 16 24 2\nf 1 1"), "4");
+    assert_eq!(number("W 16 16\nf 1 1"), "0");
+    assert_eq!(number("W 16 16\nQ 0 1\nf 1 1"), "0");
+    assert_eq!(number("W 24 16\nf 1 1"), "4");
+    assert_eq!(number("W 16 24\nf 1 1"), "4");
     assert_eq!(number("F 2 1\nf 1 1"), "4");
     assert_eq!(number("f 18446744073709551615 18446744073709551615"), "1");
     assert_eq!(number("f 65537 1"), "1");
@@ -186,33 +185,33 @@ fn a_formats_start_alone() {
 
 #[test]
 fn a_format_makes_the_rows_anew() {
-    let dirty = "F 1 1\nQ 0 9\nQ 1 9\nM 6 5\nN 15 5\nB 4 7\nK 5 1 0 0 0";
+    let dirty = "F 1 1\nQ 0 9\nQ 7 9\nM 6 5\nN 15 5\nB 4 7\nK 5 1 0 0 0";
     assert_eq!(sum(&format!("{dirty}\nF 1 1")), sum("F 1 1"));
-    assert_eq!(sum(&format!("{dirty}\nW 17 3 1100\nF 1 1")), sum("F 1 1"));
+    assert_eq!(sum(&format!("{dirty}\nW 17 3\nF 1 1")), sum("F 1 1"));
     assert_eq!(sum(&format!("{dirty}\nF 1 2")), sum(dirty));
 }
 
 #[test]
-fn a_cut_leaves_list_and_record_but_the_phase() {
-    let board = "F 1 1\nU 0 1 7\nA 0\nA 0\nC";
-    let kept = [(0, 0), (3, 1), (6, 1), (7, 2), (8, 2), (9, 1), (10, 7), (74, 1), (57, 0), (58, 0), (59, 0)];
+fn a_cut_leaves_all_of_the_record_but_the_phase() {
+    let board = "F 1 1\nU 0 1 7\nA 0\nA 0\nC\nQ 7 5";
+    let kept = [(0, 0), (5, 1), (6, 2), (7, 2), (8, 1), (9, 7), (38, 2), (45, 5), (64, 0), (65, 0), (66, 0)];
     assert_eq!(sum(&format!("{board}\nX")), small_board_with(&kept));
 }
 
 #[test]
 fn rows_keep_the_words_that_stay() {
-    assert_eq!(sum("F 1 1\nW 4104 4104 1100\nW 16 16 2"), sum("F 1 1"));
-    assert_eq!(sum("F 1 1\nW 2 16 2\nW 16 16 2"), small_board_with(&[(42, 0)]));
-    assert_eq!(sum("F 1 1\nW 16 0 2\nW 16 16 2"), small_board_with(&[(57, 0), (58, 0), (59, 0)]));
-    assert_eq!(sum("F 1 1\nQ 0 3\nQ 1 4\nW 16 16 1\nW 16 16 2"), small_board_with(&[(74, 3)]));
+    assert_eq!(sum("F 1 1\nW 4104 4104\nW 16 16"), sum("F 1 1"));
+    assert_eq!(sum("F 1 1\nW 2 16\nW 16 16"), small_board_with(&[(49, 0)]));
+    assert_eq!(sum("F 1 1\nW 16 0\nW 16 16"), small_board_with(&[(64, 0), (65, 0), (66, 0)]));
+    assert_eq!(sum("F 1 1\nQ 0 3\nW 0 0\nW 16 16\nF 1 1"), sum("F 1 1"));
 }
 
 #[test]
 fn a_number_that_cannot_be_put_there_does_nothing() {
-    let lines = "W 4105 0 0,W 0 4105 0,W 0 0 1101,W 18446744073709551615 0 0,M 16 1,N 16 1,Q 2 1,Q 0 65536,\
-        M 18446744073709551615 1,N 4294967296 1,Q 65536 1,B 0 4,B 1 65536,B 2 256,B 3 65536,B 4 65536,B 5 3,B 6 2,\
+    let lines = "W 4105 0,W 0 4105,W 18446744073709551615 0,M 16 1,N 16 1,Q 8 1,Q 9 0,Q 18446744073709551615 0,\
+        M 18446744073709551615 1,N 4294967296 1,Q 65536 1,B 0 4,B 1 65536,B 2 256,B 3 0,B 3 1,B 4 65536,B 5 3,B 6 2,\
         B 7 0,B 18446744073709551615 0,K 8 0 0 0 0,K 256 0 0 0 0,K 0 4 0 0 0,K 0 3 1 0 0,K 0 3 0 1 0,K 0 3 0 0 1,K 0 2 3 0 0,K 0 2 0 65536 0,K 0 0 1 0 0,\
-        K 0 0 0 1 0,K 0 0 0 0 1,K 0 1 1 0 0,K 0 1 0 1 0,K 0 1 0 0 1,M 0 18446744073709551616,Q 2 65536,W 16 16 1101";
+        K 0 0 0 1 0,K 0 0 0 0 1,K 0 1 1 0 0,K 0 1 0 1 0,K 0 1 0 0 1,M 0 18446744073709551616,Q 0 18446744073709551616,W 16 4105";
     for line in lines.split(',').map(str::trim) {
         let answers = fault(&format!("F 1 1\n{line}\nT"));
         assert_eq!(answers[1], "? ? -", "{line}");
@@ -223,8 +222,8 @@ fn a_number_that_cannot_be_put_there_does_nothing() {
 #[test]
 fn lines_of_another_form_do_nothing() {
     let lines =
-        "f 1,f 1 1 1,W 16 16,W 16 16 2 0,M 0,M 0 0 0,N 0,N 0 0 0,Q 0,Q 0 0 0,B 0,B 0 0 0,K 0 0 0 0,K 0 0 0 0 0 0,\
-        K 0 0,T 0,p,p 0 0,p 204 ,p +204,P,a,b,a 0 0,b 0 0,n,H 0 0,V 0 0,O 0 0,u 0 1 7,w 16 16 2,m 0 0,q 0 0,k 0 0 0 0 0,t,TT,M +1 0,M 0x1 0,\
+        "f 1,f 1 1 1,W 16,W 16 16 2,M 0,M 0 0 0,N 0,N 0 0 0,Q 0,Q 0 0 0,B 0,B 0 0 0,K 0 0 0 0,K 0 0 0 0 0 0,\
+        K 0 0,T 0,p,p 0 0,p 204 ,p +204,P,a,b,a 0 0,b 0 0,n 0,N,H 0 0,V 0 0,O 0 0,u 0 1 7,w 16 16,m 0 0,q 0 0,k 0 0 0 0 0,t,TT,M +1 0,M 0x1 0,\
         B 0 3 ,K  0 0 0 0";
     for line in lines.split(',').map(|line| line.trim_start_matches("        ")) {
         let answers = fault(&format!("F 1 1\n{line}\nT"));
@@ -277,38 +276,61 @@ cell               record               backup                 mark
 #[test]
 fn a_page_is_refused_by_the_first_cause_that_holds() {
     let none = |number: u8, room: usize| format!("p {number} {}", sum_of_text("", room));
-    let broken = fault("F 1 1\nB 0 2\nB 3 3\nW 16 16 1\np 203\nB 0 3\np 203\nB 3 0\np 203\nW 16 16 2\np 203\np 204");
+    let broken = fault("F 1 1\nB 0 2\nQ 0 1\nW 16 15\np 203\nB 0 3\np 203\nQ 0 0\np 203\nW 16 16\np 203\np 204");
     let pages: Vec<&String> = broken.iter().filter(|answer| answer.starts_with('p')).collect();
     let whole = format!("p 0 {}", sum_of_text(PAGE, 0));
     assert_eq!(pages, [&none(2, 203), &none(3, 203), &none(4, 203), &none(12, 203), &whole]);
-    for (line, number) in [("B 1 512", 3), ("B 2 2", 3), ("K 0 2 0 2 0", 3), ("W 16 24 2", 4), ("W 15 16 2", 4)] {
+    for (line, number) in
+        [("B 1 512", 3), ("B 2 2", 3), ("K 0 2 0 2 0", 3), ("Q 0 4", 3), ("W 16 24", 4), ("W 15 16", 4)]
+    {
         assert_eq!(last(&format!("F 1 1\n{line}\np 69700")), none(number, 69_700), "{line}");
         assert_eq!(last(&format!("F 1 1\n{line}\np 10")), none(number, 10), "{line}");
     }
     assert_eq!(number("F 511 8\np 69563"), "12");
     assert_eq!(number("F 511 8\np 69564"), "0");
-    assert_eq!(number("F 511 8\nB 1 512\nW 4104 4104 1100\np 70000"), "3");
+    assert_eq!(number("F 511 8\nB 1 512\nW 4104 4104\np 70000"), "3");
 }
 
 #[test]
-fn a_list_of_another_length_and_its_entries() {
-    assert_eq!(number("F 1 1\nB 3 3\nG 0"), "3");
-    assert_eq!(number("F 1 1\nW 16 16 1\nG 0"), "4");
-    assert_eq!(number("F 1 1\nW 16 16 1100\nG 0"), "0");
-    let step = "F 1 1\nB 3 1\nB 6 1\nK 0 1 0 0 0";
-    assert_eq!(number(&format!("{step}\nQ 0 2\nS")), "4");
-    assert_eq!(number(&format!("{step}\nQ 0 1\nS")), "0");
-    assert_eq!(number(&format!("{step}\nQ 0 2\nB 4 1\nS")), "0");
+fn a_count_of_the_set_bits() {
+    assert_eq!([last("n"), last("F 1 1\nn"), last("F 1 1\nQ 0 2\nn")], ["n 2 0", "n 0 3", "n 0 4"]);
+    assert_eq!(last("F 1 1\nU 0 1 7\nA 0\nA 0\nA 0\nC\nP 0 3\nA 0\nA 0\nA 0\nn"), "n 0 4");
+    for (line, refused) in [("Q 0 1", 3), ("Q 0 3", 3), ("Q 0 4", 3), ("Q 7 1", 3), ("W 16 15", 4), ("B 0 2", 2)] {
+        assert_eq!(last(&format!("F 1 1\nQ 0 2\n{line}\nn")), format!("n {refused} 0"), "{line}");
+    }
+    let all =
+        format!("Q 0 {}\n{}", u64::MAX - 1, (1..8).map(|at| format!("Q {at} {}\n", u64::MAX)).collect::<String>());
+    assert_eq!(last(&format!("F 511 8\n{all}n")), "n 0 514");
+    assert_eq!(last(&format!("F 510 8\n{all}n")), "n 3 0");
+    assert_eq!(last("F 511 8\nQ 7 9223372036854775808\nn"), "n 0 4");
+    assert_eq!(sum("F 1 1\nQ 0 2\nn\nQ 0 0\nn"), sum("F 1 1"));
+}
+
+#[test]
+fn a_checkpoint_of_the_set_lines() {
+    let board = "F 100 1\nQ 0 4\nQ 1 17\nN 16 5\nN 512 6\nN 544 7\nN 552 8\nK 0 3 0 0 0\nC";
+    assert_eq!(last(&format!("{board}\nn")), "n 0 6");
+    assert_eq!(
+        fault(&format!("{board}\nS\nS\nS\nS\nS\nS\nS"))[9..],
+        ["S 0 -"; 6].into_iter().chain(["S 10 -"]).collect::<Vec<_>>()
+    );
+    let with = |steps: &str, words: &str| sum(&format!("{board}{steps}")) == sum(&format!("{board}\n{words}"));
+    assert!(with("\nS", "B 4 1\nM 16 5"));
+    assert!(with("\nS\nS", "B 4 2\nM 16 5\nM 512 6"));
+    assert!(with("\nS\nS\nS", "B 4 3\nM 16 5\nM 512 6\nM 544 7"));
+    assert!(with("\nS\nS\nS\nS", "B 4 4\nM 16 5\nM 512 6\nM 544 7\nN 0 2"));
+    assert_eq!(number(&format!("{board}\nB 4 5\nS")), "0");
+    assert_eq!(number(&format!("{board}\nB 4 6\nS")), "3");
 }
 
 #[test]
 fn foreign_memory() {
-    let board = "W 16 16 2\nM 1 1\nM 2 1";
+    let board = "W 16 16\nM 1 1\nM 2 1";
     assert_eq!(number(&format!("{board}\nR")), "5");
     assert_eq!(number(&format!("{board}\nM 0 9\nR")), "0");
     for line in ["M 0 0", "M 1 2", "M 2 2", "M 2 0", "M 3 1", "M 4 1", "M 5 1", "M 6 1", "M 7 1"] {
         assert_eq!(number(&format!("{board}\nM 0 9\n{line}\nR")), "5", "{line}");
     }
     assert_eq!(last(&format!("{board}\nM 0 9\nM 11 5\nM 12 6\nM 13 9\nR\nS\nS\nS\nS\nG 1")), "G 0 6");
-    assert_eq!(number("W 4104 4104 1100\nM 0 1\nM 1 512\nM 2 1\nR"), "4");
+    assert_eq!(number("W 4104 4104\nM 0 1\nM 1 512\nM 2 1\nR"), "4");
 }

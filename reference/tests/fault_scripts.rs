@@ -9,10 +9,10 @@ use reference::explore::answered;
 use reference::explore::check::Checks;
 use reference::explore::table::parts;
 use reference::fault::{Command, Fault};
-use reference::fault_script::{foreign_script, script};
+use reference::fault_script::{bits_script, foreign_script, script};
 use reference::mistake::{Mistake, MISTAKES};
 use reference::program::{answer, Program};
-use reference::reached::{orders, reached, CASES, CAUSES, MEMORIES};
+use reference::reached::{orders, reached, CASES, CAUSES, LINES, MEMORIES};
 use reference::say::{call_line, damage_line, drill_line};
 use reference::text::{fields, UNREAD};
 
@@ -45,21 +45,18 @@ fn two_hundred_scripts_reach_every_cause_of_every_call_and_every_kind_of_questio
 }
 
 /// Each part of a cause, and the calls whose answer can hang on it alone.
-const PARTS: [(&str, &[u8]); 35] = [
+const PARTS: [(&str, &[u8]); 32] = [
     ("a format's L or W", b"f"),
-    ("phase", b"SUPACEGpab"),
-    ("a full list", b"A"),
-    ("a worker's cell", b"SUPACEGpab"),
-    ("place in a checkpoint", b"SUPACEGpab"),
+    ("phase", b"SUPACEGpabn"),
+    ("a worker's cell", b"SUPACEGpabn"),
+    ("place in a checkpoint", b"SUPACEGpabn"),
     ("place in a recovery", b"SE"),
     ("place in a format", b"S"),
-    ("record's list length", b"SUPACEGpab"),
-    ("record's L or W", b"SUPACEGpab"),
-    ("list entry used", b"S"),
-    ("list's length", b"fSUPACEGpab"),
-    ("cache's length", b"fSUPACEGpab"),
-    ("memory's length", b"fSUPACEGpab"),
-    ("list's length at recovery", b"R"),
+    ("a bit past L", b"SUPACEGpabn"),
+    ("a bit of line 0", b"SUPACEGpabn"),
+    ("record's L or W", b"SUPACEGpabn"),
+    ("cache's length", b"fSUPACEGpabn"),
+    ("memory's length", b"fSUPACEGpabn"),
     ("cache's length at recovery", b"R"),
     ("memory's length at recovery", b"R"),
     ("header's words 3 to 7", b"R"),
@@ -88,7 +85,7 @@ fn two_hundred_scripts_reach_every_part_of_every_cause_by_itself() {
     let reached = reached(200, 400);
     assert!(parts().all(|(_, part)| PARTS.iter().any(|(known, _)| *known == part)));
     for (part, letters) in PARTS {
-        for letter in *b"fRSUPACEGpab" {
+        for letter in *b"fRSUPACEGpabn" {
             let count = reached.part(part, letter);
             assert_eq!(count > 0, letters.contains(&letter), "{part}, {}: {count}", letter as char);
         }
@@ -124,6 +121,33 @@ fn two_hundred_scripts_have_every_case_of_foreign_memory() {
 }
 
 #[test]
+fn two_hundred_scripts_have_every_case_of_line_bits() {
+    let reached = reached(200, 400);
+    for ((words, _), count) in LINES.iter().zip(reached.lines_set) {
+        assert!(count >= 20, "{words}: {count}");
+    }
+}
+
+#[test]
+fn a_script_of_line_bits_counts_and_releases_checkpoints_of_several_lines() {
+    for seed in 1..=4 {
+        let (mut counts, mut releases): (HashMap<u8, u64>, u64) = (HashMap::new(), 0);
+        let mut board = Board::empty(None);
+        for line in lines(&bits_script(seed, 4000)) {
+            let before = board.state;
+            let reply = answer::<Fault>(&mut board, line);
+            if let (b"n", Ok(reply)) = (line, reply) {
+                *counts.entry(reply.number).or_default() += 1;
+            }
+            let several = before.line_bits.iter().filter(|word| **word != 0).count() > 1;
+            releases += (several && line == b"S" && before.requested && !board.state.requested) as u64;
+        }
+        assert!([0, 2, 3, 4].iter().all(|number| counts[number] >= 8), "seed {seed}: {counts:?}");
+        assert!(releases >= 15, "seed {seed}: {releases}");
+    }
+}
+
+#[test]
 fn a_script_of_foreign_memories_has_no_format_and_takes_and_refuses_them() {
     for seed in 1..=4 {
         let text = foreign_script(seed, 4000);
@@ -143,7 +167,7 @@ fn a_script_of_foreign_memories_has_no_format_and_takes_and_refuses_them() {
 
 #[test]
 fn a_script_is_a_function_of_seed_and_lines() {
-    for script in [script, foreign_script] {
+    for script in [script, bits_script, foreign_script] {
         made_the_same_again(script);
     }
 }
@@ -189,7 +213,7 @@ fn every_call_of_every_script_answers_as_the_table_says() {
                 continue;
             };
             if let Some(call) = command.ok().and_then(|command| command.call()) {
-                let read = reply.value.filter(|_| matches!(call, Call::Read { .. }));
+                let read = reply.value.filter(|_| matches!(call, Call::Read { .. } | Call::Count));
                 let answer = Answer { number: reply.number, value: read.unwrap_or(0) };
                 let held = answered(Checks { only: None }, &call, &before, &board, answer);
                 assert!(held.is_ok(), "seed {seed}: {held:?}");

@@ -28,7 +28,7 @@ fn board(memory: Vec<u64>, mistake: Option<Mistake>) -> Board {
     let mut board = Board::empty(mistake);
     board.state = State::started(Phase::Running, 60_000, 200);
     board.cache = vec![99; memory.len()];
-    board.list = vec![65_535; memory.len() / 4 - 2];
+    board.state.line_bits = [u64::MAX; 8];
     board.memory = memory;
     board
 }
@@ -67,7 +67,7 @@ fn reads(board: &mut Board) -> Vec<u64> {
 const AWAY: Call = Call::GoAway { worker: 0 };
 const BACK: Call = Call::ComeBack { worker: 0 };
 
-/// A checkpoint with nobody but worker 0, who is away, and nothing listed.
+/// A checkpoint with nobody but worker 0, who is away, and no line set.
 const CHECKPOINT: [Call; 6] = [AWAY, Call::Request, Call::Step, Call::Step, Call::Step, BACK];
 
 #[test]
@@ -98,7 +98,7 @@ fn neither_4_nor_5_gives_way_to_14() {
         refused(board(words, None), 5);
     }
     let mut short = board(past.clone(), None);
-    short.list.pop();
+    short.cache.pop();
     refused(short, 4);
     let mut longer = board(past, None);
     longer.cache.push(0);
@@ -185,7 +185,7 @@ fn after_an_unlogged_update() -> Board {
 fn without_14_an_update_goes_unlogged_and_a_checkpoint_loses_it() {
     let mut board = after_an_unlogged_update();
     assert_eq!(board.perform(&Call::Advance { worker: 0 }).number, 8, "one store, where three log it");
-    assert_eq!(board.state.list_length, 0, "it is not listed");
+    assert_eq!(board.state.line_bits, [0; 8], "its line is not set");
     assert_eq!(reads(&mut board), [10, 20, 30, 50]);
     taken(&mut board, &CHECKPOINT);
     assert_eq!(board.memory[0], 3);

@@ -8,6 +8,7 @@ use reference::explore::answered;
 use reference::explore::check::Checks;
 use reference::fault::Fault;
 use reference::program::answer;
+use reference::record::FIELDS;
 
 /// A board after these lines, blanks for tabs.
 fn board(script: &str) -> Board {
@@ -21,7 +22,7 @@ fn board(script: &str) -> Board {
 /// Every call, with arguments within their limits and far past them.
 fn calls() -> Vec<Call> {
     let numbers = [0, 1, 2, 3, 7, 8, 255, 256, 1023, 65_535, 65_536, u64::MAX];
-    let mut calls = vec![Call::Recovery, Call::Step, Call::Request];
+    let mut calls = vec![Call::Recovery, Call::Step, Call::Request, Call::Count];
     for a in numbers {
         calls.extend([Call::Advance { worker: a }, Call::WriteBack { line: a }, Call::Read { cell: a }]);
         calls.push(Call::RestartPoint { worker: a, value: 5 });
@@ -64,7 +65,7 @@ fn sound_boards() -> Vec<Board> {
 fn damages() -> Vec<Damage> {
     let mut damages = Vec::new();
     let numbers = [0, 1, 2, 3, 4, 5, 8, 9, 254, 255, 510, 511, 512, 1022, 1023, 1024, 32_768, 65_534, 65_535];
-    for k in 0..7 {
+    for k in FIELDS {
         damages.extend(numbers.map(|number| Damage::Field { k, number }));
     }
     for worker in [0, 1, 7] {
@@ -74,18 +75,18 @@ fn damages() -> Vec<Damage> {
         }
     }
     for length in [0, 1, 7, 8, 15, 16, 17, 24, 40, 4095, 4096, 4104] {
-        let list = length.min(1100);
-        damages.push(Damage::Lengths { memory: length, cache: length, list });
-        damages.push(Damage::Lengths { memory: length, cache: 16, list });
-        damages.push(Damage::Lengths { memory: 24, cache: length, list });
-        damages.push(Damage::Lengths { memory: 24, cache: 24, list });
+        damages.push(Damage::Lengths { memory: length, cache: length });
+        damages.push(Damage::Lengths { memory: length, cache: 16 });
+        damages.push(Damage::Lengths { memory: 24, cache: length });
     }
     for word in [0, 1, 255, 256, 65_536, u64::MAX] {
         damages.extend((0..8).chain([10, 13]).map(|at| Damage::Memory { at, word }));
         damages.push(Damage::Cache { at: 0, word });
         damages.push(Damage::Cache { at: 10, word });
     }
-    damages.extend([0, 3, 4, 65_535].map(|cell| Damage::Entry { at: 0, cell }));
+    for word in [0, 1, 2, 4, 6, 8, 16, 1 << 63, u64::MAX - 1, u64::MAX] {
+        damages.extend([0, 1, 7].map(|at| Damage::Bits { at, word }));
+    }
     damages
 }
 
@@ -114,6 +115,7 @@ fn two_places_damaged() {
         Call::WriteBack { line: 2 },
         Call::Read { cell: 3 },
         Call::Page { room: 340 },
+        Call::Count,
         Call::GoAway { worker: 0 },
         Call::ComeBack { worker: 0 },
         Call::ComeBack { worker: 7 },
@@ -137,7 +139,8 @@ fn two_places_damaged() {
 
 #[test]
 fn a_record_of_nothing_but_the_largest_numbers() {
-    let mut lines = String::from("W 4104 4104 1100\nB 1 65535\nB 2 255\nB 3 65535\nB 4 65535\nB 5 2\nB 6 1\n");
+    let mut lines = String::from("W 4104 4104\nB 1 65535\nB 2 255\nB 4 65535\nB 5 2\nB 6 1\n");
+    (0..8).for_each(|at| lines.push_str(&format!("Q {at} 18446744073709551615\n")));
     (0..8).for_each(|worker| lines.push_str(&format!("K {worker} 2 2 65535 18446744073709551615\n")));
     for phase in 0..4 {
         let full = board(&format!("{lines}B 0 {phase}"));

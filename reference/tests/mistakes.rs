@@ -10,20 +10,20 @@ use reference::explore::{exhaustive, explore, Options};
 use reference::mistake::{Mistake, MISTAKES};
 
 /// Each mistake with the checks that must each catch it when made alone.
-const CATCHERS: [(Mistake, &[Check]); 39] = [
+const CATCHERS: [(Mistake, &[Check]); 52] = [
     (Mistake::MarkFirst, &[Outcome, Recovery, TwoBoards, Invariant]),
     (Mistake::RecoveryMarkFirst, &[Outcome, Recovery, TwoBoards, Invariant]),
     (Mistake::RecoveryCacheOnly, &[Outcome, Recovery, TwoBoards, Invariant]),
     (Mistake::RecoveryKeepsMarks, &[Outcome, Reads, Recovery, Invariant]),
-    (Mistake::EarlyRelease, &[Causes, Outcome, Recovery, Completion, Invariant]),
+    (Mistake::EarlyRelease, &[Causes, Outcome, Recovery, Completion, Invariant, Foretold, Lines, Bits]),
     (Mistake::RecoveryZeros, &[Outcome, Reads, Recovery, TwoBoards, Stores, Invariant]),
     (Mistake::FormatAtOnce, &[Outcome, Stores, Invariant]),
     (Mistake::RecoveryAtOnce, &[Outcome, Stores, Progress]),
-    (Mistake::CompleteEarly, &[Outcome, Recovery, Completion, Invariant]),
-    (Mistake::WriteBackNothing, &[Outcome, Recovery, Completion, Stores, Invariant]),
+    (Mistake::CompleteEarly, &[Outcome, Recovery, Completion, Invariant, Lines]),
+    (Mistake::WriteBackNothing, &[Outcome, Recovery, Completion, Stores, Invariant, Lines]),
     (Mistake::RefuseAll, &[Causes, Progress]),
     (Mistake::NoCause9, &[Causes, Recovery, Invariant]),
-    (Mistake::Unlisted, &[Outcome, Recovery, Completion, Invariant]),
+    (Mistake::MarkWithoutBit, &[Outcome, Reads, Recovery, Completion, TwoBoards, Invariant, Bits]),
     (Mistake::PageFallingCells, &[Page]),
     (Mistake::PageOlderFirst, &[Page]),
     (Mistake::PageSwapped, &[Page]),
@@ -32,24 +32,52 @@ const CATCHERS: [(Mistake, &[Check]); 39] = [
     (Mistake::PagePastEnd, &[Page]),
     (Mistake::PageRefusedWrites, &[Page]),
     (Mistake::PageLastCellMissing, &[Page]),
-    (Mistake::NoCause13, &[Causes, Reads, Recovery, Completion, TwoBoards, Progress, Invariant, Away]),
+    (Mistake::NoCause13, &[Causes, Reads, Recovery, Completion, TwoBoards, Progress, Invariant, Away, Bits]),
     (Mistake::Cause13Unrequested, &[Causes]),
     (Mistake::Cause13AtRequest, &[Causes]),
     (Mistake::Cause13First, &[Causes]),
     (Mistake::ReleaseFreesAway, &[Outcome, Away]),
     (Mistake::AwayNotWaiting, &[Causes, Progress]),
-    (Mistake::AwayUpdates, &[Causes, Reads, Recovery, Completion, TwoBoards, Progress, Invariant, Away]),
+    (
+        Mistake::AwayUpdates,
+        &[Causes, Reads, Recovery, Completion, TwoBoards, Progress, Invariant, Away, Foretold, Lines, Bits],
+    ),
     (Mistake::BackWaits, &[Outcome, Invariant, Away]),
     (Mistake::RecoveryLeavesAway, &[Outcome, Away]),
     (Mistake::WaitingComesBack, &[Causes, Away]),
     (Mistake::WaitingGoesAway, &[Causes, Away]),
-    (Mistake::NoCause14, &[Causes, Reads, Recovery, TwoBoards, Invariant]),
+    (Mistake::NoCause14, &[Causes, Reads, Recovery, TwoBoards, Invariant, Bits]),
     (Mistake::Cause14AtEpoch, &[Causes, Progress]),
-    (Mistake::Cause14ByCache, &[Causes, Reads, Recovery, TwoBoards, Progress, Invariant]),
-    (Mistake::Cause14LastCell, &[Causes, Reads, Recovery, TwoBoards, Invariant]),
+    (Mistake::Cause14ByCache, &[Causes, Reads, Recovery, TwoBoards, Progress, Invariant, Bits]),
+    (Mistake::Cause14LastCell, &[Causes, Reads, Recovery, TwoBoards, Invariant, Bits]),
     (Mistake::Cause14First, &[Causes, Progress]),
     (Mistake::RecoveryClearsSpare, &[Outcome, Stores]),
     (Mistake::BeginWithRecords, &[Reads, Recovery, TwoBoards, Invariant]),
+    (Mistake::BitsKept, &[Outcome, Reads, Recovery, Completion, TwoBoards, Invariant, Bits]),
+    (Mistake::RecoveryKeepsBits, &[Outcome, Recovery, Completion, TwoBoards, Progress, Invariant, Bits]),
+    (
+        Mistake::BitsClearedEarly,
+        &[Outcome, Reads, Recovery, Completion, TwoBoards, Progress, Invariant, Away, Foretold, Lines, Bits],
+    ),
+    (
+        Mistake::LineTwice,
+        &[
+            Causes, Outcome, Reads, Recovery, Completion, TwoBoards, Progress, Invariant, Page, Away, Foretold, Lines,
+            Bits,
+        ],
+    ),
+    (
+        Mistake::ReleaseWithHeader,
+        &[Outcome, Reads, Recovery, Completion, TwoBoards, Progress, Invariant, Away, Foretold, Bits],
+    ),
+    (Mistake::HighestFirst, &[Outcome, Invariant, Lines]),
+    (Mistake::BitOfCell, &[Outcome, Reads, Recovery, Completion, TwoBoards, Invariant, Bits]),
+    (Mistake::SevenWords, &[Causes, Outcome, Count, Lines]),
+    (Mistake::CountShort, &[Count, Foretold]),
+    (Mistake::CountRefused, &[Causes, Count]),
+    (Mistake::BitOfLastLineRefused, &[Causes, Page]),
+    (Mistake::BitOfLine0Passes, &[Causes, Page, Count]),
+    (Mistake::BitsPastLPass, &[Causes, Page, Count]),
 ];
 
 /// The check that so many calls on a mistaken board violate.
@@ -60,7 +88,7 @@ fn violated_within(calls: u64, mistake: Mistake, only: Option<Check>) -> Option<
 
 /// The check that an exploration of a mistaken board violates.
 fn violated(mistake: Mistake, only: Option<Check>) -> Option<Check> {
-    violated_within(400_000, mistake, only)
+    violated_within(3_000_000, mistake, only)
 }
 
 #[test]
@@ -81,9 +109,18 @@ fn every_mistake_is_caught() {
 }
 
 /// Mistakes that the smallest board cannot show: cause 9 needs two workers, 12 before 4 rows that do not fit, a place
-/// past 0 without a request and a worker away in a recovery a record that no call makes.
-const HIDDEN: [Mistake; 4] =
-    [Mistake::NoCause9, Mistake::PageTextFirst, Mistake::Cause13Unrequested, Mistake::RecoveryLeavesAway];
+/// past 0 without a request, a worker away in a recovery and a bit of line 0 or past L a record that no call makes, the
+/// order of lines two of them, and the eighth word line 448.
+const HIDDEN: [Mistake; 8] = [
+    Mistake::NoCause9,
+    Mistake::PageTextFirst,
+    Mistake::Cause13Unrequested,
+    Mistake::RecoveryLeavesAway,
+    Mistake::HighestFirst,
+    Mistake::SevenWords,
+    Mistake::BitOfLine0Passes,
+    Mistake::BitsPastLPass,
+];
 
 #[test]
 fn the_smallest_board_shows_every_other_mistake() {

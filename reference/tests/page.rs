@@ -107,7 +107,7 @@ fn equal_marks_by_rising_cell_number() {
 }
 
 /// A checkpoint with 7 in cell 1 and restart point 3, and a restart point 4 in the epoch after it.
-const EPOCHS: &str = "F 2 1\nU 0 1 7\nA 0\nA 0\nA 0\nC\nP 0 3\nA 0\nA 0\nA 0\nS\nS\nS\nS\nS\nP 0 4\nA 0\nA 0\nA 0";
+const EPOCHS: &str = "F 2 1\nU 0 1 7\nA 0\nA 0\nA 0\nC\nP 0 3\nA 0\nA 0\nA 0\nS\nS\nS\nS\nP 0 4\nA 0\nA 0\nA 0";
 
 #[test]
 fn the_cache_and_not_memory_at_each_store_of_an_update() {
@@ -170,15 +170,15 @@ fn bytes_past_the_page_stay_and_so_do_all_of_a_refused_one() {
 fn causes_in_their_order() {
     let mut board = board("F 1 1");
     board.state.phase = Phase::Recovering;
-    board.state.list_length = 3;
-    board.list.pop();
+    board.state.line_bits[0] = 1;
+    board.cache.pop();
     let mut text = vec![1; 203];
     assert_eq!(board.page(&mut text), 2);
     board.state.phase = Phase::Running;
     assert_eq!(board.page(&mut text), 3);
-    board.state.list_length = 0;
+    board.state.line_bits[0] = 2;
     assert_eq!(board.page(&mut text), 4);
-    board.list.push(0);
+    board.cache.push(0);
     assert_eq!(board.page(&mut text), 12);
     assert_eq!(text, [1; 203]);
     text.push(1);
@@ -190,7 +190,7 @@ type Spoil = fn(&mut Board);
 
 #[test]
 fn each_part_of_a_record_or_of_rows_that_turns_a_page_down() {
-    let spoils: [(u8, Spoil); 14] = [
+    let spoils: [(u8, Spoil); 15] = [
         (2, |board| board.state.phase = Phase::Off),
         (2, |board| board.state.phase = Phase::Formatting),
         (2, |board| board.state.phase = Phase::Recovering),
@@ -198,13 +198,14 @@ fn each_part_of_a_record_or_of_rows_that_turns_a_page_down() {
         (3, |board| board.state.lines = 512),
         (3, |board| board.state.workers = 0),
         (3, |board| board.state.workers = 2),
-        (3, |board| board.state.list_length = 3),
+        (3, |board| board.state.line_bits[0] = 1),
+        (3, |board| board.state.line_bits[0] = 4),
+        (3, |board| board.state.line_bits[7] = 1 << 63),
         (3, |board| (board.state.requested, board.state.place) = (true, 3)),
         (3, |board| board.state.worker[0] = Condition::Updating(Update { cell: 2, value: 0, next: Store::Record })),
         (4, |board| board.memory.truncate(15)),
         (4, |board| board.cache.push(0)),
-        (4, |board| board.list.truncate(1)),
-        (0, |board| board.list.push(9)),
+        (0, |board| board.state.line_bits[0] = 2),
     ];
     for (at, (number, spoil)) in spoils.into_iter().enumerate() {
         let mut board = board("F 1 1");

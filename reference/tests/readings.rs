@@ -25,7 +25,7 @@ fn a_formats_end_leaves_the_request() {
     let mut board = board(Phase::Formatting, 1, 1);
     board.state.place = 2;
     board.state.requested = true;
-    board.state.list_length = 2;
+    board.state.line_bits[0] = 2;
     board.state.undo = UndoStep::Mark;
     board.state.worker = [Condition::Waiting; 8];
     assert_eq!(board.perform(&Call::Step).number, 0);
@@ -35,44 +35,18 @@ fn a_formats_end_leaves_the_request() {
 }
 
 #[test]
-fn a_recoverys_end_leaves_list_length_and_request() {
+fn a_recoverys_end_leaves_bits_and_request() {
     let mut board = board(Phase::Recovering, 1, 1);
     board.state.place = 1;
     board.state.undo = UndoStep::WriteBack;
     board.state.requested = true;
-    board.state.list_length = 2;
+    board.state.line_bits[0] = 2;
     board.state.worker = [Condition::Waiting; 8];
     assert_eq!(board.perform(&Call::Step).number, 0);
     let mut expected = State::started(Phase::Running, 1, 1);
     expected.requested = true;
-    expected.list_length = 2;
+    expected.line_bits[0] = 2;
     assert_eq!(board.state, expected);
-}
-
-#[test]
-fn an_entry_that_a_step_uses_comes_before_the_workers() {
-    let mut board = board(Phase::Running, 1, 1);
-    board.state.requested = true;
-    board.state.list_length = 1;
-    board.list[0] = 2;
-    assert_eq!(board.perform(&Call::Step).number, 4);
-    board.list[0] = 1;
-    assert_eq!(board.perform(&Call::Step).number, 10);
-    board.list[0] = 2;
-    board.state.requested = false;
-    assert_eq!(board.perform(&Call::Step).number, 10);
-}
-
-#[test]
-fn a_full_list_is_cause_3_only_for_the_advance_that_adds() {
-    let mut board = board(Phase::Running, 1, 1);
-    board.state.list_length = 2;
-    board.state.worker[0] = updating(1, Store::Mark);
-    assert_eq!(board.perform(&Call::Advance { worker: 0 }).number, 3);
-    assert_eq!(board.perform(&Call::Advance { worker: 1 }).number, 6);
-    assert_eq!(board.perform(&Call::Read { cell: 0 }).number, 0);
-    board.state.worker[0] = updating(1, Store::Record);
-    assert_eq!(board.perform(&Call::Advance { worker: 0 }).number, 0);
 }
 
 #[test]

@@ -2,6 +2,7 @@
 
 mod page;
 
+use crate::bits::NO_LINES;
 use crate::board::{Phase, Rows, State};
 use crate::call::{perform, Answer, Call};
 use crate::line::{cells, line_of, mark_at, row_words, sizes_allowed};
@@ -14,17 +15,22 @@ pub enum Round {
     Format,
     /// the data cells below n updated in rising order, each to its own number: a start and three advances each
     Fill,
+    /// n - W data cells updated in the same way, each the first cell of a line that has no restart cell
+    Spread,
     /// a request, then a restart point of each worker, after which it waits
     Wait,
     /// a request, then a restart point of worker 0, after which it waits; all others go away
     Leave,
-    /// an update of an unmarked cell: a start and three advances; the host then takes the mark and the entry back
+    /// an update of an unmarked cell: a start and three advances; the host then takes the mark and all bits back
     Update,
     /// an update of a marked cell: a start and one advance
     Again,
-    /// a checkpoint's n + 3 steps; the host then puts the state record back
+    /// a checkpoint of n cells, the data cells alone in their lines, W/2 + n - W + 3 steps (W/2 rounded up); the host
+    /// then puts the state record back
     Checkpoint,
-    /// the same with one restart cell listed, all workers but one being away: n - W + 4 steps
+    /// the same with cells 0 to n - 1, both cells of n/2 lines: n/2 + 3 steps (n/2 rounded up)
+    CheckpointPairs,
+    /// a checkpoint with one restart cell marked, all workers but one being away: n - W + 4 steps
     CheckpointAway,
     /// a recovery's start and its 2L steps, with no cell to undo
     Recovery,
@@ -48,6 +54,7 @@ impl Workload {
             "update" => Workload::Rounds(Round::Update),
             "again" => Workload::Rounds(Round::Again),
             "checkpoint" => Workload::Rounds(Round::Checkpoint),
+            "checkpoint-pairs" => Workload::Rounds(Round::CheckpointPairs),
             "checkpoint-away" => Workload::Rounds(Round::CheckpointAway),
             "recovery" => Workload::Rounds(Round::Recovery),
             "write-back" => Workload::Rounds(Round::WriteBack),
@@ -59,7 +66,7 @@ impl Workload {
     }
 }
 
-/// A board's L and W, the cell n that a fill stops before (n cells are then listed for a checkpoint), the worker that
+/// A board's L and W, the cell n that a fill stops before (n cells are then marked for a checkpoint), the worker that
 /// updates, and the seed.
 #[derive(Clone, Copy)]
 struct Plan {
@@ -90,16 +97,22 @@ fn draw(plan: Plan, last: u64) -> Drawn {
     Drawn { random, cell: plan.workers + random % (cells(plan.lines) - plan.workers) }
 }
 
+/// The lines of the restart cells.
+fn restart_lines(plan: Plan) -> u64 {
+    plan.workers.div_ceil(2)
+}
+
 /// How many calls a round has.
 fn calls_in(round: Round, plan: Plan) -> u64 {
     match round {
         Round::Format => 1 + plan.lines + 2,
-        Round::Fill => 4 * (plan.n - plan.workers),
+        Round::Fill | Round::Spread => 4 * (plan.n - plan.workers),
         Round::Wait => 1 + 4 * plan.workers,
         Round::Leave => 4 + plan.workers,
         Round::Update => 4,
         Round::Again => 2,
-        Round::Checkpoint => plan.n + 3,
+        Round::Checkpoint => restart_lines(plan) + plan.n - plan.workers + 3,
+        Round::CheckpointPairs => plan.n.div_ceil(2) + 3,
         Round::CheckpointAway => plan.n - plan.workers + 4,
         Round::Recovery => 1 + cells(plan.lines),
         Round::WriteBack => 1,
@@ -114,6 +127,12 @@ fn update_call(worker: u64, k: u64, cell: u64, value: u64) -> Call {
     } else {
         Call::Advance { worker }
     }
+}
+
+/// Call number `k` of a spread: four calls for each first cell of the lines after the restart cells'.
+fn spread_call(plan: Plan, k: u64) -> Call {
+    let cell = 2 * (restart_lines(plan) + k / 4);
+    update_call(plan.worker, k % 4, cell, cell)
 }
 
 /// Call number `k` of a wait: the request, and four calls of each worker in turn.
@@ -152,10 +171,11 @@ fn call_at(round: Round, plan: Plan, k: u64, drawn: Drawn) -> Call {
     match round {
         Round::Format => step_call(k, Call::Format { lines: plan.lines, workers: plan.workers }),
         Round::Fill => update_call(plan.worker, k % 4, plan.workers + k / 4, plan.workers + k / 4),
+        Round::Spread => spread_call(plan, k),
         Round::Wait => wait_call(k),
         Round::Leave => leave_call(k),
         Round::Update | Round::Again => update_call(plan.worker, k, drawn.cell, drawn.random),
-        Round::Checkpoint | Round::CheckpointAway => Call::Step,
+        Round::Checkpoint | Round::CheckpointPairs | Round::CheckpointAway => Call::Step,
         Round::Recovery => step_call(k, Call::Recovery),
         Round::WriteBack => Call::WriteBack { line: line_of(drawn.cell as usize) as u64 },
         Round::Reads => Call::Read { cell: k },
@@ -167,7 +187,6 @@ struct Board {
     state: State,
     memory: Vec<u64>,
     cache: Vec<u64>,
-    list: Vec<u16>,
 }
 
 impl Board {
@@ -175,13 +194,13 @@ impl Board {
     fn off(lines: u64) -> Board {
         let words = row_words(lines) as usize;
         let state = State::started(Phase::Off, 0, 0);
-        Board { state, memory: vec![0; words], cache: vec![0; words], list: vec![0; cells(lines) as usize] }
+        Board { state, memory: vec![0; words], cache: vec![0; words] }
     }
 
     /// One call.
     #[inline]
     fn perform(&mut self, call: &Call) -> Answer {
-        let mut rows = Rows { memory: &mut self.memory, cache: &mut self.cache, list: &mut self.list };
+        let mut rows = Rows { memory: &mut self.memory, cache: &mut self.cache };
         perform(call, &mut self.state, &mut rows, None)
     }
 }
@@ -204,9 +223,9 @@ fn play(round: Round, plan: Plan, rounds: u64, board: &mut Board) -> u64 {
             match round {
                 Round::Update => {
                     board.cache[mark_at(drawn.cell as usize)] = 0;
-                    board.state.list_length = 0;
+                    board.state.line_bits = NO_LINES;
                 }
-                Round::Checkpoint | Round::CheckpointAway => board.state = from,
+                Round::Checkpoint | Round::CheckpointPairs | Round::CheckpointAway => board.state = from,
                 _ => {}
             }
             drawn = draw(plan, drawn.random);
@@ -223,14 +242,28 @@ fn prepare(round: Round, plan: Plan, board: &mut Board) {
             play(Round::Fill, Plan { n: cells(plan.lines), ..plan }, 1, board);
         }
         Round::Checkpoint => {
+            play(Round::Spread, plan, 1, board);
+            play(Round::Wait, plan, 1, board);
+        }
+        Round::CheckpointPairs => {
             play(Round::Fill, plan, 1, board);
             play(Round::Wait, plan, 1, board);
         }
         Round::CheckpointAway => {
-            play(Round::Fill, plan, 1, board);
+            play(Round::Spread, plan, 1, board);
             play(Round::Leave, plan, 1, board);
         }
         _ => {}
+    }
+}
+
+/// The board has a line for every data cell that is to be alone in one.
+fn has_lines(workload: Workload, plan: Plan) -> bool {
+    match workload {
+        Workload::Rounds(Round::Checkpoint | Round::CheckpointAway) => {
+            restart_lines(plan) + plan.n - plan.workers <= plan.lines
+        }
+        _ => true,
     }
 }
 
@@ -244,6 +277,9 @@ pub fn run(workload: Workload, lines: u64, workers: u64, n: u64, rounds: u64, se
         return None;
     }
     let plan = Plan { lines, workers, n, worker: seed % workers, seed };
+    if !has_lines(workload, plan) {
+        return None;
+    }
     let mut board = Board::off(lines);
     play(Round::Format, plan, 1, &mut board);
     let measured = match workload {

@@ -41,7 +41,7 @@ pub(super) fn play(plan: Plan, rounds: u64, board: &mut Board) -> u64 {
     let mut drawn = draw(plan, plan.seed);
     let mut sum = 0u64;
     for _ in 0..rounds {
-        let rows = Lent { memory: &board.memory, cache: &board.cache, list: &board.list };
+        let rows = Lent { memory: &board.memory, cache: &board.cache };
         sum = sum.wrapping_add(u64::from(page(&board.state, &rows, &mut text, None)));
         board.cache[record_at(drawn.cell as usize)] = drawn.random;
         drawn = draw(plan, drawn.random);

@@ -25,10 +25,18 @@ pub enum Check {
     Page,
     /// Ticket 2: who is away after a call, and after a checkpoint.
     Away,
+    /// Ticket 5: a count is the set bits plus 3, at most L + 3, and 0 where it is refused.
+    Count,
+    /// Ticket 5: the count learned before a checkpoint's first step is the number of its steps.
+    Foretold,
+    /// Ticket 5: these steps write each set line once, rising, then line 0.
+    Lines,
+    /// A line's bit is set exactly where a cell of it is marked.
+    Bits,
 }
 
 /// Every check with its name and a few words.
-pub const CHECKS: [(&str, Check, &str); 11] = [
+pub const CHECKS: [(&str, Check, &str); 15] = [
     ("causes", Check::Causes, "the table of causes; a refused call leaves all as it was"),
     ("outcome", Check::Outcome, "the complete outcome of a taken call"),
     ("reads", Check::Reads, "a taken read gives the machine's current value"),
@@ -40,6 +48,10 @@ pub const CHECKS: [(&str, Check, &str); 11] = [
     ("invariant", Check::Invariant, "the design page's invariant"),
     ("page", Check::Page, "a page's number and each byte of its text row"),
     ("away", Check::Away, "who is away after a call, and after a checkpoint"),
+    ("count", Check::Count, "a count is the set bits plus 3, at most L + 3; refused, 0"),
+    ("foretold", Check::Foretold, "the count learned before a checkpoint's first step is the number of its steps"),
+    ("lines", Check::Lines, "a checkpoint's steps write each set line once, rising, then line 0"),
+    ("bits", Check::Bits, "a line's bit is set exactly where a cell of it is marked"),
 ];
 
 impl Check {

@@ -59,6 +59,8 @@ impl Temper {
             Choice::Probe
         } else if falls_to(20) {
             Choice::Call(Call::Page { room: garbage::room(random, watched.board.state.lines.into()) })
+        } else if falls_to(20) {
+            Choice::Call(Call::Count)
         } else if falls_to(self.write_back) {
             let line = random.below(watched.board.state.lines as u64 + 1);
             Choice::Call(Call::WriteBack { line: if random.chance(1, 4) { 0 } else { line } })

@@ -17,7 +17,7 @@ use crate::mistake::Mistake;
 const LAST_EPOCH: u64 = 3;
 
 /// Every call of the smallest board with two values, refused ones too.
-const CALLS: [Call; 20] = [
+const CALLS: [Call; 21] = [
     Call::Format { lines: 1, workers: 1 },
     Call::Recovery,
     Call::Step,
@@ -38,6 +38,7 @@ const CALLS: [Call; 20] = [
     Call::Page { room: 205 },
     Call::GoAway { worker: 0 },
     Call::ComeBack { worker: 0 },
+    Call::Count,
 ];
 
 /// How much was seen.
@@ -193,11 +194,11 @@ impl Search {
     }
 }
 
-/// A cut that leaves zeros: the next taken call is a start, which looks at memory alone.
+/// A cut that leaves zeros and the bit of line 1: the next taken call is a start, which looks at memory alone.
 fn forget(board: &mut Board) {
     board.cache.fill(0);
-    board.list.fill(0);
     board.state = State::started(Phase::Off, 1, 1);
+    board.state.line_bits[0] = 2;
 }
 
 /// The smallest board after a format.

@@ -56,7 +56,6 @@ pub fn board(random: &Random, lines: u64, board: &mut Board) {
         let epoch = board.memory[0];
         board.cache[0] = random.pick(&[epoch.wrapping_add(1), epoch - 1, u64::MAX]);
     }
-    board.list.resize(cells(lines) as usize + random.pick(&[0, 0, 1, 60]), 0);
     if random.chance(1, 4) {
         some_past(random, &mut board.memory);
     }

@@ -1,5 +1,6 @@
 //! What a cut may leave, and boards that no lawful sequence leads to.
 
+use crate::bits::{self, LineBits, NO_LINES};
 use crate::board::{Board, Condition, Phase, State, Store, UndoStep, Update};
 use crate::call::Call;
 use crate::fault::MOST_ROOM;
@@ -40,7 +41,7 @@ pub fn room(random: &Random, lines: u64) -> u64 {
     room.min(MOST_ROOM)
 }
 
-/// "A cut may leave any words in cache and list and any state record"
+/// "A cut may leave any words in cache ... and any state record"
 pub fn cut(random: &Random, board: &mut Board) {
     match random.below(4) {
         0 => board.cache.fill(0),
@@ -49,7 +50,7 @@ pub fn cut(random: &Random, board: &mut Board) {
         _ => board.cache.iter_mut().for_each(|cell| *cell = word(random)),
     }
     if random.chance(1, 2) {
-        board.list.iter_mut().for_each(|entry| *entry = random.word() as u16);
+        board.state.line_bits = any_bits(random);
     }
     match random.below(4) {
         0 => {}
@@ -71,13 +72,14 @@ fn state(random: &Random, lines: u64, workers: u64) -> State {
         Phase::Running,
     ]);
     let mut state = State::started(phase, lines as u16, workers as u8);
-    state.list_length = random.pick(&[0, random.below(cells + 1), cells]) as u16;
+    state.line_bits = allowed_bits(random, lines);
+    let n = u64::from(bits::count(&state.line_bits));
     state.requested = random.chance(1, 2);
     state.undo = random.pick(&[UndoStep::Record, UndoStep::Mark, UndoStep::WriteBack]);
     state.place = match phase {
         Phase::Formatting => random.below(lines + 2),
         Phase::Recovering => random.below(cells),
-        _ => random.pick(&[random.below(state.list_length as u64 + 3), state.list_length as u64]),
+        _ => random.pick(&[random.below(n + 3), n]),
     } as u16;
     let still = random.chance(1, 3);
     let waiting = [Condition::Waiting, random.pick(&[Condition::Waiting, Condition::Away]), Condition::Away];
@@ -85,6 +87,42 @@ fn state(random: &Random, lines: u64, workers: u64) -> State {
         *slot = if still { random.pick(&waiting) } else { condition(random, cells) };
     }
     state
+}
+
+/// Any eight words.
+fn any_bits(random: &Random) -> LineBits {
+    let kind = random.below(3);
+    std::array::from_fn(|_| match kind {
+        0 => random.word(),
+        1 => word(random),
+        _ => random.pick(&[0, u64::MAX, 1, 1 << 63]),
+    })
+}
+
+/// Bits of lines 1 to L: none, all, or some, the last line's more often.
+pub fn allowed_bits(random: &Random, lines: u64) -> LineBits {
+    let mut set = NO_LINES;
+    let some = random.pick(&[1, 2, lines.min(511) / 2, lines.min(12)]);
+    match random.below(6) {
+        0 => {}
+        1 => (1..=lines.min(511)).for_each(|line| bits::set(&mut set, line as usize)),
+        _ => (0..some).for_each(|_| {
+            let line = random.pick(&[lines, 1 + random.below(lines.max(1)), 1 + random.below(lines.max(1))]);
+            bits::set(&mut set, line.clamp(1, 511) as usize);
+        }),
+    }
+    set
+}
+
+/// A line that no bit may be set for: line 0, or one past L where there is such.
+pub fn line_astray(random: &Random, lines: u64) -> u64 {
+    let past = (lines + 1).min(511);
+    let line = random.pick(&[0, 0, past, past, past + random.below(512 - past), 511]);
+    if line > lines {
+        line
+    } else {
+        0
+    }
 }
 
 /// Some condition of a worker.
@@ -107,8 +145,11 @@ fn spoil_state(random: &Random, state: &mut State) {
     match random.below(6) {
         0 => state.lines = random.pick(&[0, 511, 512, random.word() as u16]),
         1 => state.workers = random.pick(&[0, 8, 9, cells as u8, random.word() as u8]),
-        2 => state.list_length = about(random, cells) as u16,
-        3 => state.place = random.pick(&[about(random, state.list_length as u64 + 2), about(random, cells)]) as u16,
+        2 => spoil_bits(random, state),
+        3 => {
+            let n = u64::from(bits::count(&state.line_bits));
+            state.place = random.pick(&[about(random, n + 2), about(random, cells)]) as u16;
+        }
         4 => state.phase = random.pick(&[Phase::Off, Phase::Formatting, Phase::Recovering, Phase::Running]),
         _ => {
             let cell = about(random, cells) as u16;
@@ -118,9 +159,19 @@ fn spoil_state(random: &Random, state: &mut State) {
     }
 }
 
+/// A bit that must not be set, or any eight words.
+fn spoil_bits(random: &Random, state: &mut State) {
+    if random.chance(1, 4) {
+        state.line_bits = any_bits(random);
+    } else {
+        bits::set(&mut state.line_bits, line_astray(random, state.lines.into()) as usize);
+    }
+}
+
 /// A board made up for one call: mostly sound, often with something spoiled.
 pub fn board(random: &Random, board: &mut Board) {
-    let lines = random.pick(&[1, 1, 2, 2, 3, 4, 5, if random.chance(1, 50) { 511 } else { 6 }]);
+    let large = random.pick(&[63, 64, 65, 128, 447, 448, 510, 511]);
+    let lines = random.pick(&[1, 1, 2, 2, 3, 4, 5, if random.chance(1, 16) { large } else { 6 }]);
     let workers = some_workers(random, lines);
     board.resize(lines);
     board.state = state(random, lines, workers);
@@ -128,7 +179,6 @@ pub fn board(random: &Random, board: &mut Board) {
     for word_of_row in board.memory.iter_mut().chain(&mut board.cache) {
         *word_of_row = if wide && random.chance(2, 3) { random.digits() } else { random.below(4) };
     }
-    board.list.iter_mut().for_each(|entry| *entry = random.below(2 * lines) as u16);
     let epoch = random.pick(&[1, 2, u64::MAX - 1, u64::MAX]);
     board.memory[..LINE_WORDS].copy_from_slice(&header(epoch, lines, workers));
     board.cache[..LINE_WORDS].copy_from_slice(&header(epoch, lines, workers));
@@ -145,27 +195,21 @@ pub fn board(random: &Random, board: &mut Board) {
 pub fn spoil_rows(random: &Random, board: &mut Board) {
     let change = random.pick(&[0, 1, 7, 8, 9, 15, 16, 17, 24]);
     let words = board.memory.len();
-    match random.below(5) {
+    match random.below(4) {
         0 => board.memory.resize(words + change, 0),
         1 => board.memory.truncate(words.saturating_sub(change)),
         2 => board.cache.resize(change + words, 0),
-        3 => board.list.resize((board.list.len() + 1).saturating_sub(random.below(4) as usize), 0),
         _ => {
             let words = random.pick(&[0, 8, 15, 16, 24, 4096, 4104]);
             board.memory.resize(words, 0);
             board.cache.resize(words, 0);
-            board.list.resize(words / 4, 0);
         }
     }
 }
 
-/// Spoil a word of the header, or an entry of the list.
+/// Spoil a word of the header.
 pub fn spoil_words(random: &Random, board: &mut Board) {
-    if random.chance(1, 3) {
-        let limit = 2 * board.state.lines as u64;
-        let entry = random.below(board.list.len() as u64 + 1) as usize;
-        board.list.iter_mut().skip(entry).take(2).for_each(|entry| *entry = about(random, limit) as u16);
-    } else if let Some(first) = board.memory.get_mut(..LINE_WORDS) {
+    if let Some(first) = board.memory.get_mut(..LINE_WORDS) {
         first[random.below(8) as usize] = random.pick(&[0, 1, 2, 8, 9, random.word()]);
     }
 }
@@ -174,7 +218,7 @@ pub fn spoil_words(random: &Random, board: &mut Board) {
 pub fn call(random: &Random, state: &State) -> Call {
     let (lines, workers) = (state.lines as u64, state.workers as u64);
     let worker = about(random, workers);
-    match random.below(12) {
+    match random.below(14) {
         0 => Call::Format {
             lines: random.pick(&[lines, lines, about(random, lines), about(random, 511)]),
             workers: about(random, 8),
@@ -189,6 +233,7 @@ pub fn call(random: &Random, state: &State) -> Call {
         8 => Call::Read { cell: about(random, 2 * lines) },
         9 => Call::GoAway { worker },
         10 => Call::ComeBack { worker },
+        11 | 12 => Call::Count,
         _ => Call::Page { room: room(random, lines) },
     }
 }

@@ -1,6 +1,7 @@
 //! The invariant of the design page, checked field by field after every event.
 
 use super::check::{ensure, Finding};
+use super::count::set_lines;
 use crate::board::{Board, Condition, Phase, State, Store, UndoStep};
 use crate::line::{backup_at, line_words, mark_at, record_at};
 use crate::machine::{Machine, Unfinished, Value};
@@ -83,10 +84,10 @@ fn recovering(board: &Board, machine: &Machine) -> Finding {
     ensure(place < machine.values.len(), || "recovering past the last cell".into())
 }
 
-/// List empty, no request, no unfinished update on either side, and in the machine all as checkpointed.
+/// No bit, no request, no unfinished update on either side, and in the machine all as checkpointed.
 fn idle(state: &State, machine: &Machine) -> bool {
     let restored = |value: &Value| value.current == value.checkpointed && !value.marked;
-    state.list_length == 0
+    set_lines(state).is_empty()
         && !(state.requested || machine.requested)
         && state.worker.iter().all(|condition| *condition == Condition::Free)
         && machine.updates == [None; 8]
@@ -100,17 +101,20 @@ fn running(board: &Board, machine: &Machine) -> Finding {
         ensure(board.cache[record_at(cell)] == value.current, || format!("cell {cell}'s record is not current"))?;
     }
     let state = &board.state;
-    let place = if machine.requested { machine.steps } else { 0 };
+    let steps = if machine.requested { machine.steps } else { 0 };
     ensure(state.requested == machine.requested, || "the request stands on one side only".into())?;
-    ensure(state.place as u64 == place, || format!("place {} after {place} steps", state.place))?;
-    ensure(state.list_length as u64 == machine.marked(), || {
-        "the list's length is not the number of marked cells".into()
+    ensure(state.place as u64 == steps, || format!("place {} after {steps} steps", state.place))?;
+    let set = set_lines(state);
+    let (n, place) = (set.len(), state.place as usize);
+    ensure(machine.marked_lines().filter(|marked| *marked).count() == n, || {
+        "the count of set bits is not that of the lines with a marked cell".into()
     })?;
-    ensure(state.place <= state.list_length + 2, || "the place is past the release".into())?;
+    ensure(place <= n + 2, || "the place is past the release".into())?;
     marks_follow(board, machine)?;
-    if state.place <= state.list_length {
-        early(board, machine)?;
+    if place <= n {
+        early(board, machine, &set)?;
     } else if board.cache[0] != board.memory[0] {
+        ensure(place == n + 1, || "line 0 is not in memory at the release".into())?;
         gap(board, machine)?;
     } else {
         late(board, machine)?;
@@ -126,29 +130,25 @@ fn marks_follow(board: &Board, machine: &Machine) -> Finding {
     ensure(wrong.is_none(), || format!("cell {wrong:?} is marked in memory alone"))
 }
 
-/// "early (epochs equal; machine's marked = mark equals epoch; marked cells are listed; entries before the place ...)"
-fn early(board: &Board, machine: &Machine) -> Finding {
+/// "early (epochs equal; machine's marked = mark equals epoch; ...)", of lines in place of entries
+fn early(board: &Board, machine: &Machine, set: &[usize]) -> Finding {
     ensure(board.cache[0] == board.memory[0], || "early, and the epochs differ".into())?;
     for (cell, value) in machine.values.iter().enumerate() {
         let marked = board.cache[mark_at(cell)] == board.cache[0];
         ensure(marked == value.marked, || format!("cell {cell} marked {marked}, in the machine {}", value.marked))?;
     }
-    let listed = &board.list[..board.state.list_length as usize];
-    let mut seen = vec![false; machine.values.len()];
-    for (place, entry) in listed.iter().enumerate() {
-        let cell = *entry as usize;
-        let marked = machine.values.get(cell).is_some_and(|value| value.marked);
-        ensure(marked && !seen[cell], || format!("entry {place} is not marked or stands twice"))?;
-        seen[cell] = true;
-        let written = board.cache[record_at(cell)] == board.memory[record_at(cell)];
-        ensure(place >= board.state.place as usize || written, || format!("entry {place} is not in memory"))?;
+    for (before, line) in set.iter().enumerate() {
+        let mut cells = (2 * line).saturating_sub(2)..2 * line;
+        let marked = cells.clone().any(|cell| machine.values.get(cell).is_some_and(|value| value.marked));
+        ensure(marked, || format!("line {line} is set and none of its cells is marked"))?;
+        let written = cells.all(|cell| board.cache[record_at(cell)] == board.memory[record_at(cell)]);
+        ensure(before >= board.state.place as usize || written, || format!("line {line} is not in memory"))?;
     }
     Ok(())
 }
 
 /// "gap (cache's epoch one ahead, all records equal)", at the place of line 0's write-back
 fn gap(board: &Board, machine: &Machine) -> Finding {
-    ensure(board.state.place == board.state.list_length + 1, || "line 0 is not in memory at the release".into())?;
     ensure(board.memory[0].checked_add(1) == Some(board.cache[0]), || "the cache's epoch is not one ahead".into())?;
     let equal = |cell: usize| board.cache[record_at(cell)] == board.memory[record_at(cell)];
     let wrong = (0..machine.values.len()).find(|cell| !equal(*cell));

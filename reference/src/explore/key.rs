@@ -1,7 +1,8 @@
 //! A watched board of one line and one worker in 64 bytes, and back.
-//! What can no longer be read is left out: the list past its length, steps that nothing counts. What words 6 and 7 are to
-//! be is what memory has, as they were checked when the state was reached.
+//! What can no longer be read is left out: steps that nothing counts. What words 6 and 7 are to be is what memory has, as
+//! they were checked when the state was reached.
 
+use super::count::Foretold;
 use super::stores::spare;
 use super::watched::Watched;
 use crate::board::{Condition, Phase, State, Store, UndoStep, Update};
@@ -53,11 +54,9 @@ pub fn encode(watched: &Watched) -> Key {
     let mut out = Writer { key: [0; 64], at: 0 };
     let board = &watched.board;
     board.memory.iter().chain(&board.cache).for_each(|word| out.put(*word));
-    for (place, entry) in board.list.iter().enumerate() {
-        out.put(if place < board.state.list_length as usize { *entry as u64 } else { 0 });
-    }
     encode_state(&board.state, &mut out);
     encode_machine(watched, &mut out);
+    encode_foretold(watched.foretold.as_ref(), &mut out);
     let promise = &watched.promise;
     out.put(watched.cut as u64 + 2 * promise.broken_format as u64);
     out.put(promise.format_left);
@@ -76,7 +75,7 @@ fn encode_state(state: &State, out: &mut Writer) {
     out.put(state.place as u64);
     out.put(code(&UNDO_STEPS, &state.undo));
     out.put(state.requested as u64);
-    out.put(state.list_length as u64);
+    out.put(state.line_bits[0]);
     let (tag, cell, value, next) = match state.worker[0] {
         Condition::Free => (0, 0, 0, 0),
         Condition::Waiting => (1, 0, 0, 0),
@@ -102,15 +101,25 @@ fn encode_machine(watched: &Watched, out: &mut Writer) {
     out.put(if counted { machine.steps } else { 0 });
 }
 
+/// What a count foretold in bytes: the number, 0 for none, the lines set as bits, the steps, the lines written.
+fn encode_foretold(foretold: Option<&Foretold>, out: &mut Writer) {
+    let Some(Foretold { count, lines, steps, written }) = foretold else {
+        return (0..4).for_each(|_| out.put(0));
+    };
+    let lines = lines.iter().map(|line| 1u64 << line).sum();
+    let written = written.iter().fold(0, |code, line| 3 * code + *line as u64 + 1);
+    [*count, lines, *steps, written].into_iter().for_each(|number| out.put(number));
+}
+
 /// Put a state back.
 pub fn decode(key: &Key, watched: &mut Watched) {
     let mut input = Reader { key, at: 0 };
     let board = &mut watched.board;
     board.memory.iter_mut().chain(&mut board.cache).for_each(|word| *word = input.get());
-    board.list.iter_mut().for_each(|entry| *entry = input.get() as u16);
     board.state = decode_state(&mut input);
     watched.spare = spare(&board.memory);
     decode_machine(&mut input, watched);
+    watched.foretold = decode_foretold(&mut input);
     let flags = input.get();
     let promise = &mut watched.promise;
     watched.cut = flags & 1 == 1;
@@ -132,7 +141,7 @@ fn decode_state(input: &mut Reader) -> State {
     state.place = input.get() as u16;
     state.undo = UNDO_STEPS[input.get() as usize];
     state.requested = input.get() == 1;
-    state.list_length = input.get() as u16;
+    state.line_bits[0] = input.get();
     let (tag, cell, value) = (input.get(), input.get() as u16, input.get());
     let next = STORES[input.get() as usize];
     state.worker[0] = match tag {
@@ -158,4 +167,16 @@ fn decode_machine(input: &mut Reader, watched: &mut Watched) {
     let lines = input.get();
     machine.formatting = (lines > 0).then_some(lines);
     machine.steps = input.get();
+}
+
+/// What a count foretold on a board of one line.
+fn decode_foretold(input: &mut Reader) -> Option<Foretold> {
+    let [count, bits, steps, mut code] = [input.get(), input.get(), input.get(), input.get()];
+    let lines = (0..8).filter(|line| bits >> line & 1 == 1).collect();
+    let mut written = Vec::new();
+    while code > 0 {
+        written.insert(0, (code - 1) as usize % 3);
+        code = (code - 1) / 3;
+    }
+    (count > 0).then_some(Foretold { count, lines, steps, written })
 }

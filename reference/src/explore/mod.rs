@@ -1,8 +1,10 @@
 //! `explore`: random sequences of calls and cuts, the board beside the simple machine, every statement checked.
 
 mod away;
+mod bits;
 pub mod check;
 mod choose;
+mod count;
 pub mod exhaustive;
 pub mod foreign;
 pub(crate) mod garbage;
@@ -99,8 +101,9 @@ impl Explorer {
     fn sequence(&mut self, most: u64) -> Result<(), Violation> {
         self.trace.clear();
         let lines = match self.random.below(2000) {
-            0 => 511,
-            1..=20 => 10 + self.random.below(30),
+            0..=3 => 511,
+            4..=9 => 60 + self.random.below(451),
+            10..=29 => 10 + self.random.below(30),
             _ => 1 + self.random.below(4),
         };
         let (beginning, mut watched) = self.begin(lines)?;
@@ -191,6 +194,9 @@ impl Explorer {
         self.trace.push(format!("{call:?}"));
         let done = watched.call(call)?;
         self.tally.answer(call, done.answer.number);
+        if let Some(foretold) = &done.foretold {
+            self.tally.foretold(&foretold.lines, watched.marked_before());
+        }
         match done.finished {
             Some(Finished::Format) => self.tally.formats += 1,
             Some(Finished::Checkpoint) => self.tally.checkpoint(&watched.board.state),

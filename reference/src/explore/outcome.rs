@@ -1,6 +1,7 @@
 //! What a taken call leaves, a second time: told field by field and word by word, not call by call as in `effects`.
 
 use super::check::{ensure, Finding};
+use super::count::set_lines;
 use crate::board::{Board, Condition, Phase, State, Store, UndoStep, Update};
 use crate::call::Call;
 
@@ -11,9 +12,7 @@ pub fn complete(call: &Call, before: &Board, after: &Board) -> Finding {
     ensure(after.state == state, || format!("{call:?} left the state {:?}, not {state:?}", after.state))?;
     let (memory, cache) = (told.memory(), told.cache());
     ensure(after.memory == memory, || format!("{call:?} left memory {:?}, not {memory:?}", after.memory))?;
-    ensure(after.cache == cache, || format!("{call:?} left the cache {:?}, not {cache:?}", after.cache))?;
-    let list = told.list();
-    ensure(after.list == list, || format!("{call:?} left the list {:?}, not {list:?}", after.list))
+    ensure(after.cache == cache, || format!("{call:?} left the cache {:?}, not {cache:?}", after.cache))
 }
 
 /// Where a cell's record, backup or mark (0, 1, 2) stands.
@@ -55,10 +54,14 @@ impl Told<'_> {
             || (self.step_in(Phase::Recovering) && state.place == 2 * state.lines - 1 && self.leaves_cell())
     }
 
-    /// "release, with all eight workers free, list empty, request gone", but by ticket 2 "Release leaves it away"
+    /// "release, with all eight workers free, ... request gone", but by ticket 2 "Release leaves it away"
     fn releases(&self) -> bool {
-        let state = &self.board.state;
-        self.step_in(Phase::Running) && state.place == state.list_length + 2
+        self.step_in(Phase::Running) && self.board.state.place as usize == self.n() + 2
+    }
+
+    /// "n is their count"
+    fn n(&self) -> usize {
+        set_lines(&self.board.state).len()
     }
 
     /// The update that an advance is about.
@@ -72,9 +75,9 @@ impl Told<'_> {
         }
     }
 
-    /// The cell that goes to the end of the list.
-    fn listed(&self) -> Option<u16> {
-        self.advanced().filter(|update| update.next == Store::Mark).map(|update| update.cell)
+    /// The line whose bit is set.
+    fn marked_line(&self) -> Option<usize> {
+        self.advanced().filter(|update| update.next == Store::Mark).map(|update| 1 + update.cell as usize / 2)
     }
 
     /// The line that is written back.
@@ -86,10 +89,11 @@ impl Told<'_> {
             Call::Step if state.phase == Phase::Recovering => {
                 (state.undo == UndoStep::WriteBack).then(|| line(state.place))
             }
-            Call::Step if state.phase == Phase::Running && state.place < state.list_length => {
-                Some(line(self.board.list[state.place as usize]))
+            Call::Step if state.phase == Phase::Running => {
+                let (set, place) = (set_lines(state), state.place as usize);
+                let header = (place == set.len() + 1).then_some(0);
+                set.get(place).copied().or(header)
             }
-            Call::Step if state.phase == Phase::Running => (state.place == state.list_length + 1).then_some(0),
             _ => None,
         }
     }
@@ -111,7 +115,7 @@ impl Told<'_> {
                 UndoStep::WriteBack => None,
             };
         }
-        (self.step_in(Phase::Running) && state.place == state.list_length).then(|| (0, cache[0] + 1))
+        (self.step_in(Phase::Running) && state.place as usize == self.n()).then(|| (0, cache[0] + 1))
     }
 
     /// The word that a format's step puts into both rows.
@@ -151,11 +155,12 @@ impl Told<'_> {
         words.map(|(index, word)| self.formatted(index).unwrap_or(old(index, *word))).collect()
     }
 
-    /// Each entry of the list.
-    fn list(&self) -> Vec<u16> {
-        let (listed, length) = (self.listed(), self.board.state.list_length as usize);
-        let entry = |(index, old): (usize, &u16)| listed.filter(|_| index == length).unwrap_or(*old);
-        self.board.list.iter().enumerate().map(entry).collect()
+    /// Each of the eight words of bits.
+    fn line_bits(&self) -> [u64; 8] {
+        let emptied =
+            self.call.is_start() || self.releases() || (self.begins_running() && self.step_in(Phase::Formatting));
+        let new = |at: usize| self.marked_line().filter(|line| line / 64 == at).map_or(0, |line| 1 << (line % 64));
+        std::array::from_fn(|at| if emptied { 0 } else { self.board.state.line_bits[at] | new(at) })
     }
 
     /// Each field of the state record.
@@ -167,14 +172,11 @@ impl Told<'_> {
             _ if self.begins_running() => (Phase::Running, old.lines, old.workers),
             _ => (old.phase, old.lines, old.workers),
         };
-        let emptied =
-            self.call.is_start() || self.releases() || (self.begins_running() && self.step_in(Phase::Formatting));
-        let list_length = if emptied { 0 } else { old.list_length + self.listed().is_some() as u16 };
         let dropped = self.call.is_start() || self.releases();
         let requested = !dropped && (old.requested || self.call == Call::Request);
         let (place, undo) = self.place();
         let worker = std::array::from_fn(|index| self.condition(index));
-        State { phase, lines, workers, list_length, place, undo, requested, worker }
+        State { phase, lines, workers, place, undo, requested, worker, line_bits: self.line_bits() }
     }
 
     /// "A request, a release and the end of a format or recovery set the place to 0."

@@ -2,6 +2,7 @@
 
 use super::away::{away, Away};
 use super::check::{ensure, Finding};
+use super::count::set_lines;
 use crate::board::{Board, Condition, Phase};
 use crate::call::Call;
 use crate::line::{mark_at, LINE_WORDS};
@@ -83,7 +84,7 @@ impl Promise {
             return (self.recovery_left == 0).then_some(Finished::Recovery);
         }
         if self.checkpoint_left == 0 {
-            self.checkpoint_left = before.state.list_length as u64 + 3;
+            self.checkpoint_left = set_lines(&before.state).len() as u64 + 3;
             self.away = away(&before.state);
         }
         self.checkpoint_left -= 1;

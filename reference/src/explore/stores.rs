@@ -8,16 +8,14 @@ use crate::line::{header, line_words, LINE_WORDS};
 /// What a taken call did to the rows.
 pub fn rows_changed(call: &Call, before: &Board, after: &Board) -> Finding {
     match call {
-        Call::Format { .. } | Call::Page { .. } | Call::GoAway { .. } | Call::ComeBack { .. } => {
+        Call::Format { .. } | Call::Page { .. } | Call::GoAway { .. } | Call::ComeBack { .. } | Call::Count => {
             unchanged(call, before, after)
         }
         Call::Step if before.state.phase == Phase::Formatting => format_line(before, after),
-        Call::Recovery => {
-            ensure(after.memory == before.memory && after.cache == before.memory && after.list == before.list, || {
-                "a recovery's start copied something else than memory to cache".into()
-            })
-        }
-        _ => one_store(before, after).and_then(|()| list_changed(call, before, after)),
+        Call::Recovery => ensure(after.memory == before.memory && after.cache == before.memory, || {
+            "a recovery's start copied something else than memory to cache".into()
+        }),
+        _ => one_store(before, after),
     }?;
     match *call {
         Call::WriteBack { line } => {
@@ -28,11 +26,9 @@ pub fn rows_changed(call: &Call, before: &Board, after: &Board) -> Finding {
     }
 }
 
-/// "The start changes no row", nor does a page or a worker that goes away or comes back.
+/// "The start changes no row", nor does a page, a count or a worker that goes away or comes back.
 fn unchanged(call: &Call, before: &Board, after: &Board) -> Finding {
-    ensure(before.memory == after.memory && before.cache == after.cache && before.list == after.list, || {
-        format!("{call:?} changed a row")
-    })
+    ensure(before.memory == after.memory && before.cache == after.cache, || format!("{call:?} changed a row"))
 }
 
 /// A format's step makes one line of both rows what 01 says, and nothing else.
@@ -48,7 +44,7 @@ fn format_line(before: &Board, after: &Board) -> Finding {
             format!("format step {place} wrote more than line {line}")
         })?;
     }
-    ensure(before.list == after.list, || "a format's step changed the list".into())
+    Ok(())
 }
 
 /// "at most one word of the cache or one line of memory (which then equals the cache's), never both"
@@ -65,14 +61,6 @@ fn one_store(before: &Board, after: &Board) -> Finding {
         }
     }
     ensure(stored + written <= 1, || format!("one call changed {stored} cache words and {written} memory lines"))
-}
-
-/// The list changes only where an advance adds a cell; "Entries from the list's length on ... stay as they are."
-fn list_changed(call: &Call, before: &Board, after: &Board) -> Finding {
-    let length = before.state.list_length;
-    let added = matches!(call, Call::Advance { .. }) && after.state.list_length == length.wrapping_add(1);
-    let mut changed = before.list.iter().zip(&after.list).enumerate().filter(|(_, (old, new))| old != new);
-    ensure(changed.all(|(entry, _)| added && entry == length as usize), || "an entry of the list changed".into())
 }
 
 /// Words 6 and 7 of each cell line.

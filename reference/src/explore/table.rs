@@ -1,7 +1,7 @@
 //! The table "Why a call is turned down" with what 02 adds to it, a second time, as a list of causes and their numbers in
 //! no order: the answer is the first number of `ORDER` whose cause holds. It shares no test with `causes`.
 
-use crate::board::{Condition, Lent, Phase, State, Store, Update};
+use crate::board::{Condition, Lent, Phase, State, Update};
 use crate::call::Call;
 
 /// A call on a board, as a cause looks at it.
@@ -23,7 +23,7 @@ pub fn rank(cause: u8) -> usize {
 }
 
 /// Every part of every cause.
-const TABLE: [Part; 35] = [
+const TABLE: [Part; 32] = [
     (12, "text row", |case| matches!(case.call, Call::Page { room } if (room as u128) < 68 * (case.two_l() + 1))),
     (11, "the last epoch", |case| {
         case.rows.cache.first() == Some(&u64::MAX) && (case.call == Call::Request || case.at_epoch_store())
@@ -71,24 +71,17 @@ const TABLE: [Part; 35] = [
     (4, "cache's length at recovery", |case| {
         case.call == Call::Recovery && case.rows.cache.len() != case.rows.memory.len()
     }),
-    (4, "list's length at recovery", |case| {
-        case.call == Call::Recovery && case.rows.list.len() + 2 < case.rows.memory.len() / 4
-    }),
     (4, "memory's length", |case| case.row_words().is_some_and(|words| case.rows.memory.len() as u128 != words)),
     (4, "cache's length", |case| case.row_words().is_some_and(|words| case.rows.cache.len() as u128 != words)),
-    (4, "list's length", |case| {
-        case.fitting_lines().is_some_and(|lines| (case.rows.list.len() as u128) < 2 * lines as u128)
-    }),
-    (4, "list entry used", |case| case.used_entry().is_some_and(|entry| entry as u128 >= case.two_l())),
     (3, "record's L or W", |case| case.not_start() && !limits(case.l() as u128, case.w() as u128)),
-    (3, "record's list length", |case| case.not_start() && case.state.list_length as u128 > case.two_l()),
+    (3, "a bit of line 0", |case| case.not_start() && case.is_set(0)),
+    (3, "a bit past L", |case| case.not_start() && (case.l() + 1..512).any(|line| case.is_set(line))),
     (3, "place in a format", |case| case.misplaced(Phase::Formatting)),
     (3, "place in a recovery", |case| case.misplaced(Phase::Recovering)),
     (3, "place in a checkpoint", |case| case.misplaced(Phase::Running)),
     (3, "a worker's cell", |case| {
         case.not_start() && case.updates().any(|(_, update)| update.cell as u128 >= case.two_l())
     }),
-    (3, "a full list", |case| case.adds_a_cell() && case.state.list_length as u128 == case.two_l()),
     (2, "phase", |case| !case.phase_allows()),
     (
         1,
@@ -215,35 +208,31 @@ impl Case<'_> {
         self.call == Call::Step && self.state.phase == Phase::Running
     }
 
-    /// "the epoch's store": the step at place n of a requested checkpoint.
-    fn at_epoch_store(&self) -> bool {
-        self.running_step() && self.state.requested && self.state.place == self.state.list_length
+    /// "64 lines a word, the lowest bit first"
+    fn is_set(&self, line: u64) -> bool {
+        self.state.line_bits[line as usize / 64] & (1 << (line % 64)) != 0
     }
 
-    /// "a list entry that this step uses"
-    fn used_entry(&self) -> Option<u16> {
-        let used = self.running_step() && self.state.requested && self.state.place < self.state.list_length;
-        self.rows.list.get(self.state.place as usize).copied().filter(|_| used)
+    /// "n is their count"
+    fn n(&self) -> usize {
+        (0..512).filter(|line| self.is_set(*line)).count()
+    }
+
+    /// "the epoch's store": the step at place n of a requested checkpoint.
+    fn at_epoch_store(&self) -> bool {
+        self.running_step() && self.state.requested && self.state.place as usize == self.n()
     }
 
     /// "place over L+1 in a format, a cell over 2L−1 in a recovery, over n+2 ... when running with ..."
     fn misplaced(&self, phase: Phase) -> bool {
-        let (place, n) = (self.state.place as u128, self.state.list_length as u128);
+        let place = self.state.place as u128;
         let past = match phase {
             Phase::Off => false,
             Phase::Formatting => place > self.l() as u128 + 1,
             Phase::Recovering => place + 1 > self.two_l(),
-            Phase::Running => self.state.requested && place > n + 2,
+            Phase::Running => self.state.requested && place > self.n() as u128 + 2,
         };
         self.not_start() && self.state.phase == phase && past
-    }
-
-    /// "an advance by a worker under W must add a cell"
-    fn adds_a_cell(&self) -> bool {
-        let Call::Advance { worker } = self.call else {
-            return false;
-        };
-        matches!(self.condition(worker), Some(Condition::Updating(Update { next: Store::Mark, .. })))
     }
 
     /// The L that the rows must fit: a format's own, none for recovery's start, else the state record's.

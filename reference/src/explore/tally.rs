@@ -41,6 +41,13 @@ pub struct Tally {
     pub answers: [u64; ANSWERS],
     pub going_away: [u64; ANSWERS],
     pub coming_back: [u64; ANSWERS],
+    pub counts: [u64; ANSWERS],
+    /// Checkpoints whose steps were those that a count had foretold, and of them those with lines set in several words,
+    /// with one in the eighth word, and with both cells of a line marked.
+    pub foretold: u64,
+    pub in_words: u64,
+    pub in_eighth: u64,
+    pub in_pairs: u64,
 }
 
 impl Tally {
@@ -73,8 +80,18 @@ impl Tally {
         match call {
             Call::GoAway { .. } => self.going_away[number as usize] += 1,
             Call::ComeBack { .. } => self.coming_back[number as usize] += 1,
+            Call::Count => self.counts[number as usize] += 1,
             _ => {}
         }
+    }
+
+    /// Count a checkpoint that was foretold, of these lines and so many marked cells.
+    pub fn foretold(&mut self, lines: &[usize], cells: usize) {
+        let word = |line: Option<&usize>| line.map_or(0, |line| line / 64);
+        self.foretold += 1;
+        self.in_words += (word(lines.first()) < word(lines.last())) as u64;
+        self.in_eighth += (word(lines.last()) == 7) as u64;
+        self.in_pairs += (cells > lines.len()) as u64;
     }
 
     /// Count a checkpoint that left this record.
@@ -110,7 +127,11 @@ impl fmt::Display for Tally {
             writeln!(out, "answer {number}: {count}")?;
         }
         writeln!(out, "going away: {}", met(&self.going_away))?;
-        writeln!(out, "coming back: {}", met(&self.coming_back))
+        writeln!(out, "coming back: {}", met(&self.coming_back))?;
+        writeln!(out, "counts: {}", met(&self.counts))?;
+        let (words, eighth, pairs) = (self.in_words, self.in_eighth, self.in_pairs);
+        writeln!(out, "checkpoints foretold {}, of them with lines in several words {words},", self.foretold)?;
+        writeln!(out, "with a line in the eighth word {eighth}, with both cells of a line marked {pairs}")
     }
 }
 

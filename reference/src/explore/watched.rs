@@ -1,8 +1,9 @@
 //! A board beside the simple machine, every event checked.
 
 use super::check::{ensure, Check, Checks, Finding, Violation};
+use super::count::{self, Foretold};
 use super::promise::{Finished, Promise};
-use super::{away, foreign, invariant, outcome, page, stores, table};
+use super::{away, bits, foreign, invariant, outcome, page, stores, table};
 use crate::board::{Board, Phase};
 use crate::call::{Answer, Call};
 use crate::line::{cells, header, LINE_WORDS};
@@ -22,6 +23,8 @@ pub enum Beginning {
 pub struct Done {
     pub answer: Answer,
     pub finished: Option<Finished>,
+    /// What a count had foretold of the checkpoint that the call released.
+    pub foretold: Option<Foretold>,
 }
 
 /// The board, the machine and what is owed.
@@ -34,6 +37,8 @@ pub struct Watched {
     pub checks: Checks,
     /// What words 6 and 7 of each cell line are to be.
     pub spare: Vec<[u64; 2]>,
+    /// The count last learned that no cut, start or coming back made void.
+    pub foretold: Option<Foretold>,
     before: Board,
     values_before: Vec<Value>,
 }
@@ -55,7 +60,8 @@ impl Watched {
     /// Nothing is owed yet.
     fn new(board: Board, machine: Machine, cut: bool, checks: Checks) -> Watched {
         let (before, values_before, spare) = (board.clone(), machine.values.clone(), stores::spare(&board.memory));
-        Watched { board, machine, promise: Promise::default(), cut, checks, spare, before, values_before }
+        let promise = Promise::default();
+        Watched { board, machine, promise, cut, checks, spare, foretold: None, before, values_before }
     }
 
     /// The board's L, which it keeps.
@@ -79,18 +85,19 @@ impl Watched {
             let owed = owed || (*call == Call::Recovery && !self.promise.broken_format);
             let finding = || ensure(!owed, || format!("{call:?} was owed and refused by {}", answer.number));
             self.checks.run(Check::Progress, finding)?;
-            return Ok(Done { answer, finished: None });
+            return Ok(Done { answer, finished: None, foretold: None });
         }
         self.machine.taken(call);
         self.cut &= !call.is_start();
         let finished = self.promise.taken(call, &self.before, &self.machine);
         self.after_taken(call, answer, finished)?;
+        let foretold = self.follow_count(call)?;
         let format_step = *call == Call::Step && self.before.state.phase == Phase::Formatting;
         if format_step {
             self.erase_spare(self.before.state.place as usize);
         }
         self.after_event(format_step)?;
-        Ok(Done { answer, finished })
+        Ok(Done { answer, finished, foretold })
     }
 
     /// A format's step at this place: 0 is what that line's words 6 and 7 are to be from now on.
@@ -99,11 +106,49 @@ impl Watched {
         line.into_iter().for_each(|words| *words = [0; 2]);
     }
 
-    /// A cut: whatever it leaves in cache, list and state record; memory stays.
+    /// What a count foretold, after a taken call, and what it foretells from here on; gives what was fulfilled.
+    fn follow_count(&mut self, call: &Call) -> Result<Option<Foretold>, Violation> {
+        if call.is_start() || matches!(call, Call::ComeBack { .. }) {
+            self.foretold = None;
+        }
+        let mut fulfilled = None;
+        if let (Call::Step, Some(foretold)) = (call, &mut self.foretold) {
+            foretold.step(&self.before);
+            let released = !self.board.state.requested;
+            self.checks.run(Check::Foretold, || foretold.kept(released))?;
+            if released {
+                self.checks.run(Check::Lines, || foretold.each_once())?;
+                fulfilled = self.foretold.take();
+            }
+        }
+        self.learn_count()?;
+        Ok(fulfilled)
+    }
+
+    /// How many cells the machine had marked before the last event.
+    pub fn marked_before(&self) -> usize {
+        self.values_before.iter().filter(|value| value.marked).count()
+    }
+
+    /// A count learned where it foretells something, the same as before if no step was taken since.
+    fn learn_count(&mut self) -> Result<(), Violation> {
+        match count::learned(&self.board) {
+            Err(text) => self.checks.run(Check::Foretold, || Err(text)),
+            Ok(None) => Ok(()),
+            Ok(Some(again)) => {
+                let finding = self.foretold.as_ref().map_or(Ok(()), |earlier| earlier.learned_again(&again));
+                self.foretold = Some(again);
+                self.checks.run(Check::Foretold, || finding)
+            }
+        }
+    }
+
+    /// A cut: whatever it leaves in cache and state record; memory stays.
     pub fn cut(&mut self, leave: impl FnOnce(&mut Board)) -> Result<(), Violation> {
         self.remember();
         leave(&mut self.board);
         self.cut = true;
+        self.foretold = None;
         self.promise.drop_all();
         self.after_event(false)
     }
@@ -134,6 +179,7 @@ impl Watched {
             self.checks.run(Check::Completion, || self.completed())?;
         }
         self.checks.run(Check::Progress, || self.promise.can_recover(&self.board))?;
+        self.checks.run(Check::Bits, || bits::check(&self.board, &self.machine, self.cut))?;
         self.checks.run(Check::Invariant, || invariant::check(&self.board, &self.machine, self.cut))
     }
 
@@ -181,6 +227,9 @@ pub fn answered(checks: Checks, call: &Call, before: &Board, after: &Board, answ
     if let Call::Page { room } = *call {
         checks.run(Check::Page, || page::judged(before, room))?;
     }
+    if *call == Call::Count {
+        checks.run(Check::Count, || count::judged(before, answer))?;
+    }
     if answer.number != 0 {
         return Ok(());
     }
@@ -189,7 +238,7 @@ pub fn answered(checks: Checks, call: &Call, before: &Board, after: &Board, answ
     checks.run(Check::Outcome, || outcome::complete(call, before, after))
 }
 
-/// "Then running, all free, list empty": the board of a finished format.
+/// "Then running, all free", and no bit: the board of a finished format.
 fn formatted(board: &Board) -> Finding {
     let (lines, workers) = (board.state.lines, board.state.workers);
     let state = crate::board::State::started(Phase::Running, lines, workers);

@@ -7,6 +7,7 @@ use super::Script;
 use crate::board::Condition;
 use crate::call::Call;
 use crate::damage::Damage;
+use crate::explore::garbage::allowed_bits;
 use crate::explore::table::rank;
 use crate::reached::CAUSES;
 use crate::work::some_workers;
@@ -105,6 +106,7 @@ impl Script {
             }
             b'b' => self.prepare_back(worker),
             b'C' => self.prepare_request(),
+            b'n' => self.prepare_count(),
             b'E' => Call::WriteBack { line: self.random.below(self.lines() + 1) },
             b'p' => self.prepare_page(),
             _ => Call::Read { cell: self.random.below(self.cells()) },
@@ -123,7 +125,7 @@ impl Script {
     fn prepare_request(&mut self) -> Call {
         self.field(6, 0);
         if self.random.chance(1, 3) {
-            self.field(4, self.random.pick(&[1, self.listed() + 2, self.listed() + 3, 65_535]));
+            self.field(4, self.random.pick(&[1, self.n() + 2, self.n() + 3, 65_535]));
         }
         self.odd_undo();
         Call::Request
@@ -173,17 +175,19 @@ impl Script {
         Call::Step
     }
 
-    /// A requested checkpoint at any place of it, all workers waiting or away, with entries and words to write.
+    /// A requested checkpoint at any place of it, all workers waiting or away, with lines and words to write.
     fn prepare_checkpoint(&mut self) {
         let away = self.random.pick(&[0, 0, 1, 2]);
         for worker in 0..self.workers() {
             let numbers = if self.random.chance(away, 2) { AWAY } else { WAITING };
             self.damage(Damage::Worker { worker, numbers });
         }
-        let cells = self.cells();
-        let length = self.random.pick(&[self.listed(), self.random.below(cells + 1), cells]);
-        let place = self.random.pick(&[0, length, length + 1, length + 2, self.random.below(length + 3)]);
-        self.field(3, length);
+        if self.random.chance(2, 3) {
+            let bits = allowed_bits(&self.random, self.lines());
+            self.put_bits(bits);
+        }
+        let n = self.n();
+        let place = self.random.pick(&[0, n, n + 1, n + 2, self.random.below(n + 3)]);
         self.field(4, place);
         self.field(6, 1);
         self.odd_undo();
@@ -192,8 +196,6 @@ impl Script {
             self.damage(damage);
         }
         for _ in 0..self.random.below(3) {
-            let at = self.random.pick(&[place.min(cells - 1), self.random.below(cells)]);
-            self.damage(Damage::Entry { at, cell: self.random.below(cells) });
             let at = 8 + self.random.below(8 * self.lines());
             self.damage(Damage::Cache { at, word: self.word() });
         }
@@ -314,7 +316,7 @@ impl Script {
         let mut damages = vec![Damage::Cache { at: 0, word }];
         if *call == Call::Step {
             let place = self.random.pick(&[0, 0, 0, 0, 1, 2]);
-            damages.push(Damage::Field { k: 4, number: self.listed() + place });
+            damages.push(Damage::Field { k: 4, number: self.n() + place });
             if self.random.chance(1, 3) {
                 damages.push(self.not_waiting());
             }

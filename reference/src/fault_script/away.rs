@@ -26,7 +26,7 @@ impl Script {
             self.damage(Damage::Worker { worker, numbers: AWAY });
         }
         let requested = self.random.below(2);
-        let place = self.random.pick(&[0, 1, self.listed() + 2, self.listed() + 3, 65_535]);
+        let place = self.random.pick(&[0, 1, self.n() + 2, self.n() + 3, 65_535]);
         self.field(6, requested);
         self.field(4, if requested == 1 { 0 } else { place });
         Call::ComeBack { worker }
@@ -34,7 +34,7 @@ impl Script {
 
     /// A checkpoint that stands at a place past its first step.
     pub(super) fn under_way(&self) -> Vec<Damage> {
-        let last = self.listed().min(65_533) + 2;
+        let last = self.n().min(65_533) + 2;
         let place = self.random.pick(&[1, last, 1 + self.random.below(last)]);
         vec![Damage::Field { k: 4, number: place }, Damage::Field { k: 6, number: 1 }]
     }
@@ -97,7 +97,7 @@ impl Script {
 
     /// The steps of a checkpoint, tries between them.
     pub(super) fn whole_checkpoint(&mut self) {
-        for _ in 0..(self.listed() + 3).min(20) {
+        for _ in 0..(self.n() + 3).min(20) {
             if self.random.chance(1, 3) {
                 self.tries();
             }
@@ -106,7 +106,7 @@ impl Script {
     }
 
     /// A worker under W tries to come back, to go away or to do something else; coming back is tried most.
-    fn tries(&mut self) {
+    pub(super) fn tries(&mut self) {
         let worker = self.random.below(self.workers().max(1));
         let value = self.word();
         let cell = self.workers() + self.random.below((self.cells() - self.workers()).max(1));

@@ -25,8 +25,8 @@ impl Script {
     fn swap_memory(&mut self) {
         let lines = if self.random.chance(1, 16) { self.some_lines() } else { self.random.pick(&[1, 1, 1, 2, 2, 3]) };
         let workers = some_workers(&self.random, lines);
-        let (words, extra) = (row_words(lines), self.random.pick(&[0, 0, 0, 1, 60]));
-        self.damage(Damage::Lengths { memory: words, cache: words, list: 2 * lines + extra });
+        let words = row_words(lines);
+        self.damage(Damage::Lengths { memory: words, cache: words });
         let any = self.random.pick(&[self.random.word(), self.random.below(100)]).max(1);
         let epoch = self.random.pick(&[1, 2, 3, any, u64::MAX - 1, u64::MAX]);
         self.header(&[epoch, lines, workers, 0, 0, 0, 0, 0]);
@@ -85,7 +85,7 @@ impl Script {
         vec![Damage::Memory { at, word: self.random.pick(&[next, next, next, far, u64::MAX]) }]
     }
 
-    /// Cache, list and record as no work leaves them; the start is to look at none of them.
+    /// Cache and record as no work leaves them; the start is to look at none of them.
     fn odd_rest(&mut self) {
         let epoch = self.board.memory[0];
         for _ in 0..self.random.below(3) {
@@ -98,6 +98,9 @@ impl Script {
         }
         if self.random.chance(1, 3) {
             self.field(self.random.pick(&[1, 2, 4]), 255);
+        }
+        if self.random.chance(1, 3) {
+            self.damage(Damage::Bits { at: self.random.below(8), word: self.word() });
         }
     }
 

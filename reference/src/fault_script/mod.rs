@@ -3,6 +3,7 @@
 
 mod aim;
 mod away;
+mod bits;
 mod foreign;
 mod odd;
 mod other_form;
@@ -11,6 +12,7 @@ mod record;
 mod rows;
 mod stretch;
 
+use crate::bits::count;
 use crate::board::{Board, Phase};
 use crate::call::Call;
 use crate::damage::Damage;
@@ -41,6 +43,11 @@ pub fn script(seed: u64, lines: u64) -> Vec<u8> {
 /// A script of nothing but foreign memories, without a format.
 pub fn foreign_script(seed: u64, lines: u64) -> Vec<u8> {
     write(seed, lines, |_| {}, Script::foreign_memory)
+}
+
+/// A script of nothing but line bits: checkpoints of several lines in several words, counts, bits that must not be set.
+pub fn bits_script(seed: u64, lines: u64) -> Vec<u8> {
+    write(seed, lines, |_| {}, Script::line_bits)
 }
 
 /// So many lines, the last a checksum; those of odd seeds end without a line feed.
@@ -146,9 +153,9 @@ impl Script {
         cells(self.lines())
     }
 
-    /// The list's length.
-    fn listed(&self) -> u64 {
-        self.board.state.list_length.into()
+    /// How many lines are set.
+    fn n(&self) -> u64 {
+        count(&self.board.state.line_bits).into()
     }
 
     /// The phase is running.

@@ -3,7 +3,8 @@
 use super::away::AWAY;
 use super::Script;
 use crate::call::Call;
-use crate::damage::{Damage, ROOM_ENTRIES, ROOM_WORDS};
+use crate::damage::{Damage, ROOM_WORDS};
+use crate::explore::garbage::allowed_bits;
 use crate::record::FIELDS;
 
 impl Script {
@@ -14,7 +15,7 @@ impl Script {
             1 | 2 => self.odd_field(),
             3 => self.odd_worker(),
             4 => self.header_damage(),
-            5 => Damage::Entry { at: self.index(self.board.list.len()), cell: self.about(self.cells()) },
+            5 => self.odd_bits(),
             6 => Damage::Memory { at: self.index(self.board.memory.len()), word: self.word() },
             _ => Damage::Cache { at: self.index(self.board.cache.len()), word: self.word() },
         };
@@ -36,17 +37,12 @@ impl Script {
 
     /// A field of the record with a number that it can hold.
     fn odd_field(&mut self) -> Damage {
-        let k = self.random.below(FIELDS);
+        let k = self.random.pick(&FIELDS);
         let number = match k {
             0 => self.random.pick(&[0, 1, 2, 3, 3, 3]),
             1 => self.random.pick(&[self.about(self.lines()), self.about(511)]),
             2 => self.random.pick(&[self.about(self.workers()), self.about(8), 255]).min(255),
-            3 => self.about(self.cells()),
-            4 => self.random.pick(&[
-                self.about(self.lines() + 1),
-                self.about(self.cells()),
-                self.about(self.listed() + 2),
-            ]),
+            4 => self.random.pick(&[self.about(self.lines() + 1), self.about(self.cells()), self.about(self.n() + 2)]),
             5 => self.random.below(3),
             _ => self.random.below(2),
         };
@@ -91,34 +87,20 @@ impl Script {
         self.steps(self.random.below(6));
     }
 
-    /// List entries that may name no cell, about the list's length.
-    fn odd_entries(&mut self) {
-        let last = self.cells() - 1;
-        if self.random.chance(1, 2) {
-            let length = 1 + self.random.below(last + 1);
-            self.field(3, length);
-            self.field(4, self.random.below(length));
-        }
-        for _ in 0..1 + self.random.below(4) {
-            let at =
-                self.random.pick(&[0, self.listed(), self.listed().saturating_sub(1), self.random.below(last + 1)]);
-            self.damage(Damage::Entry { at: at.min(last), cell: self.about(last + 1) });
-        }
-    }
-
-    /// A board at an edge: a full list, a longer list row, another W, odd entries, or a place about its limit.
+    /// A board at an edge: every line set, odd bits, another W, or a place about its limit.
     pub(super) fn odd_places(&mut self) {
         self.ground(0);
         let cells = self.cells();
         match self.random.below(11) {
-            0 => self.field(3, cells),
-            1 => self.damage(Damage::Lengths {
-                memory: self.board.memory.len() as u64,
-                cache: self.board.cache.len() as u64,
-                list: (cells + 1 + self.random.below(60)).min(ROOM_ENTRIES),
-            }),
+            0 | 1 => {
+                let bits = allowed_bits(&self.random, self.lines());
+                self.put_bits(bits);
+            }
             2 => self.field(2, 1 + self.random.below(8.min(cells - 1))),
-            3 | 4 => self.odd_entries(),
+            3 | 4 => {
+                let damage = self.odd_bits();
+                self.damage(damage);
+            }
             5 => self.field(4, self.random.below(65_536)),
             6 => self.one_line_too_many(),
             _ => self.odd_place(),
@@ -142,7 +124,7 @@ impl Script {
 
     /// A board of 512 lines with rows that fit it: nothing is wrong but that L is over its limit.
     fn one_line_too_many(&mut self) {
-        self.damage(Damage::Lengths { memory: ROOM_WORDS, cache: ROOM_WORDS, list: ROOM_ENTRIES });
+        self.damage(Damage::Lengths { memory: ROOM_WORDS, cache: ROOM_WORDS });
         self.field(1, 512);
         if self.random.chance(1, 2) {
             self.damage(Damage::Memory { at: 1, word: 512 });
@@ -173,7 +155,7 @@ impl Script {
             }
             _ => {
                 self.field(6, 1);
-                self.field(4, self.listed() + 1 + past);
+                self.field(4, self.n() + 1 + past);
                 self.odd_undo();
             }
         }

@@ -1,7 +1,8 @@
 //! Lines that print `?`, each kind by itself.
 
 use super::Script;
-use crate::damage::{ROOM_ENTRIES, ROOM_WORDS};
+use crate::bits::BIT_WORDS;
+use crate::damage::ROOM_WORDS;
 use crate::drill;
 use crate::fault;
 use crate::say::{line, spoil};
@@ -61,7 +62,7 @@ impl Script {
 
     /// A letter that no line has today: one of a later ticket, of the other case, or of two bytes.
     fn unknown_letter(&self) -> Vec<u8> {
-        let letter = self.random.pick(b"nHVOuxcsegrtwmqkLZ09?\xff");
+        let letter = self.random.pick(b"HVOuxcsegrtwmqkLZ09?\xff");
         let mut text = self.small(letter, self.random.below(3) as usize);
         if self.random.chance(1, 4) {
             text.insert(1, self.form().0);
@@ -88,11 +89,12 @@ impl Script {
         format!("{}\t{}", letter as char, fields.join("\t")).into_bytes()
     }
 
-    /// A field of the record past the last, a worker past the eighth, a condition past the fourth.
+    /// A field of the record that is no more or past the last, a worker past the eighth, a condition past the fourth.
     fn no_such_place(&self) -> Vec<u8> {
         let past = self.random.pick(&[0, 0, 1, 249, 250, 65_536, u64::MAX - 9]);
-        match self.random.below(3) {
+        match self.random.below(4) {
             0 => line('B', &[7 + past, self.random.below(2)]),
+            3 => line('B', &[3, self.random.pick(&[0, 1, self.n(), 65_535])]),
             1 => line('K', &[8 + past, self.random.below(2), 0, 0, 0]),
             _ => line('K', &[self.random.below(8), 4 + past, 0, 0, 0]),
         }
@@ -101,32 +103,30 @@ impl Script {
     /// A number that its field is too narrow for.
     fn too_large(&self) -> Vec<u8> {
         let past = self.random.pick(&[0, 0, 1, 65_536, 1 << 32, u64::MAX - 65_536]);
-        let limits = [4, 65_536, 256, 65_536, 65_536, 3, 2];
-        match self.random.below(10) {
-            k @ 0..=6 => line('B', &[k, limits[k as usize] + past]),
-            7 => line('K', &[self.random.below(8), 2, 3 + past, 0, self.word()]),
-            8 => line('K', &[self.random.below(8), 2, self.random.below(3), 65_536 + past, self.word()]),
-            _ => line('Q', &[0, 65_536 + past]),
+        let (k, limit) = self.random.pick(&[(0, 4), (1, 65_536), (2, 256), (4, 65_536), (5, 3), (6, 2)]);
+        match self.random.below(8) {
+            0..=5 => line('B', &[k, limit + past]),
+            6 => line('K', &[self.random.below(8), 2, 3 + past, 0, self.word()]),
+            _ => line('K', &[self.random.below(8), 2, self.random.below(3), 65_536 + past, self.word()]),
         }
     }
 
-    /// An index at a row's length or past it.
+    /// An index at a row's length or past it, or past the eighth word of bits.
     fn past_row(&self) -> Vec<u8> {
         let board = &self.board;
-        let rows = [('M', board.memory.len()), ('N', board.cache.len()), ('Q', board.list.len())];
+        let rows = [('M', board.memory.len()), ('N', board.cache.len()), ('Q', BIT_WORDS)];
         let (letter, length) = self.random.pick(&rows);
         let past = self.random.pick(&[0, 0, 0, 1, ROOM_WORDS, 65_536, 1 << 32, u64::MAX - ROOM_WORDS]);
         line(letter, &[length as u64 + past, self.random.below(2)])
     }
 
-    /// A row longer than its room, the others as they are or in their room.
+    /// A row longer than its room, the other as it is or in its room.
     fn no_room(&self) -> Vec<u8> {
         let board = &self.board;
-        let lengths = [board.memory.len(), board.cache.len(), board.list.len()].map(|length| length as u64);
-        let mut lengths = self.random.pick(&[lengths, [0, 0, 0], [16, 16, 2]]);
-        let at = self.random.below(3) as usize;
-        let room = [ROOM_WORDS, ROOM_WORDS, ROOM_ENTRIES][at];
-        lengths[at] = room + self.random.pick(&[1, 1, 2, 65_536, 1 << 32, u64::MAX - ROOM_WORDS]);
+        let lengths = [board.memory.len(), board.cache.len()].map(|length| length as u64);
+        let mut lengths = self.random.pick(&[lengths, [0, 0], [16, 16]]);
+        let at = self.random.below(2) as usize;
+        lengths[at] = ROOM_WORDS + self.random.pick(&[1, 1, 2, 65_536, 1 << 32, u64::MAX - ROOM_WORDS]);
         line('W', &lengths)
     }
 

@@ -6,13 +6,12 @@ use crate::call::Call;
 use crate::damage::Damage;
 
 impl Script {
-    /// A field of the record, or a worker's cell, outside its limits; at the last epoch place and list stay.
+    /// A field of the record, or a worker's cell, outside its limits; at the last epoch place and bits stay.
     pub(super) fn record_fault(&mut self, call: &Call) -> Vec<Damage> {
         let (lines, workers, cells) = (self.lines(), self.workers(), self.cells());
         let random = &self.random;
         let far = random.pick(&[32_768, 65_535]);
         let kind = match call {
-            Call::Advance { .. } => random.below(7),
             Call::Step if self.board.cache.first() == Some(&u64::MAX) => random.pick(&[0, 1, 4]),
             _ => random.below(5),
         };
@@ -22,14 +21,13 @@ impl Script {
                 k: 2,
                 number: random.pick(&[0, 9, 255, cells.clamp(2, 9), 128 + workers]).min(255),
             }],
-            2 => vec![Damage::Field { k: 3, number: random.pick(&[cells + 1, cells + 1, cells + 2, far]).min(65_535) }],
+            2 => vec![self.bit_astray()],
             3 => self.place_fault(far),
-            4 => {
+            _ => {
                 let worker = random.below(workers.clamp(1, 8));
                 let cell = random.pick(&[cells, cells, cells + 1, far]).min(65_535);
                 vec![Damage::Worker { worker, numbers: [2, random.below(3), cell, self.word()] }]
             }
-            _ => self.full_list(call),
         }
     }
 
@@ -38,7 +36,7 @@ impl Script {
         let (phase, limit) = match self.board.state.phase {
             Phase::Formatting => (1, self.lines() + 2),
             Phase::Recovering => (2, self.cells()),
-            _ => (3, self.listed() + 3),
+            _ => (3, self.n() + 3),
         };
         let number = self.random.pick(&[limit, limit, limit + 1, far]).min(65_535);
         let mut damages = vec![Damage::Field { k: 4, number }];
@@ -48,31 +46,13 @@ impl Script {
         damages
     }
 
-    /// A full list while an advance must add a cell, now and then with rows that do not fit.
-    fn full_list(&mut self, call: &Call) -> Vec<Damage> {
-        let Call::Advance { worker } = *call else { return Vec::new() };
-        let cells = self.cells();
-        let cell = self.random.below(cells.max(1)).min(65_535);
-        let mut damages = vec![
-            Damage::Field { k: 3, number: cells.min(65_535) },
-            Damage::Worker { worker: worker.min(7), numbers: [2, 1, cell, self.word()] },
-        ];
-        if self.random.chance(1, 3) {
-            damages.push(self.lengths_fault());
-        }
-        damages
-    }
-
-    /// Rows that do not fit: for a format's start also by its own L, for a checkpoint's step also by an entry.
+    /// Rows that do not fit: for a format's start also by its own L.
     pub(super) fn rows_fault(&mut self, call: &mut Call) -> Vec<Damage> {
         match *call {
             Call::Format { workers, .. } if self.random.chance(1, 4) => {
                 let other = self.random.pick(&[self.lines() + 1, self.lines().saturating_sub(1), 511, 5]);
                 *call = Call::Format { lines: other, workers: workers.min(2 * other.max(1) - 1) };
                 Vec::new()
-            }
-            Call::Step if self.running() && self.board.cache.first() != Some(&u64::MAX) && self.random.chance(1, 2) => {
-                self.entry_fault()
             }
             _ => vec![self.lengths_fault()],
         }

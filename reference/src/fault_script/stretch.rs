@@ -12,7 +12,7 @@ use crate::work::{good_call_with_away, some_workers, Leave};
 impl Script {
     /// One stretch, and a checksum after it.
     pub(super) fn stretch(&mut self) {
-        match self.random.below(44) {
+        match self.random.below(51) {
             0..=5 => self.work(40),
             6..=23 => self.aimed(),
             24 | 25 => self.odd_record(),
@@ -20,10 +20,11 @@ impl Script {
             29 => self.foreign_board(),
             30 => self.broken_format(),
             31 | 32 => self.other_forms(),
-            33 | 34 => self.pages(),
+            33 | 34 | 46 => self.pages(),
             35 | 36 => self.leaving(),
             37 => self.odd_away(),
             38 | 39 => self.foreign_memory(),
+            40..=45 => self.line_bits(),
             _ => self.odd_places(),
         }
         self.sum();
@@ -52,6 +53,9 @@ impl Script {
         }
         if random.chance(1, 40) {
             return self.page();
+        }
+        if random.chance(1, 20) {
+            return self.call(Call::Count);
         }
         let call = match state.phase {
             Phase::Off => Call::Recovery,
@@ -148,8 +152,8 @@ impl Script {
     pub(super) fn foreign_board(&mut self) {
         let lines = self.some_lines();
         let workers = some_workers(&self.random, lines);
-        let (words, extra) = (row_words(lines), self.random.pick(&[0, 0, 1, 60]));
-        self.damage(Damage::Lengths { memory: words, cache: words, list: 2 * lines + extra });
+        let words = row_words(lines);
+        self.damage(Damage::Lengths { memory: words, cache: words });
         let epoch = self.random.pick(&[1, 2, self.word(), u64::MAX, u64::MAX - 1]);
         for (at, word) in [epoch, lines, workers].into_iter().enumerate() {
             if self.random.chance(9, 10) {

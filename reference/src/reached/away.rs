@@ -1,5 +1,6 @@
 //! What ticket 2 has of its own: the cases that random fault scripts are to reach.
 
+use crate::bits::count;
 use crate::board::{Condition, Phase, State};
 use crate::call::Call;
 
@@ -22,16 +23,16 @@ pub const CASES: [Case; 21] = [
     ("step refused by 10, one away, another not waiting", |scene| scene.step_with(10, true, |away| away.any)),
     ("release, a worker under W away", |scene| scene.releases() && scene.away().any),
     ("release, a worker from W on away", |scene| scene.releases() && scene.away().past),
-    ("end of a recovery, a worker away", |scene| scene.ends(Phase::Recovering)),
-    ("end of a format, a worker away", |scene| scene.ends(Phase::Formatting)),
+    ("end of a recovery, a worker away", |scene| scene.frees(Phase::Recovering)),
+    ("end of a format, a worker away", |scene| scene.frees(Phase::Formatting)),
     ("start, a worker away", |scene| scene.call.is_start() && scene.number == 0 && scene.away().anybody()),
     ("coming back taken, a request and no step", |scene| scene.back(0) && scene.before.requested),
     ("coming back taken, no request and a place past 0", |scene| {
         scene.back(0) && !scene.before.requested && scene.before.place > 0
     }),
-    ("coming back refused by 13, nothing listed", |scene| scene.back(13) && scene.before.list_length == 0),
+    ("coming back refused by 13, no line set", |scene| scene.back(13) && count(&scene.before.line_bits) == 0),
     ("coming back refused by 13, the release next", |scene| {
-        scene.back(13) && scene.before.place == scene.before.list_length + 2
+        scene.back(13) && scene.before.place == count(&scene.before.line_bits) + 2
     }),
     ("coming back of a free worker", |scene| scene.back(8) && scene.own() == Some(Condition::Free)),
     ("coming back of a waiting worker", |scene| scene.back(8) && scene.own() == Some(Condition::Waiting)),
@@ -78,7 +79,7 @@ impl Scene<'_> {
     }
 
     /// The end of a format or recovery with a worker away.
-    fn ends(&self, phase: Phase) -> bool {
+    fn frees(&self, phase: Phase) -> bool {
         self.before.phase == phase
             && self.call == Call::Step
             && self.after.phase == Phase::Running

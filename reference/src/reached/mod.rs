@@ -1,7 +1,8 @@
-//! What random fault scripts reach: how often each call got each answer, each case of tickets 2 and 4, and each kind of
-//! `?`.
+//! What random fault scripts reach: how often each call got each answer, each case of tickets 2, 4 and 5, and each kind
+//! of `?`.
 
 mod away;
+mod bits;
 mod foreign;
 
 use std::collections::HashMap;
@@ -16,11 +17,12 @@ use crate::program::Program;
 use crate::text::{fields, Fields, Unread, UNREAD};
 use away::Scene;
 pub use away::CASES;
+pub use bits::LINES;
 use foreign::Origin;
 pub use foreign::MEMORIES;
 
 /// The letters of calls with the answers that the table has for each.
-pub const CAUSES: [(u8, &[u8]); 13] = [
+pub const CAUSES: [(u8, &[u8]); 14] = [
     (b'f', &[0, 1, 4]),
     (b'F', &[0, 1]),
     (b'R', &[0, 4, 5, 14]),
@@ -34,6 +36,7 @@ pub const CAUSES: [(u8, &[u8]); 13] = [
     (b'p', &[0, 2, 3, 4, 12]),
     (b'a', &[0, 2, 3, 4, 6, 8]),
     (b'b', &[0, 2, 3, 4, 6, 8, 13]),
+    (b'n', &[0, 2, 3, 4]),
 ];
 
 /// How many answers there are: 0, and the causes 1 to 14.
@@ -56,6 +59,8 @@ pub struct Reached {
     pub cases: [u64; CASES.len()],
     /// For each case of ticket 4 in the order of `MEMORIES`, how often it was met.
     pub memories: [u64; MEMORIES.len()],
+    /// For each case of ticket 5 in the order of `LINES`, how often it was met.
+    pub lines_set: [u64; LINES.len()],
     /// Where the memory of the script under way comes from.
     origin: Origin,
     /// `K` with the condition away: taken, and with a number that it has no use for.
@@ -73,6 +78,7 @@ pub fn reached(seeds: u64, lines: u64) -> Reached {
         orders: HashMap::new(),
         cases: [0; CASES.len()],
         memories: [0; MEMORIES.len()],
+        lines_set: [0; LINES.len()],
         origin: Origin::default(),
         put_away: [0; 2],
     };
@@ -124,6 +130,7 @@ impl Reached {
         if let Some(call) = command.call() {
             let scene = Scene { call, number, before: &before, after: &board.state };
             self.cases.iter_mut().zip(CASES).for_each(|(count, (_, holds))| *count += holds(&scene) as u64);
+            self.lines_set.iter_mut().zip(LINES).for_each(|(count, (_, holds))| *count += holds(&scene) as u64);
             let scene = foreign::Scene { call, number, before: &before, board, origin: self.origin };
             self.memories.iter_mut().zip(MEMORIES).for_each(|(count, (_, holds))| *count += holds(&scene) as u64);
         }
@@ -175,7 +182,7 @@ impl Reached {
 
     /// For each part of a cause, the calls whose answer hung on it alone.
     fn write_parts(&self, out: &mut fmt::Formatter) -> fmt::Result {
-        let letters = b"fRSUPACEGpab";
+        let letters = b"fRSUPACEGpabn";
         let head = letters.iter().map(|letter| format!(" {} |", *letter as char)).collect::<String>();
         writeln!(out, "| answer | hung alone on |{head}")?;
         writeln!(out, "|---|---|{}", "---|".repeat(letters.len()))?;
@@ -198,10 +205,14 @@ impl Reached {
         writeln!(out)
     }
 
-    /// The cases of ticket 4.
+    /// The cases of tickets 4 and 5.
     fn write_memories(&self, out: &mut fmt::Formatter) -> fmt::Result {
         writeln!(out, "| case of foreign memory | lines |\n|---|---|")?;
         for ((words, _), count) in MEMORIES.iter().zip(self.memories) {
+            writeln!(out, "| {words} | {count} |")?;
+        }
+        writeln!(out, "\n| case of line bits | lines |\n|---|---|")?;
+        for ((words, _), count) in LINES.iter().zip(self.lines_set) {
             writeln!(out, "| {words} | {count} |")?;
         }
         writeln!(out)
