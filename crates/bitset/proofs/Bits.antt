@@ -4,18 +4,18 @@ use mathlib.Core.Path.{_≡_, refl, sym, ap, ap₂, subst, _∙_}
 use mathlib.Core.Bool.{Bool, true, false, _&&_}
 use native.Mathlib.Omega.{arith}
 use native.Mathlib.Decide.{decLt}
-use native.Mathlib.Nat.{suc-mul, mul-comm, max-zero, mod-lt, div-one, zero-div, div-self, div-eq-of-lt, mul-div-cancel, mul-mod-left, pow-suc}
+use native.Mathlib.Nat.{suc-mul, mul-comm, max-zero, mod-lt, lt-of-lt-of-le, div-one, zero-div, div-self, div-eq-of-lt, mul-div-cancel, mul-mod-left, pow-suc}
 use native.Mathlib.Numerals.{one-add}
 use lib.Dec.{ltb, eqb}
 use lib.Arith.{digits-mod}
-use lib.Pow.{pow-pos, pow-lt, pow-add, shr-shr, shr-lt, split as divided}
-use lib.Bits.{bitOr, or-step, or-block, or-shr, or-zero-r}
+use lib.Pow.{pow-pos, pow-mono, pow-lt, pow-add, shr-shr, shr-lt, split as divided}
+use lib.Bits.{bitOr, or-lt, or-step, or-block, or-shr, or-zero-r}
 use lib.Count.{ones, ones-step, trailingZeros}
 use borrow.Author.Tests.{ltb-true, lt-ltb, eqb-true, eqb-false, eq-eqb}
 use Rattle.text.proofs.Bools.{split, chosen, passedOver, and-off, and-off-right, and-before}
 use Rattle.bitset.specs.Passing.{anyUnder, countUnder, nthUnder}
-use Rattle.bitset.specs.Words.{bitOf, withBit}
-use Rattle.bitset.proofs.Passing.{none-under, under-none, oneIf, Nth, one-on, one-off, count-next, count-split, count-shift, count-mono, nth-found, nth-unique}
+use Rattle.bitset.specs.Words.{bitOf, withBit, bitsIn}
+use Rattle.bitset.proofs.Passing.{none-under, under-none, oneIf, Nth, one-on, one-off, count-next, count-none, count-split, count-shift, count-mono, nth-found, nth-unique}
 
 -- ---- a word shifted
 
@@ -47,18 +47,31 @@ half-lt n k h = shr-lt k 1 (subst (λ (x : ℕ). n < 2 ^ x) (let e : suc k ≡ k
 
 -- ---- how many are set
 
+-- 0 has no bit set.
+pub bit-zero : (i : ℕ) → bitOf 0 i ≡ false
+unfolding bitOf
+bit-zero i = ap (λ (x : ℕ). eqb (x % 2) 1) (zero-div (2 ^ i))
+
+-- The lowest digit, by its bit.
+low-one : (n : ℕ) → n % 2 ≡ oneIf (bitOf n 0)
+low-one n = split (bitOf n 0) (λ t. low-on n t ∙ sym (one-on (bitOf n 0) t)) (λ t. low-off n t ∙ sym (one-off (bitOf n 0) t))
+
+-- The lowest bit and those of the half are counted apart.
+count-half : (k n : ℕ) → countUnder (suc k) (bitOf n) ≡ n % 2 + countUnder k (bitOf (n / 2))
+count-half k n = count-shift k (bitOf n) ∙ ap₂ (λ (x : ℕ) (f : ℕ → Bool). x + countUnder k f) (sym (low-one n)) (halved n)
+
 -- A word of `k` bits has as many set as it has digits that are 1.
 pub ones-count : (k n : ℕ) → n < 2 ^ k → ones n ≡ countUnder k (bitOf n)
 unfolding ones countUnder
 ones-count zero n h = ap ones (let e : n ≡ 0 = omega arith in e)
-ones-count (suc k) n h =
-    let below = ones-count k (n / 2) (half-lt n k h) in
-    let rest = count-shift k (bitOf n) ∙ ap (λ (f : ℕ → Bool). oneIf (bitOf n 0) + countUnder k f) (halved n) in
-    let low : n % 2 ≡ oneIf (bitOf n 0) =
-    split (bitOf n 0) (λ t. low-on n t ∙ sym (one-on (bitOf n 0) t)) (λ t. low-off n t ∙ sym (one-off (bitOf n 0) t)) in
-    ones-step n ∙ ap₂ (λ (x y : ℕ). x + y) low below ∙ sym rest
+ones-count (suc k) n h = ones-step n ∙ ap (λ (x : ℕ). n % 2 + x) (ones-count k (n / 2) (half-lt n k h)) ∙ sym (count-half k n)
 
--- ---- the lowest that is set
+-- The bits that are set, counted one by one.
+pub bits-count : (k n : ℕ) → bitsIn k n ≡ countUnder k (bitOf n)
+unfolding bitsIn countUnder
+bits-count zero n = refl
+bits-count (suc k) zero = sym (count-none (suc k) (bitOf 0) bit-zero)
+bits-count (suc k) (suc n) = ap (λ (x : ℕ). suc n % 2 + x) (bits-count k (suc n / 2)) ∙ sym (count-half k (suc n))
 
 -- As many zeros stand below the lowest set bit as its number says.
 trailing : (k n : ℕ) → trailingZeros k n ≡ nthUnder k (bitOf n) 0
@@ -183,9 +196,9 @@ with-other w b j n =
     ap (λ (x : ℕ). eqb x 1) (digit ∙ max-zero (w / 2 ^ j % 2))
 
 -- No bit of 0 is set.
-pub bit-zero : (i : ℕ) → bitOf 0 i ≡ false
-unfolding bitOf
-bit-zero i = ap (λ (x : ℕ). eqb (x % 2) 1) (zero-div (2 ^ i))
+-- A word of 64 bits stays one.
+pub with-small : (w b : ℕ) → w < 2 ^ 64 → b < 64 → withBit w b < 2 ^ 64
+with-small w b h l = subst (λ (x : ℕ). x < 2 ^ 64) (or-bit w b) (or-lt 64 w (2 ^ b) h (pow-lt l))
 
 -- ---- the bits from `m` on
 
@@ -196,30 +209,18 @@ none-set (suc k) w h none =
     let half = none-set k (w / 2) (half-lt w k h) (λ i l. sym (bit-half w i) ∙ none (suc i) (omega arith)) in
     omega (arith, low-off w (none 0 (omega arith)))
 
--- Whether a bit of a word is set whose number, counted from `base`, is past `last`: not where those are the bits from `m` on and the word shifted down to them is 0.
-pub past-off : (w base last m : ℕ) → w / 2 ^ m ≡ 0 → ((b : ℕ) → last < base + b → m ≤ b) → anyUnder 64 (λ b. bitOf w b && ltb last (base + b)) ≡ false
-past-off w base last m e from =
-    under-none 64 (λ b. bitOf w b && ltb last (base + b))
-    (λ b h.
-    split (ltb last (base + b))
-    (λ t.
-    let l = from b (ltb-true last (base + b) t) in
-    let same : m + (b - m) ≡ b = omega arith in
-    and-off (bitOf w b) (ltb last (base + b)) (ap (bitOf w) (sym same) ∙ sym (bit-shift w m (b - m)) ∙ ap (λ (x : ℕ). bitOf x (b - m)) e ∙ bit-zero (b - m)))
-    (λ t. and-off-right (bitOf w b) (ltb last (base + b)) t))
+-- Where no bit from `m` on is set, the word shifted down to them is 0.
+pub none-from : (m w : ℕ) → w < 2 ^ 64 → ((b : ℕ) → m ≤ b → b < 64 → bitOf w b ≡ false) → w / 2 ^ m ≡ 0
+none-from m w h none =
+    elim (decLt m 64) [
+      | yes l ↦
+          none-set (64 - m) (w / 2 ^ m) (shr-lt (64 - m) m (subst (λ (x : ℕ). w < 2 ^ x) (let e : 64 ≡ 64 - m + m = omega arith in e) h))
+          (λ i k. bit-shift w m i ∙ none (m + i) (omega arith) (omega arith))
+      | no l ↦ div-eq-of-lt (lt-of-lt-of-le h (pow-mono (let e : 64 ≤ m = omega arith in e)))
+    ]
 
--- And so where it is not 0.
-pub past-on : (w base last m : ℕ) → w < 2 ^ 64 → m ≤ 64 → ((b : ℕ) → m ≤ b → last < base + b) → (w / 2 ^ m ≡ 0 → ⊥) → anyUnder 64 (λ b. bitOf w b && ltb last (base + b)) ≡ true
-past-on w base last m h l past some =
-    let f : ℕ → Bool = λ b. bitOf w b && ltb last (base + b) in
-    split (anyUnder 64 f)
-    (λ t. t)
-    (λ t.
-    let short : w / 2 ^ m < 2 ^ (64 - m) = shr-lt (64 - m) m (subst (λ (x : ℕ). w < 2 ^ x) (let e : 64 ≡ 64 - m + m = omega arith in e) h) in
-    absurd
-    (some
-    (none-set (64 - m) (w / 2 ^ m) short
-    (λ i k.
-    bit-shift w m i
-    ∙ and-before (bitOf w (m + i)) (ltb last (base + (m + i))) (none-under 64 f t (m + i) (omega arith))
-    (lt-ltb last (base + (m + i)) (past (m + i) (omega arith)))))))
+-- And where it is 0, none is set.
+pub from-none : (m w b : ℕ) → w / 2 ^ m ≡ 0 → m ≤ b → bitOf w b ≡ false
+from-none m w b e l =
+    let same : m + (b - m) ≡ b = omega arith in
+    ap (bitOf w) (sym same) ∙ sym (bit-shift w m (b - m)) ∙ ap (λ (x : ℕ). bitOf x (b - m)) e ∙ bit-zero (b - m)

@@ -1,20 +1,20 @@
 -- Laws of a set in eight words.
 use Prim.Native.Nat.{ℕ, zero, suc, _+_, _-_, _*_, _/_, _%_, _≤_, _<_}
 use mathlib.Core.Path.{_≡_, refl, sym, ap, ap₂, _∙_}
-use mathlib.Core.Bool.{Bool, true, false, _&&_, _||_}
+use mathlib.Core.Bool.{Bool, true, false}
 use mathlib.Core.List.{List}
 use native.Mathlib.Omega.{arith}
 use native.Mathlib.Decide.{decLt}
-use native.Mathlib.Nat.{zero-add, add-suc}
-use lib.Dec.{ltb, eqb, eqb·suc-zero}
+use native.Mathlib.Nat.{zero-add}
+use lib.Dec.{eqb}
 use lib.ListN.{length, getD, set, length-set, getD-replicate, List·getD-eq-default}
 use lib.Seq.{set-out, getD-set-same, getD-set-other}
 use borrow.Author.Tests.{eqb-true, eqb-false}
-use Rattle.text.proofs.Bools.{split, and-off-right}
-use Rattle.bitset.specs.Passing.{anyUnder, countUnder, nthUnder}
-use Rattle.bitset.specs.Words.{bitOf, withBit, contains, inserted, empty, size, nth, strays}
-use Rattle.bitset.proofs.Passing.{count-alike, count-split, nth-found, nth-unique}
-use Rattle.bitset.proofs.Bits.{bit-zero, with-own, with-other}
+use Rattle.text.proofs.Bools.{split}
+use Rattle.bitset.specs.Passing.{countUnder, nthUnder}
+use Rattle.bitset.specs.Words.{bitOf, withBit, bitsIn, capacity, contains, inserted, empty, size, nth}
+use Rattle.bitset.proofs.Passing.{count-most, count-alike, count-split, nth-found, nth-unique}
+use Rattle.bitset.proofs.Bits.{bit-zero, bits-count, with-own, with-other}
 
 -- ---- a number that is put in
 
@@ -73,10 +73,6 @@ contains-word words k b h =
 abbrev pub wordCount : List ℕ → ℕ → ℕ
 wordCount words k = countUnder 64 (bitOf (getD words k 0))
 
--- Word `k` has a number past `last`.
-abbrev pub wordPast : List ℕ → ℕ → ℕ → Bool
-wordPast words last k = anyUnder 64 (λ b. bitOf (getD words k 0) b && ltb last (64 * k + b))
-
 -- One word more.
 pub count-word : (words : List ℕ) (k : ℕ) → countUnder (64 * k + 64) (contains words) ≡ countUnder (64 * k) (contains words) + wordCount words k
 count-word words k =
@@ -104,6 +100,32 @@ count-start : (f : ℕ → Bool) → countUnder 0 f ≡ 0
 unfolding countUnder
 count-start f = refl
 
+-- ---- how many numbers the set has
+
+-- They are counted word by word.
+count-words : (words : List ℕ) → countUnder capacity (contains words) ≡ wordCount words 0 + wordCount words 1 + wordCount words 2 + wordCount words 3 + wordCount words 4 + wordCount words 5 + wordCount words 6 + wordCount words 7
+count-words words =
+    let more : (k n : ℕ) → countUnder (64 * k) (contains words) ≡ n → countUnder (64 * k + 64) (contains words) ≡ n + wordCount words k =
+    λ k n e. count-word words k ∙ ap (λ (x : ℕ). x + wordCount words k) e in
+    more 7 _ (more 6 _ (more 5 _ (more 4 _ (more 3 _ (more 2 _ (more 1 _ (more 0 0 (count-start (contains words)) ∙ zero-add (wordCount words 0))))))))
+
+-- The size is the sum of the words' counts.
+pub size-words : (words : List ℕ) → size words ≡ wordCount words 0 + wordCount words 1 + wordCount words 2 + wordCount words 3 + wordCount words 4 + wordCount words 5 + wordCount words 6 + wordCount words 7
+unfolding size
+size-words words =
+    let bits : (k : ℕ) → bitsIn 64 (getD words k 0) ≡ wordCount words k = λ k. bits-count 64 (getD words k 0) in
+    λ i. bits 0 i + bits 1 i + bits 2 i + bits 3 i + bits 4 i + bits 5 i + bits 6 i + bits 7 i
+
+-- And that is how many numbers are in it.
+pub size-count : (words : List ℕ) → size words ≡ countUnder capacity (contains words)
+size-count words = size-words words ∙ sym (count-words words)
+
+-- There are at most as many as there are bits.
+pub size-room : (words : List ℕ) → size words ≤ capacity
+size-room words = omega (arith, size-count words, count-most capacity (contains words))
+
+-- ---- the walk to a number
+
 -- The walk to number `p` of the set: it has come to word `k`, which has `count` numbers, and `left` are to be passed over from there.
 pub record Walk (words : List ℕ) (p k left count : ℕ) : Type 0 where
   pub counted : count ≡ wordCount words k
@@ -112,7 +134,6 @@ pub record Walk (words : List ℕ) (p k left count : ℕ) : Type 0 where
 
 -- A word that is passed over is not the last.
 pub walk-within : (words : List ℕ) (p k left count : ℕ) → p < size words → Walk words p k left count → count ≤ left → k + 1 < 8
-unfolding size
 walk-within words p k left count h w l =
     elim (decLt (k + 1) 8) [
       | yes b ↦ b
@@ -120,7 +141,7 @@ walk-within words p k left count h w l =
           let seven : k ≡ 7 = omega (arith, w .within) in
           let all : countUnder 512 (contains words) ≡ countUnder (64 * k) (contains words) + wordCount words k =
           ap (λ (n : ℕ). countUnder n (contains words)) (let e : 512 ≡ 64 * k + 64 = omega arith in e) ∙ count-word words k in
-          absurd (omega (arith, w .passed, w .counted))
+          absurd (omega (arith, w .passed, w .counted, size-count words))
     ]
 
 pub walk-on : (words : List ℕ) (p k left count next : ℕ) → p < size words → Walk words p k left count → count ≤ left → next ≡ wordCount words (k + 1)
@@ -132,83 +153,3 @@ walk-on words p k left count next h w l e =
 
 pub walk-start : (words : List ℕ) (p count : ℕ) → count ≡ wordCount words 0 → Walk words p 0 p count
 walk-start words p count e = record { counted = e; passed = omega (arith, count-start (contains words)); within = omega arith }
-
--- The size is the sum of the words' counts.
-pub size-words : (words : List ℕ) → size words ≡ wordCount words 0 + wordCount words 1 + wordCount words 2 + wordCount words 3 + wordCount words 4 + wordCount words 5 + wordCount words 6 + wordCount words 7
-unfolding size
-size-words words =
-    let more : (k n : ℕ) → countUnder (64 * k) (contains words) ≡ n → countUnder (64 * k + 64) (contains words) ≡ n + wordCount words k =
-    λ k n e. count-word words k ∙ ap (λ (x : ℕ). x + wordCount words k) e in
-    more 7 _ (more 6 _ (more 5 _ (more 4 _ (more 3 _ (more 2 _ (more 1 _ (more 0 0 (count-start (contains words)) ∙ zero-add (wordCount words 0))))))))
-
--- ---- whether a number is in it that may not be
-
-or-over : (a b c : Bool) → a || (b || c) ≡ a || b || c
-or-over true b c = refl
-or-over false b c = refl
-
-or-swap : (a b c d : Bool) → (a || b) || (c || d) ≡ (a || c) || (b || d)
-or-swap true b c d = refl
-or-swap false true true d = refl
-or-swap false true false d = refl
-or-swap false false c d = refl
-
-or-off : (a : Bool) → a || false ≡ a
-or-off true = refl
-or-off false = refl
-
-and-on : (a : Bool) → a && true ≡ a
-and-on true = refl
-and-on false = refl
-
-any-alike : (n : ℕ) (f g : ℕ → Bool) → ((i : ℕ) → i < n → f i ≡ g i) → anyUnder n f ≡ anyUnder n g
-unfolding anyUnder
-any-alike zero f g same = refl
-any-alike (suc n) f g same = ap₂ _||_ (any-alike n f g (λ i h. same i (omega arith))) (same n (omega arith))
-
-any-split : (n m : ℕ) (f : ℕ → Bool) → anyUnder (n + m) f ≡ anyUnder n f || anyUnder m (λ i. f (n + i))
-unfolding anyUnder
-any-split n zero f = ap (λ (k : ℕ). anyUnder k f) (let e : n + 0 ≡ n = omega arith in e) ∙ sym (or-off (anyUnder n f))
-any-split n (suc m) f =
-    ap (λ (k : ℕ). anyUnder k f) (add-suc n m)
-    ∙ ap (λ (t : Bool). t || f (n + m)) (any-split n m f)
-    ∙ sym (or-over (anyUnder n f) (anyUnder m (λ i. f (n + i))) (f (n + m)))
-
-any-either : (n : ℕ) (f g : ℕ → Bool) → anyUnder n (λ i. f i || g i) ≡ anyUnder n f || anyUnder n g
-unfolding anyUnder
-any-either zero f g = refl
-any-either (suc n) f g = ap (λ (t : Bool). t || (f n || g n)) (any-either n f g) ∙ or-swap (anyUnder n f) (anyUnder n g) (f n) (g n)
-
-any-start : (f : ℕ → Bool) → anyUnder 0 f ≡ false
-unfolding anyUnder
-any-start f = refl
-
--- Only 0 could pass.
-any-first : (n : ℕ) (f : ℕ → Bool) → anyUnder (suc n) (λ i. f i && eqb i 0) ≡ f 0
-unfolding anyUnder
-any-first zero f = and-on (f 0)
-any-first (suc n) f =
-    ap₂ _||_ (any-first n f) (and-off-right (f (suc n)) (eqb (suc n) 0) (eqb·suc-zero n)) ∙ or-off (f 0)
-
--- One word more.
-past-word : (words : List ℕ) (last k : ℕ) (t : Bool) → anyUnder (64 * k) (λ i. contains words i && ltb last i) ≡ t
-    → anyUnder (64 * k + 64) (λ i. contains words i && ltb last i) ≡ t || wordPast words last k
-past-word words last k t e =
-    any-split (64 * k) 64 (λ i. contains words i && ltb last i)
-    ∙ ap₂ _||_ e
-    (any-alike 64 (λ b. contains words (64 * k + b) && ltb last (64 * k + b)) _
-    (λ b h. ap (λ (c : Bool). c && ltb last (64 * k + b)) (contains-word words k b h)))
-
--- A stray number is 0, or past `last` in one of the words.
-pub strays-words : (words : List ℕ) (last : ℕ) → strays words last ≡ bitOf (getD words 0 0) 0 || (wordPast words last 0 || wordPast words last 1 || wordPast words last 2 || wordPast words last 3 || wordPast words last 4 || wordPast words last 5 || wordPast words last 6 || wordPast words last 7)
-unfolding strays
-strays-words words last =
-    let past = past-word words last in
-    let each = past 7 _ (past 6 _ (past 5 _ (past 4 _ (past 3 _ (past 2 _ (past 1 _ (past 0 false (any-start _)))))))) in
-    ap (anyUnder 512) (λ j i. and-either (contains words i) (eqb i 0) (ltb last i) j)
-    ∙ any-either 512 (λ i. contains words i && eqb i 0) (λ i. contains words i && ltb last i)
-    ∙ ap₂ _||_ (any-first 511 (contains words) ∙ contains-word words 0 0 (omega arith)) each
-  where
-    and-either : (a b c : Bool) → a && (b || c) ≡ a && b || a && c
-    and-either true b c = refl
-    and-either false b c = refl

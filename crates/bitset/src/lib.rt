@@ -1,9 +1,8 @@
 // A set of numbers below 512, a bit each, in eight words (document 02, ticket 5: the dirty lines).
 ghost use mathlib.Core.Path.{_≡_};
-ghost use mathlib.Core.Bool.{_&&_};
-ghost use Prim.Native.Nat.{_+_, _≤_, _<_};
+ghost use Prim.Native.Nat.{_+_, _-_, _/_, _^_, _≤_, _<_};
 ghost use lib.Dec.{ltb};
-ghost use Rattle.bitset.specs.Passing.{anyUnder, countUnder, nthUnder};
+ghost use Rattle.bitset.specs.Passing.{countUnder, nthUnder};
 ghost use Rattle.bitset.specs.Words.{bitOf, withBit, inserted, size, nth, strays};
 
 // How many bits of a word are set.
@@ -97,9 +96,9 @@ fn lowest(word: u64) -> bool
     word % 2 == 1
 }
 
-// A word whose bits are numbered from `base` on has a number past `last`.
+// A word whose bits are numbered from `base` on has a number past `last`: shifted down to those, it is not 0.
 fn past(word: u64, base: u64, last: u64) -> bool
-    ensures { λ r. ⌜ r ≡ anyUnder 64 (λ b. bitOf word b && ltb last (base + b)) ⌝ }
+    ensures { λ r. ⌜ r ≡ ltb 0 (word / 2 ^ (last + 1 - base)) ⌝ }
 {
     if last < base {
         return word != 0;

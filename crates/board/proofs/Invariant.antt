@@ -7,6 +7,7 @@ use lib.Dec.{eqb}
 use lib.ListN.{length, getD}
 use Rattle.bitset.specs.Passing.{countUnder}
 use Rattle.bitset.specs.Words.{empty, contains}
+use Rattle.bitset.proofs.Members.{Small}
 use Rattle.line.specs.Line.{lineStart}
 use Rattle.line.specs.Cell.{cellLine}
 use Rattle.board.specs.declared.State.{State}
@@ -209,6 +210,8 @@ rank s l = countUnder l (contains (s .dirty))
 pub record Dirty (l : ℕ) (words : List ℕ) (marked : ℕ → Bool) : Type 0 where
   -- the set has eight words
   pub eight : length words ≡ 8
+  -- of 64 bits each
+  pub small : Small words
   -- the bit of a cell line says whether one of its cells is marked
   pub lines : (i : ℕ) → i < l → contains words (suc i) ≡ marked (2 * i) || marked (2 * i + 1)
   -- there is no other bit

@@ -2,7 +2,7 @@
 use mathlib.Core.Path.{_≡_, refl}
 use mathlib.Core.List.{flatten}
 use Rattle.bitset.specs.Passing.{anyUnder, countUnder, nthUnder}
-use Rattle.bitset.specs.Words.{bitOf, withBit, contains, inserted as added, size, nth, strays}
+use Rattle.bitset.specs.Words.{bitsIn, bitOf, withBit, contains, inserted as added, size, nth, strays}
 use Rattle.text.specs.Numbers.{spelled}
 use Rattle.line.specs.Cell.{fieldIndex, fieldOf}
 use Rattle.board.specs.Causes.{badRecord, firstStanding}
@@ -11,5 +11,5 @@ use Rattle.board.specs.Bench.{same}
 use Rattle.board.specs.Pages.{pageTable, pageGives, allPages, PagesHold}
 
 pub pages-hold : PagesHold
-unfolding flatten same spelled lineText before inserted ordered numbersUnder pageText pageCauses pageCause pageLeft firstStanding badRecord anyUnder fieldIndex fieldOf pageTable pageGives allPages countUnder nthUnder bitOf withBit contains added size nth strays
+unfolding flatten same spelled lineText before inserted ordered numbersUnder pageText pageCauses pageCause pageLeft firstStanding badRecord anyUnder fieldIndex fieldOf pageTable pageGives allPages countUnder nthUnder bitsIn bitOf withBit contains added size nth strays
 pages-hold = record { worked = refl; past = refl; refused = refl; table = refl }

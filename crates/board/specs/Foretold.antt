@@ -1,11 +1,12 @@
 -- What is claimed of document 02, ticket 5, "Each line written once", each claim as a type. `proofs/Foretold/Theorems.antt` proves every one.
-use Prim.Native.Nat.{ℕ, zero, suc, _+_, _*_, _/_, _≤_}
+use Prim.Native.Nat.{ℕ, suc, _+_, _/_, _^_, _≤_, _<_}
 use mathlib.Core.Path.{_≡_}
+use mathlib.Core.Logic.{_↔_}
 use mathlib.Core.List.{List, [], _∷_, _++_, map}
-use mathlib.Core.Bool.{Bool, true, false, cond, _&&_, _||_}
-use lib.Dec.{leb, eqb}
-use lib.ListN.{length}
-use Rattle.bitset.specs.Words.{capacity, contains}
+use mathlib.Core.Bool.{Bool, true, false, cond, _||_}
+use lib.ListN.{length, getD}
+use Rattle.bitset.specs.Passing.{countUnder}
+use Rattle.bitset.specs.Words.{capacity, contains, size, strays}
 use Rattle.board.specs.declared.State.{State}
 use Rattle.board.specs.declared.Call.{Call}
 use Rattle.board.specs.declared.Call.the-variants.{FormatStart, RecoveryStart, Step, Update, RestartPoint, Advance, Request, WriteBack, Read, GoAway, ComeBack, Count}
@@ -17,7 +18,7 @@ use Rattle.board.specs.Causes.{badRecord}
 use Rattle.board.specs.Effects.{writtenBack}
 use Rattle.board.specs.Next.{Taken, next, Performed, kind, isStart, isStep}
 use Rattle.board.specs.Page.{PagePerformed, numbersUnder}
-use Rattle.board.specs.Machine.{Machine, markedLine}
+use Rattle.board.specs.Machine.{markedLine}
 use Rattle.board.specs.Sequence.{Run, History}
 use Rattle.board.specs.Statements.{AllWaitOrAway}
 
@@ -40,7 +41,17 @@ DirtyLines =
     ((i : ℕ) → suc i ≤ r .machine .lines → contains (r .board .state .dirty) (suc i) ≡ markedLine (r .machine) i)
     × ((l : ℕ) → contains (r .board .state .dirty) l ≡ true → (1 ≤ l) × (l ≤ r .machine .lines))
 
+-- "A bit set for line 0 or past L": of eight words of 64 bits no bit strays exactly where each that is set is one of lines 1 to L.
+abbrev pub StrayBits : Type 0
+StrayBits =
+    (words : List ℕ) (l : ℕ) → length words ≡ 8 → ((k : ℕ) → k < 8 → getD words k 0 < 2 ^ 64) →
+    (strays words l ≡ false) ↔ ((i : ℕ) → contains words i ≡ true → (1 ≤ i) × (i ≤ l))
+
 -- ---- 2. the count
+
+-- "the count of set bits": of any eight words, it is how many lines have their bit set.
+abbrev pub CountsBits : Type 0
+CountsBits = (words : List ℕ) → size words ≡ countUnder capacity (contains words)
 
 -- "the count of set bits plus 3, never over L+3": on every record that cause 3 lets pass.
 abbrev pub CountWithin : Type 0

@@ -9,6 +9,7 @@ use native.Mathlib.Decide.{decLt}
 use lib.Dec.{leb, ltb, eqb}
 use lib.ListN.{set}
 use Rattle.bitset.specs.Words.{nth, strays}
+use Rattle.bitset.proofs.Members.{nth-own}
 use borrow.Author.Tests.{eqb-true, le-ltb, ne-eqb}
 use Rattle.board.specs.declared.State.{State}
 use Rattle.board.specs.declared.Worker.{Worker}
@@ -30,7 +31,7 @@ use Rattle.board.proofs.Laws.View.{Sized, sized-back}
 use Rattle.board.proofs.Invariant.{AllQuiescent, Sizes, Stage, early, gap, late, Inv}
 use Rattle.board.proofs.Laws.Rows.{sized-set}
 use Rattle.board.proofs.Laws.Taken.{Clear, take, taken-next, rows-fine, record-fine, none-worker}
-use Rattle.board.proofs.Laws.Dirty.{nth-line, dirty-fine}
+use Rattle.board.proofs.Laws.Dirty.{dirty-fine}
 use Rattle.board.proofs.Laws.Workers.{released-away}
 use Rattle.board.proofs.Laws.Idle.{ends-more}
 use Rattle.board.proofs.Laws.Reading.{place-in}
@@ -121,7 +122,7 @@ ready-acts : {l : ℕ} (b : Board) → Ready l b → b .state .place < dirtyCoun
 unfolding performAct
 ready-acts {l} b y h =
     act-cases (λ (a : Act). Follows l b (performAct a (b .state) b)) n place
-    (λ p. goes-on b y h (writtenBack line b) (b .cache) (sized-back (b .memory) (b .cache) (z .memory) (z .cache) line (nth-line (b .state .dirty) l (y .dirty) place p .2)) (z .cache) (λ q. y .epoch (omega arith)))
+    (λ p. goes-on b y h (writtenBack line b) (b .cache) (sized-back (b .memory) (b .cache) (z .memory) (z .cache) line (nth-own (b .state .dirty) l (y .dirty) place p .2)) (z .cache) (λ q. y .epoch (omega arith)))
     (λ p. goes-on b y h (b .memory) (set (b .cache) 0 (epochOf (b .cache) + 1)) (z .memory) (sized-set (b .cache) (epochOf (b .cache) + 1) (z .cache)) (λ q. absurd (omega arith)))
     (λ p. goes-on b y h (writtenBack 0 b) (b .cache) (sized-back (b .memory) (b .cache) (z .memory) (z .cache) 0 (omega arith)) (z .cache) (λ q. absurd (omega arith)))
     (λ p. absurd (omega arith))

@@ -8,7 +8,8 @@ use native.Mathlib.Decide.{decLt}
 use lib.ListN.{length, getD, drop, length-map, length-append, List·getD-append, List·getD-map}
 use lib.Seq.{drop-cons, getD-append-add}
 use Rattle.bitset.specs.Passing.{countUnder, nthUnder}
-use Rattle.bitset.specs.Words.{capacity, contains, size, nth}
+use Rattle.bitset.specs.Words.{capacity, contains, nth}
+use Rattle.bitset.proofs.Words.{size-count}
 use Rattle.bitset.proofs.Passing.{oneIf, count-next, one-on, one-off, count-less, Nth, nth-found, nth-one}
 use Rattle.board.specs.declared.State.{State}
 use Rattle.board.specs.State.{dirtyCount}
@@ -82,20 +83,20 @@ plan s = map line (risingLines s) ++ (nothing ∷ line 0 ∷ nothing ∷ [])
 
 -- There are as many steps as dirty lines, and three more.
 pub plan-length : (s : State) → length (plan s) ≡ dirtyCount s + 3
-unfolding size
 plan-length s =
     length-append (map line (risingLines s)) (nothing ∷ line 0 ∷ nothing ∷ [])
-    ∙ omega (arith, length-map (risingLines s) line, rising-length capacity (contains (s .dirty)))
+    ∙ omega (arith, length-map (risingLines s) line, rising-length capacity (contains (s .dirty)), size-count (s .dirty))
 
 -- At a place before the epoch's store the plan has the line that the step writes.
 pub plan-line : (s : State) (p : ℕ) → p < dirtyCount s → getD (plan s) p nothing ≡ line (nth (s .dirty) p)
-unfolding size nth
+unfolding nth
 plan-line s p h =
     let f = contains (s .dirty) in
+    let under : p < countUnder capacity f = omega (arith, size-count (s .dirty)) in
     let count = rising-length capacity f in
     List·getD-append (map line (risingLines s)) (nothing ∷ line 0 ∷ nothing ∷ []) nothing p (omega (arith, length-map (risingLines s) line))
     ∙ getD-within (risingLines s) p (omega arith)
-    ∙ ap line (nth-one {n = capacity} {m = capacity} f (getD (risingLines s) p 0) (nth (s .dirty) p) (rising-nth capacity f p h) (nth-found capacity f p h))
+    ∙ ap line (nth-one {n = capacity} {m = capacity} f (getD (risingLines s) p 0) (nth (s .dirty) p) (rising-nth capacity f p under) (nth-found capacity f p under))
   where
     getD-within : (xs : List ℕ) (k : ℕ) → k < length xs → getD (map line xs) k nothing ≡ line (getD xs k 0)
     getD-within [] k h = absurd (omega arith)
@@ -104,7 +105,6 @@ plan-line s p h =
 
 -- From there on it has the last three.
 pub plan-end : (s : State) (p k : ℕ) → p ≡ dirtyCount s + k → getD (plan s) p nothing ≡ getD (nothing ∷ line 0 ∷ nothing ∷ []) k nothing
-unfolding size
 plan-end s p k e =
-    ap (λ (j : ℕ). getD (plan s) j nothing) (let q : p ≡ length (map line (risingLines s)) + k = omega (arith, length-map (risingLines s) line, rising-length capacity (contains (s .dirty))) in q)
+    ap (λ (j : ℕ). getD (plan s) j nothing) (let q : p ≡ length (map line (risingLines s)) + k = omega (arith, length-map (risingLines s) line, rising-length capacity (contains (s .dirty)), size-count (s .dirty)) in q)
     ∙ getD-append-add (map line (risingLines s)) (nothing ∷ line 0 ∷ nothing ∷ []) k nothing

@@ -4,11 +4,13 @@ use mathlib.Core.Path.{_≡_, refl, sym, ap, subst, _∙_}
 use mathlib.Core.List.{List, [], _∷_, _++_, map}
 use mathlib.Core.Bool.{true, false, cond, _&&_}
 use native.Mathlib.Omega.{arith}
+use native.Mathlib.Decide.{decLt}
 use lib.Dec.{leb, ltb}
 use lib.ListN.{length, drop}
 use borrow.Author.Tests.{eq-eqb, leb-false, lt-ltb}
-use Rattle.bitset.specs.Words.{contains, inserted}
-use Rattle.bitset.proofs.Words.{contains-inserted, contains-other}
+use Rattle.bitset.specs.Words.{capacity, contains, inserted}
+use Rattle.bitset.proofs.Words.{contains-inserted, contains-other, past-words, size-count}
+use Rattle.bitset.proofs.Members.{stray-none, none-strays, size-most}
 use Rattle.line.specs.Cell.{cellLine}
 use Rattle.board.specs.declared.State.{State}
 use Rattle.board.specs.declared.Condition.{Condition}
@@ -22,11 +24,10 @@ use Rattle.board.specs.Causes.{cause, causes, badRecord}
 use Rattle.board.specs.Effects.{advance, advanceOf, effect}
 use Rattle.board.specs.Next.{Taken, taken, next, stepsOf, valueCounted, valueOf, Performed}
 use Rattle.board.specs.Sequence.{Run}
-use Rattle.board.specs.Foretold.{LineSet, MarkSets, DirtyLines, CountWithin, CountLeaves, ToRelease, Gathered, Foretold, StepsWrite, EachLineOnce}
-use Rattle.board.proofs.Laws.Bools.{split, chosen, passedOver, and-not, none-under}
+use Rattle.board.specs.Foretold.{LineSet, MarkSets, DirtyLines, StrayBits, CountsBits, CountWithin, CountLeaves, ToRelease, Gathered, Foretold, StepsWrite, EachLineOnce}
+use Rattle.board.proofs.Laws.Bools.{split, clash, chosen, passedOver}
 use Rattle.board.proofs.Laws.Taken.{Clear, take, standsAt, passed, taken-next, performed-number, performed-value, performed-taken, lines-in, workers-in, record-within, record-cells}
 use Rattle.board.proofs.Laws.Reading.{in-phase, running-passes}
-use Rattle.board.proofs.Laws.Dirty.{size-most}
 use Rattle.board.proofs.Invariant.{AllQuiescent, progress}
 use Rattle.board.proofs.Checkpoint.Run.{is-running}
 use Rattle.board.proofs.Checkpoint.Ends.{all-quiescent}
@@ -56,13 +57,24 @@ dirty-lines r h d e =
     let v = in-phase r (history-inv r h) d Running (is-running (r .board .state .phase) e) .0 in
     (λ i p. v .dirty .lines i p, v .dirty .own)
 
+-- A record's bits stray exactly where one of them is no cell line's.
+pub stray-bits : StrayBits
+stray-bits words l eight small = (
+  λ fine i t. elim (decLt i capacity) [ yes h ↦ stray-none words l fine i h t | no h ↦ absurd (clash t (past-words words i eight (omega arith))) ],
+  none-strays words l small,
+)
+
 -- ---- 2. the count
+
+-- The set bits are counted.
+pub counts-bits : CountsBits
+counts-bits = size-count
 
 -- It is 3 at least and L + 3 at most.
 pub count-within : CountWithin
 count-within s e =
     let fine = record-within s e in
-    (omega arith, omega (arith, size-most (s .dirty) (s .lines) (fine .3) (lines-in (s .lines) (fine .0) .1)))
+    (omega arith, omega (arith, size-most (s .dirty) (s .lines) (fine .3) (omega (arith, lines-in (s .lines) (fine .0) .1))))
 
 -- It changes nothing.
 pub count-leaves : CountLeaves

@@ -7,8 +7,10 @@ use native.Mathlib.Omega.{arith}
 use native.Mathlib.Decide.{ℕ-discrete, decLt}
 use lib.ListN.{set}
 use borrow.Author.Tests.{eq-eqb, ne-eqb}
-use Rattle.bitset.specs.Words.{capacity, contains, size, nth}
+use Rattle.bitset.specs.Words.{capacity, contains, nth}
 use Rattle.bitset.proofs.Passing.{count-less, nth-one}
+use Rattle.bitset.proofs.Words.{size-count}
+use Rattle.bitset.proofs.Members.{nth-own}
 use Rattle.line.specs.Cell.{cellLine}
 use Rattle.board.specs.declared.Condition.{Condition}
 use Rattle.board.specs.declared.Condition.the-variants.{Free, Waiting, Updating, Away}
@@ -25,7 +27,7 @@ use Rattle.board.proofs.Invariant.{AllQuiescent, Undo, WorkerInv, Touch
 use Rattle.board.proofs.Laws.Rows.{epoch-set, sized-set, header-set, spare-set, own-same, sizes-same, sizes-set}
 use Rattle.board.proofs.Laws.Taken.{lines-in, workers-in, afterTaken}
 use Rattle.board.proofs.Laws.Workers.{released-condition}
-use Rattle.board.proofs.Laws.Dirty.{nth-line, dirty-fine, marked-line, dirty-none}
+use Rattle.board.proofs.Laws.Dirty.{dirty-fine, marked-line, dirty-none}
 use Rattle.board.proofs.Checkpoint.Run.{Carried, quietly, RunningRun, running-run, running-count, inv-running}
 use Rattle.board.proofs.Checkpoint.Stages.{moved, early-placed, early-back}
 use Rattle.board.proofs.Checkpoint.Back.{quiet-back, header-back}
@@ -52,13 +54,12 @@ released-touches Away d t = t
 
 -- Past the dirty lines memory has the record of every cell.
 early-same : {l : ℕ} (b : Board) {m : Machine} → l ≤ 511 → b .state .requested ≡ true → b .state .place ≡ dirtyCount (b .state) → Dirty l (b .state .dirty) (m .marked) → Early l b m → SameRecords l b
-unfolding size
 early-same b {m} most on end d e c h =
     elim (ℕ-discrete (view (b .cache) c .mark) (epochOf (b .memory))) [
       | yes q ↦
           let set = marked-line (b .state .dirty) (m .marked) d c h (e .marks c h ∙ eq-eqb _ _ q) in
           let before = count-less (cellLine c) capacity (contains (b .state .dirty)) (omega arith) set in
-          e .written c h set (omega (arith, chosen (b .state .requested) (b .state .place) 0 on))
+          e .written c h set (omega (arith, size-count (b .state .dirty), chosen (b .state .requested) (b .state .place) 0 on))
       | no o ↦ e .clean c h o
     ]
 
@@ -147,7 +148,7 @@ module _ (r : Run) (s : RunningRun r) (on : r .board .state .requested ≡ true)
       let z = s .inv .sizes in
       let v = s .running in
       let i = nth (b .state .dirty) (b .state .place) in
-      let found = nth-line (b .state .dirty) (m .lines) (dirty-fine (b .state .dirty) (m .marked) (v .dirty)) (b .state .place) h in
+      let found = nth-own (b .state .dirty) (m .lines) (dirty-fine (b .state .dirty) (m .marked) (v .dirty)) (b .state .place) h in
       let q : i ≤ m .lines = found .2 in
       quiet-back r s (b .state .place + 1) (m .steps + 1) placed-steps (r .crashed && true) i q (λ k. e .epochs) (m .checkpointed) (λ d k. refl)
       (early (early-placed (moved b (writtenBack i b) (b .state .place)) (m .steps + 1) (early-back b z i q e) on h wait

@@ -1,63 +1,21 @@
--- Laws of the dirty lines: those with a marked cell, how many they are, and which a checkpoint's step writes.
-use Prim.Native.Nat.{ℕ, zero, suc, _+_, _*_, _/_, _≤_, _<_}
+-- Laws of the dirty lines: those with a marked cell, and how many they are.
+use Prim.Native.Nat.{ℕ, suc, _+_, _*_, _/_, _≤_, _<_}
 use mathlib.Core.Path.{_≡_, refl, sym, ap, subst, _∙_}
 use mathlib.Core.List.{List}
-use mathlib.Core.Bool.{Bool, true, false, _&&_, _||_, true≢false}
+use mathlib.Core.Bool.{Bool, true, false, _||_}
 use native.Mathlib.Omega.{arith}
-use native.Mathlib.Decide.{ℕ-discrete, decLt}
-use lib.Dec.{ltb, eqb}
-use lib.ListN.{length}
-use borrow.Author.Tests.{eqb-false, ltb-false, ne-eqb, le-ltb}
+use native.Mathlib.Decide.{ℕ-discrete}
 use Rattle.bitset.specs.Passing.{countUnder}
-use Rattle.bitset.specs.Words.{capacity, empty, contains, inserted, size, nth, strays}
-use Rattle.bitset.proofs.Passing.{oneIf, one-off, count-most, count-alike, count-shift, count-past, Nth, nth-found}
+use Rattle.bitset.specs.Words.{empty, contains, inserted, size, strays}
+use Rattle.bitset.proofs.Passing.{count-alike}
+use Rattle.bitset.proofs.Members.{small-inserted, small-empty, none-strays, size-own}
 use Rattle.bitset.proofs.Words.{contains-inserted, contains-other, length-inserted, empty-contains}
 use Rattle.line.specs.Cell.{cellLine}
 use Rattle.board.specs.Board.{cells}
 use Rattle.board.specs.Machine.{changed}
-use Rattle.board.proofs.Laws.Bools.{split, clash, or-left, or-right, or-none, and-if, and-not, none-under, under-none}
+use Rattle.board.proofs.Laws.Bools.{clash, or-none}
 use Rattle.board.proofs.Laws.Count.{changed-at, changed-other, at-each}
 use Rattle.board.proofs.Invariant.{Dirty}
-
--- ---- bits of cell lines alone
-
-module _ (words : List ℕ) (l : ℕ) (fine : strays words l ≡ false) where
-  -- A bit that is set is a cell line's.
-  pub stray-none : (i : ℕ) → i < capacity → contains words i ≡ true → (1 ≤ i) × (i ≤ l)
-  unfolding strays
-  stray-none i h t =
-      let none : contains words i && (eqb i 0 || ltb l i) ≡ false = none-under capacity (λ j. contains words j && (eqb j 0 || ltb l j)) fine i h in
-      let off : eqb i 0 || ltb l i ≡ false = and-not (contains words i) (eqb i 0 || ltb l i) none t in
-      let low = eqb-false i 0 (or-left (eqb i 0) (ltb l i) off) in
-      (positive i low, ltb-false l i (or-right (eqb i 0) (ltb l i) off))
-    where
-      positive : (i : ℕ) → (i ≡ 0 → ⊥) → 1 ≤ i
-      positive zero o = absurd (o refl)
-      positive (suc i) o = omega arith
-
-  -- The line that a checkpoint writes at a place before the epoch's store: a cell line whose bit is set, with as many set before it.
-  pub nth-line : (p : ℕ) → p < size words → Nth capacity (contains words) p (nth words p) × (1 ≤ nth words p) × (nth words p ≤ l)
-  unfolding size nth
-  nth-line p h =
-      let found = nth-found capacity (contains words) p h in
-      let own = stray-none (nth words p) (found .within) (found .passes) in
-      (found, own .0, own .1)
-
-  -- A line whose bit can be set is not.
-  unset : (i : ℕ) → i < capacity → ((1 ≤ i) × (i ≤ l) → ⊥) → contains words i ≡ false
-  unset i h o = split (contains words i) (λ t. absurd (o (stray-none i h t))) (λ f. f)
-
-  -- The dirty lines are counted among the cell lines.
-  pub size-lines : l ≤ 511 → size words ≡ countUnder l (λ i. contains words (suc i))
-  unfolding size
-  size-lines h =
-      count-past (suc l) capacity (contains words) (omega arith) (λ i p q. unset i q (λ r. omega (arith, r .1)))
-      ∙ count-shift l (contains words)
-      ∙ omega (arith, one-off (contains words 0) (unset 0 (omega arith) (λ r. omega (arith, r .0))))
-
-  -- There are at most L of them.
-  pub size-most : l ≤ 511 → size words ≤ l
-  size-most h = omega (arith, size-lines h, count-most l (λ i. contains words (suc i)))
 
 -- ---- the lines with a marked cell
 
@@ -79,15 +37,11 @@ one-of-two marked c t =
 module _ {l : ℕ} (words : List ℕ) (marked : ℕ → Bool) (d : Dirty l words marked) where
   -- They are cell lines.
   pub dirty-fine : strays words l ≡ false
-  unfolding strays
-  dirty-fine =
-      under-none capacity (λ i. contains words i && (eqb i 0 || ltb l i))
-      (λ i h. and-if (contains words i) (eqb i 0 || ltb l i)
-      (λ t. or-none (eqb i 0) (ltb l i) (ne-eqb i 0 (λ e. omega (arith, d .own i t .0))) (le-ltb l i (d .own i t .1))))
+  dirty-fine = none-strays words l (d .small) (d .own)
 
   -- "in the simple machine, that of the lines with a marked cell".
   pub dirty-count : l ≤ 511 → size words ≡ countUnder l (λ i. marked (2 * i) || marked (2 * i + 1))
-  dirty-count h = size-lines words l dirty-fine h ∙ count-alike l (λ i. contains words (suc i)) (λ i. marked (2 * i) || marked (2 * i + 1)) (d .lines)
+  dirty-count h = size-own words l dirty-fine (omega arith) ∙ count-alike l (λ i. contains words (suc i)) (λ i. marked (2 * i) || marked (2 * i + 1)) (d .lines)
 
   -- A marked cell's line is dirty.
   pub marked-line : (c : ℕ) → c < cells l → marked c ≡ true → contains words (cellLine c) ≡ true
@@ -99,6 +53,7 @@ module _ {l : ℕ} (words : List ℕ) (marked : ℕ → Bool) (d : Dirty l words
   dirty-mark c h most =
       record {
         eight = length-inserted words (cellLine c) ∙ d .eight;
+        small = small-inserted words (cellLine c) (d .small);
         lines = at-each (λ (i : ℕ). i < l → contains set (suc i) ≡ now (2 * i) || now (2 * i + 1)) (c / 2) here other;
         own =
             at-each (λ (i : ℕ). contains set i ≡ true → (1 ≤ i) × (i ≤ l)) (cellLine c) (λ t. (omega arith, omega arith))
@@ -131,6 +86,7 @@ pub dirty-none : (l : ℕ) (marked : ℕ → Bool) → ((c : ℕ) → marked c �
 dirty-none l marked none =
     record {
       eight = refl;
+      small = small-empty;
       lines = λ i h. empty-contains (suc i) ∙ sym (or-none (marked (2 * i)) (marked (2 * i + 1)) (none (2 * i)) (none (2 * i + 1)));
       own = λ i t. absurd (clash t (empty-contains i));
     }
