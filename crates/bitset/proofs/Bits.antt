@@ -15,7 +15,7 @@ use borrow.Author.Tests.{ltb-true, lt-ltb, eqb-true, eqb-false, eq-eqb}
 use Rattle.text.proofs.Bools.{split, chosen, passedOver, and-off, and-off-right, and-before}
 use Rattle.bitset.specs.Passing.{anyUnder, countUnder, nthUnder}
 use Rattle.bitset.specs.Words.{bitOf, withBit, bitsIn}
-use Rattle.bitset.proofs.Passing.{none-under, under-none, oneIf, Nth, one-on, one-off, count-next, count-none, count-split, count-shift, count-mono, nth-found, nth-unique}
+use Rattle.bitset.proofs.Passing.{none-under, under-none, oneIf, Nth, one-on, one-off, count-next, count-none, count-split, count-shift, count-mono, nthShifted, nth-shifted, nth-found, nth-unique}
 
 -- ---- a word shifted
 
@@ -74,13 +74,16 @@ bits-count (suc k) zero = sym (count-none (suc k) (bitOf 0) bit-zero)
 bits-count (suc k) (suc n) = ap (λ (x : ℕ). suc n % 2 + x) (bits-count k (suc n / 2)) ∙ sym (count-half k (suc n))
 
 -- As many zeros stand below the lowest set bit as its number says.
-trailing : (k n : ℕ) → trailingZeros k n ≡ nthUnder k (bitOf n) 0
-unfolding trailingZeros nthUnder
-trailing zero n = refl
-trailing (suc k) n =
+trailing-shifted : (k n : ℕ) → trailingZeros k n ≡ nthShifted k (bitOf n) 0
+unfolding trailingZeros nthShifted
+trailing-shifted zero n = refl
+trailing-shifted (suc k) n =
     split (bitOf n 0)
     (λ t. rw (low-on n t, t))
-    (λ t. rw (low-off n t, t) (ap suc (trailing k (n / 2) ∙ ap (λ (f : ℕ → Bool). nthUnder k f 0) (sym (halved n)))))
+    (λ t. rw (low-off n t, t) (ap suc (trailing-shifted k (n / 2) ∙ ap (λ (f : ℕ → Bool). nthShifted k f 0) (sym (halved n)))))
+
+trailing : (k n : ℕ) → trailingZeros k n ≡ nthUnder k (bitOf n) 0
+trailing k n = trailing-shifted k n ∙ sym (nth-shifted k (bitOf n) 0)
 
 -- Of a word in which bits from `at` on are set, the lowest of them is as far from `at` as there are zeros below it in the word shifted down to it.
 pub next-set : (w at : ℕ) → countUnder at (bitOf w) < countUnder 64 (bitOf w) → Nth 64 (bitOf w) (countUnder at (bitOf w)) (at + trailingZeros 64 (w / 2 ^ at))

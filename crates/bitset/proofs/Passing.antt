@@ -1,14 +1,14 @@
 -- Laws of the numbers that pass a test.
 use Prim.Native.Nat.{ℕ, zero, suc, _+_, _-_, _≤_, _<_}
-use mathlib.Core.Path.{_≡_, refl, sym, ap, subst, _∙_}
+use mathlib.Core.Path.{_≡_, refl, sym, ap, ap₂, subst, _∙_}
 use mathlib.Core.Bool.{Bool, true, false, cond, _&&_, _||_}
 use native.Mathlib.Omega.{arith}
 use native.Mathlib.Decide.{decLt}
-use native.Mathlib.Nat.{add-suc}
+use native.Mathlib.Nat.{zero-add, add-suc}
 use lib.Dec.{ltb, eqb}
 use borrow.Author.Tests.{ltb-true, ltb-false, eqb-true, eqb-false}
 use Rattle.text.proofs.Bools.{on, split, chosen, passedOver, clash, or-left, or-right, or-none, and-left, and-right, and-both}
-use Rattle.bitset.specs.Passing.{anyUnder, countUnder, nthUnder}
+use Rattle.bitset.specs.Passing.{anyUnder, countUnder, nthFrom, nthUnder}
 
 -- ---- whether one passes
 
@@ -118,21 +118,49 @@ nth-later : (n : ℕ) (f : ℕ → Bool) (p k q : ℕ) → k + oneIf (f 0) ≡ p
 nth-later n f p k q e found =
     record { passes = found .passes; rank = count-shift q f ∙ omega (arith, found .rank); within = omega (arith, found .within) }
 
+-- A search from 0, the test being shifted: what `nthFrom` finds, counted from where it begins.
+unfoldable pub nthShifted : ℕ → (ℕ → Bool) → ℕ → ℕ
+nthShifted zero f p = 0
+nthShifted (suc n) f p = cond (f 0 && eqb p 0) 0 (suc (nthShifted n (λ i. f (suc i)) (cond (f 0) (p - 1) p)))
+
+shifted-from : (n i p : ℕ) (f : ℕ → Bool) → nthFrom f n i p ≡ i + nthShifted n (λ j. f (i + j)) p
+unfolding nthFrom nthShifted
+shifted-from zero i p f = omega arith
+shifted-from (suc n) i p f =
+    let here : f (i + 0) ≡ f i = ap f (let e : i + 0 ≡ i = omega arith in e) in
+    let after : _≡_ {A = ℕ → Bool} (λ j. f (suc i + j)) (λ j. f (i + suc j)) = λ k j. f (move j k) in
+    let rest : nthFrom f n (suc i) (cond (f i) (p - 1) p) ≡ i + suc (nthShifted n (λ j. f (i + suc j)) (cond (f (i + 0)) (p - 1) p)) = shifted-from n (suc i) (cond (f i) (p - 1) p) f
+    ∙ ap₂ (λ (g : ℕ → Bool) (t : Bool). suc i + nthShifted n g (cond t (p - 1) p)) after (sym here)
+    ∙ omega arith in
+    split (f i && eqb p 0)
+    (λ t. chosen (f i && eqb p 0) i _ t ∙ sym (ap (λ (k : ℕ). i + k) (chosen (f (i + 0) && eqb p 0) 0 _ (ap (λ (u : Bool). u && eqb p 0) here ∙ t)) ∙ omega arith))
+    (λ t. passedOver (f i && eqb p 0) i _ t ∙ rest ∙ sym (ap (λ (k : ℕ). i + k) (passedOver (f (i + 0) && eqb p 0) 0 _ (ap (λ (u : Bool). u && eqb p 0) here ∙ t))))
+  where
+    move : (j : ℕ) → suc i + j ≡ i + suc j
+    move j = omega arith
+
+pub nth-shifted : (n : ℕ) (f : ℕ → Bool) (p : ℕ) → nthUnder n f p ≡ nthShifted n f p
+unfolding nthUnder
+nth-shifted n f p = shifted-from n 0 p f ∙ ap (λ (g : ℕ → Bool). 0 + nthShifted n g p) (λ k j. f (zero-add j k)) ∙ zero-add (nthShifted n f p)
+
 -- A search for a number that there is finds it.
-pub nth-found : (n : ℕ) (f : ℕ → Bool) (p : ℕ) → p < countUnder n f → Nth n f p (nthUnder n f p)
-unfolding nthUnder countUnder
-nth-found zero f p h = absurd (omega arith)
-nth-found (suc n) f p h =
+shifted-found : (n : ℕ) (f : ℕ → Bool) (p : ℕ) → p < countUnder n f → Nth n f p (nthShifted n f p)
+unfolding nthShifted countUnder
+shifted-found zero f p h = absurd (omega arith)
+shifted-found (suc n) f p h =
     on (Nth (suc n) f p) (f 0 && eqb p 0) 0 _
     (λ t. record { passes = and-left (f 0) (eqb p 0) t; rank = sym (eqb-true p 0 (and-right (f 0) (eqb p 0) t)); within = omega arith })
     (λ o.
     let k = cond (f 0) (p - 1) p in
     let e = left (f 0) o in
-    nth-later n f p k _ e (nth-found n (λ i. f (suc i)) k (omega (arith, count-shift n f))))
+    nth-later n f p k _ e (shifted-found n (λ i. f (suc i)) k (omega (arith, count-shift n f))))
   where
     left : (t : Bool) → t && eqb p 0 ≡ false → cond t (p - 1) p + oneIf t ≡ p
     left true o = omega (arith, eqb-false p 0 o)
     left false o = omega arith
+
+pub nth-found : (n : ℕ) (f : ℕ → Bool) (p : ℕ) → p < countUnder n f → Nth n f p (nthUnder n f p)
+nth-found n f p h = subst (Nth n f p) (sym (nth-shifted n f p)) (shifted-found n f p h)
 
 -- There is only one.
 pub nth-one : {n m : ℕ} (f : ℕ → Bool) {p : ℕ} (q q′ : ℕ) → Nth n f p q → Nth m f p q′ → q ≡ q′

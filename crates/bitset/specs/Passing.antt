@@ -13,7 +13,11 @@ unfoldable pub countUnder : ℕ → (ℕ → Bool) → ℕ
 countUnder zero test = 0
 countUnder (suc n) test = countUnder n test + cond (test n) 1 0
 
--- The p-th number below `n`, counted from 0, that passes the test, searched for from 0 up; `n` where there is none.
+-- The p-th number, counted from 0, that passes the test, searched for from `i` up among `left` numbers; the number behind them where there is none.
+unfoldable pub nthFrom : (ℕ → Bool) → ℕ → ℕ → ℕ → ℕ
+nthFrom test zero i p = i
+nthFrom test (suc left) i p = cond (test i && eqb p 0) i (nthFrom test left (suc i) (cond (test i) (p - 1) p))
+
+-- The same below `n`, from 0 up.
 unfoldable pub nthUnder : ℕ → (ℕ → Bool) → ℕ → ℕ
-nthUnder zero test p = 0
-nthUnder (suc n) test p = cond (test 0 && eqb p 0) 0 (suc (nthUnder n (λ i. test (suc i)) (cond (test 0) (p - 1) p)))
+nthUnder n test p = nthFrom test n 0 p

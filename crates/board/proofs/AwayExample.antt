@@ -5,7 +5,7 @@ use mathlib.Core.List.{List, [], _∷_}
 use mathlib.Core.Bool.{false}
 use native.Mathlib.Omega.{arith}
 use lib.ListN.{replicate}
-use Rattle.bitset.specs.Passing.{anyUnder, countUnder, nthUnder}
+use Rattle.bitset.specs.Passing.{anyUnder, countUnder, nthFrom, nthUnder}
 use Rattle.bitset.specs.Words.{bitsIn, bitOf, withBit, contains, inserted as added, size, nth, strays}
 use Rattle.line.specs.Line.{lineOf, withLine}
 use Rattle.line.specs.Cell.{fieldIndex, fieldOf, withField}
@@ -57,7 +57,7 @@ pub recoveredBoard : Board
 recoveredBoard = cutAndPlayed run garbage cutCache recoveryCalls
 
 begins-fresh : Begins fresh (beginning 2)
-unfolding fresh afterCalls takesTest byKind next cause causes firstStanding badRecord anyUnder effect step formatStep withLine countUnder nthUnder bitsIn bitOf withBit contains added size nth strays
+unfolding fresh afterCalls takesTest byKind next cause causes firstStanding badRecord anyUnder effect step formatStep withLine countUnder nthFrom nthUnder bitsIn bitOf withBit contains added size nth strays
 begins-fresh =
     formatted 2 2 _ (blankFor 2) _ fresh (performing (FormatStart 2 2) (blankFor 2) refl refl refl) (tested 4 (Step ∷ Step ∷ Step ∷ Step ∷ []) (next (FormatStart 2 2) (blankFor 2)) refl)
 
@@ -68,7 +68,7 @@ midway-history = calls-history first (opening fresh (beginning 2)) refl (begun b
 
 -- After the first checkpoint worker 1 is away and no cut has fallen.
 midway-seen : (midway .crashed ≡ false) × (conditionOf (midway .board .state) 1 ≡ Away)
-unfolding midway first fresh made madeAll afterCalls next cause causes firstStanding badRecord anyUnder effect step formatStep actAt performAct advance advanceOf lineOf withLine fieldIndex fieldOf withField feed changed countUnder fewer advanced checkpointStep stepped nthUnder bitsIn bitOf withBit contains added size nth strays
+unfolding midway first fresh made madeAll afterCalls next cause causes firstStanding badRecord anyUnder effect step formatStep actAt performAct advance advanceOf lineOf withLine fieldIndex fieldOf withField feed changed countUnder fewer advanced checkpointStep stepped nthFrom nthUnder bitsIn bitOf withBit contains added size nth strays
 midway-seen = (refl, refl)
 
 pub run-history : History run
@@ -77,17 +77,17 @@ run-history = calls-history second midway (midway-seen .0) midway-history
 
 -- In the middle of the second checkpoint both workers are away, and worker 1 may not come back: cause 13.
 pub run-seen : (conditionOf (run .board .state) 0 ≡ Away) × (conditionOf (run .board .state) 1 ≡ Away) × (cause (ComeBack 1) (run .board) ≡ 13)
-unfolding run midway first second fresh made madeAll afterCalls next cause causes firstStanding badRecord anyUnder effect step formatStep actAt performAct advance advanceOf lineOf withLine fieldIndex fieldOf withField feed changed countUnder fewer advanced checkpointStep stepped nthUnder bitsIn bitOf withBit contains added size nth strays
+unfolding run midway first second fresh made madeAll afterCalls next cause causes firstStanding badRecord anyUnder effect step formatStep actAt performAct advance advanceOf lineOf withLine fieldIndex fieldOf withField feed changed countUnder fewer advanced checkpointStep stepped nthFrom nthUnder bitsIn bitOf withBit contains added size nth strays
 run-seen = (refl, refl, refl)
 
 -- The recovery's start is taken, and then six steps.
 run-takes : PlayedRecovery run garbage cutCache recoveryCalls 6
-unfolding takesTest byKind undoSteps recoveryCalls run midway first second cutCache fresh made madeAll afterCalls next cause causes firstStanding badRecord anyUnder effect step formatStep recoveryStep actAt performAct advance advanceOf lineOf withLine fieldIndex fieldOf withField feed changed countUnder fewer advanced checkpointStep stepped nthUnder bitsIn bitOf withBit contains added size nth strays
+unfolding takesTest byKind undoSteps recoveryCalls run midway first second cutCache fresh made madeAll afterCalls next cause causes firstStanding badRecord anyUnder effect step formatStep recoveryStep actAt performAct advance advanceOf lineOf withLine fieldIndex fieldOf withField feed changed countUnder fewer advanced checkpointStep stepped nthFrom nthUnder bitsIn bitOf withBit contains added size nth strays
 run-takes = record { sameLength = refl; test = refl; count = refl }
 
 -- What the machine held at the last completed checkpoint: 7 in cell 2.
 run-values : (linesOf (run .board .memory) ≡ 2) × (run .machine .checkpointed 2 ≡ 7)
-unfolding run midway first second fresh made madeAll afterCalls next cause causes firstStanding badRecord anyUnder effect step formatStep actAt performAct advance advanceOf lineOf withLine fieldIndex fieldOf withField feed changed countUnder fewer advanced checkpointStep stepped nthUnder bitsIn bitOf withBit contains added size nth strays
+unfolding run midway first second fresh made madeAll afterCalls next cause causes firstStanding badRecord anyUnder effect step formatStep actAt performAct advance advanceOf lineOf withLine fieldIndex fieldOf withField feed changed countUnder fewer advanced checkpointStep stepped nthFrom nthUnder bitsIn bitOf withBit contains added size nth strays
 run-values = (refl, refl)
 
 -- "What a cut brings back is still the last checkpoint, whoever was away": a read of cell 2 returns 0 and gives 7.

@@ -4,7 +4,7 @@ use mathlib.Core.Path.{_≡_, refl}
 use mathlib.Core.List.{List, [], _∷_}
 use native.Mathlib.Omega.{arith}
 use lib.ListN.{replicate}
-use Rattle.bitset.specs.Passing.{anyUnder, countUnder, nthUnder}
+use Rattle.bitset.specs.Passing.{anyUnder, countUnder, nthFrom, nthUnder}
 use Rattle.bitset.specs.Words.{bitsIn, bitOf, withBit, contains, inserted as added, size, nth, strays}
 use Rattle.line.specs.Line.{lineOf, withLine}
 use Rattle.line.specs.Cell.{fieldIndex, fieldOf, withField}
@@ -55,7 +55,7 @@ recoveredBoard = cutAndPlayed run garbage cutCache recoveryCalls
 -- ---- the history is one, and the recovery is finished
 
 begins-fresh : Begins fresh (beginning 1)
-unfolding fresh afterCalls takesTest byKind next cause causes firstStanding badRecord anyUnder effect step formatStep withLine countUnder nthUnder bitsIn bitOf withBit contains added size nth strays
+unfolding fresh afterCalls takesTest byKind next cause causes firstStanding badRecord anyUnder effect step formatStep withLine countUnder nthFrom nthUnder bitsIn bitOf withBit contains added size nth strays
 begins-fresh =
     formatted 1 1 _ (blankFor 1) _ fresh (performing (FormatStart 1 1) (blankFor 1) refl refl refl) (tested 3 (Step ∷ Step ∷ Step ∷ []) (next (FormatStart 1 1) (blankFor 1)) refl)
 
@@ -70,17 +70,17 @@ paged-history text = further run-history (pages text (pageLeft (run .board) text
 
 -- With 204 bytes the page is taken, with one fewer it is refused.
 pub paged : (pageCause (run .board) (replicate 204 170) ≡ 0) × (pageCause (run .board) (replicate 203 170) ≡ 12)
-unfolding run calls fresh made madeAll afterCalls next cause causes firstStanding badRecord anyUnder effect step formatStep recoveryStep actAt performAct advance advanceOf lineOf withLine fieldIndex fieldOf withField feed changed countUnder fewer advanced checkpointStep stepped writeBackSeen pageCause pageCauses nthUnder bitsIn bitOf withBit contains added size nth strays
+unfolding run calls fresh made madeAll afterCalls next cause causes firstStanding badRecord anyUnder effect step formatStep recoveryStep actAt performAct advance advanceOf lineOf withLine fieldIndex fieldOf withField feed changed countUnder fewer advanced checkpointStep stepped writeBackSeen pageCause pageCauses nthFrom nthUnder bitsIn bitOf withBit contains added size nth strays
 paged = (refl, refl)
 
 -- The recovery's start is taken, and then six steps, with two taken write-backs and a refused read among them.
 run-takes : PlayedRecovery run garbage cutCache recoveryCalls 6
-unfolding takesTest byKind undoSteps recoveryCalls run calls cutCache fresh made madeAll afterCalls next cause causes firstStanding badRecord anyUnder effect step formatStep recoveryStep actAt performAct advance advanceOf lineOf withLine fieldIndex fieldOf withField feed changed countUnder fewer advanced checkpointStep stepped writeBackSeen nthUnder bitsIn bitOf withBit contains added size nth strays
+unfolding takesTest byKind undoSteps recoveryCalls run calls cutCache fresh made madeAll afterCalls next cause causes firstStanding badRecord anyUnder effect step formatStep recoveryStep actAt performAct advance advanceOf lineOf withLine fieldIndex fieldOf withField feed changed countUnder fewer advanced checkpointStep stepped writeBackSeen nthFrom nthUnder bitsIn bitOf withBit contains added size nth strays
 run-takes = record { sameLength = refl; test = refl; count = refl }
 
 -- What the machine held at the last completed checkpoint: 7 in cell 1, on a board of one line.
 run-values : (linesOf (run .board .memory) ≡ 1) × (run .machine .checkpointed 1 ≡ 7)
-unfolding run calls fresh made madeAll afterCalls next cause causes firstStanding badRecord anyUnder effect step formatStep actAt performAct advance advanceOf lineOf withLine fieldIndex fieldOf withField feed changed countUnder fewer advanced checkpointStep stepped writeBackSeen nthUnder bitsIn bitOf withBit contains added size nth strays
+unfolding run calls fresh made madeAll afterCalls next cause causes firstStanding badRecord anyUnder effect step formatStep actAt performAct advance advanceOf lineOf withLine fieldIndex fieldOf withField feed changed countUnder fewer advanced checkpointStep stepped writeBackSeen nthFrom nthUnder bitsIn bitOf withBit contains added size nth strays
 run-values = (refl, refl)
 
 -- A read of cell 1 then returns 0 and gives 7.

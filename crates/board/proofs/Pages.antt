@@ -1,7 +1,7 @@
 -- The worked page and the table of pages, computed.
 use mathlib.Core.Path.{_≡_, refl}
 use mathlib.Core.List.{flatten}
-use Rattle.bitset.specs.Passing.{anyUnder, countUnder, nthUnder}
+use Rattle.bitset.specs.Passing.{anyUnder, countUnder, nthFrom, nthUnder}
 use Rattle.bitset.specs.Words.{bitsIn, bitOf, withBit, contains, inserted as added, size, nth, strays}
 use Rattle.text.specs.Numbers.{spelled}
 use Rattle.line.specs.Cell.{fieldIndex, fieldOf}
@@ -11,5 +11,5 @@ use Rattle.board.specs.Bench.{same}
 use Rattle.board.specs.Pages.{pageTable, pageGives, allPages, PagesHold}
 
 pub pages-hold : PagesHold
-unfolding flatten same spelled lineText before inserted ordered numbersUnder pageText pageCauses pageCause pageLeft firstStanding badRecord anyUnder fieldIndex fieldOf pageTable pageGives allPages countUnder nthUnder bitsIn bitOf withBit contains added size nth strays
+unfolding flatten same spelled lineText before inserted ordered numbersUnder pageText pageCauses pageCause pageLeft firstStanding badRecord anyUnder fieldIndex fieldOf pageTable pageGives allPages countUnder nthFrom nthUnder bitsIn bitOf withBit contains added size nth strays
 pages-hold = record { worked = refl; past = refl; refused = refl; table = refl }

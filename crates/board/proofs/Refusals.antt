@@ -2,7 +2,7 @@
 use mathlib.Core.Path.{_≡_, refl}
 use mathlib.Core.List.{flatten}
 use mathlib.Core.Bool.{true}
-use Rattle.bitset.specs.Passing.{anyUnder, countUnder, nthUnder}
+use Rattle.bitset.specs.Passing.{anyUnder, countUnder, nthFrom, nthUnder}
 use Rattle.bitset.specs.Words.{bitsIn, bitOf, withBit, contains, inserted as added, size, nth, strays}
 use Rattle.line.specs.Line.{lineOf, withLine}
 use Rattle.line.specs.Cell.{fieldIndex, fieldOf, withField}
@@ -14,7 +14,7 @@ use Rattle.board.specs.Refusals.{refusals, RefusalsHold}
 use Rattle.board.proofs.Bench.{allHold, each}
 
 tested : allHold refusals ≡ true
-unfolding flatten allHold refusals holds allTakenIn afterEvents sees allSeen next valueRead cause causes firstStanding badRecord anyUnder effect step formatStep recoveryStep actAt performAct advance advanceOf lineOf withLine fieldIndex fieldOf withField same countUnder nthUnder bitsIn bitOf withBit contains added size nth strays valueCounted
+unfolding flatten allHold refusals holds allTakenIn afterEvents sees allSeen next valueRead cause causes firstStanding badRecord anyUnder effect step formatStep recoveryStep actAt performAct advance advanceOf lineOf withLine fieldIndex fieldOf withField same countUnder nthFrom nthUnder bitsIn bitOf withBit contains added size nth strays valueCounted
 tested = refl
 
 -- Every call is turned down and taken as the table of refusals says.

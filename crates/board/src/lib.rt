@@ -41,14 +41,15 @@ pub struct Worker {
 }
 
 // The state record: phase, L, W, the place reached (with a recovery's step), whether a checkpoint was requested,
-// the dirty lines, which the next checkpoint writes back, a bit a line (crate `bitset`), and the eight workers.
+// the dirty lines, which the next checkpoint writes back, a bit a line (crate `bitset`), and the eight workers. The
+// order of the small fields leaves no gap before the dirty lines (docs/BENCH.md).
 pub struct State {
     pub phase: Phase,
-    pub lines: u16,
     pub workers: u8,
-    pub place: u16,
     pub undo: UndoStep,
     pub requested: bool,
+    pub lines: u16,
+    pub place: u16,
     pub dirty: [u64; 8],
     pub worker: [Worker; 8],
 }
