@@ -20,30 +20,23 @@ ghost use Rattle.board.specs.Next.{lent};
 ghost use Rattle.board.specs.Page.{pageCause};
 
 // Format's start looks at its own L and W, and at the rows for that L.
-pub fn of_format_start(
-    state: State,
-    memory: &[u64],
-    cache: &[u64],
-    entries: &[u16],
-    lines: u64,
-    workers: u64,
-) -> u8
+pub fn of_format_start(state: State, memory: &[u64], cache: &[u64], lines: u64, workers: u64) -> u8
     ensures { λ r. ⌜ r ≡ cause (Call.FormatStart lines workers)
-        (lent state (now (memory .entry)) (now (cache .entry)) (now (entries .entry))) ⌝ }
+        (lent state (now (memory .entry)) (now (cache .entry))) ⌝ }
 {
     first(Causes {
         limits: limits::outside(lines, workers),
-        rows: rows::bad_rows(limits::capped(lines), memory, cache, entries),
+        rows: rows::bad_rows(limits::capped(lines), memory, cache),
         ..NONE
     })
 }
 
 // Recovery's start looks at the rows and at memory's header and, where those pass, at every mark in memory.
-pub fn of_recovery_start(state: State, memory: &[u64], cache: &[u64], entries: &[u16]) -> u8
+pub fn of_recovery_start(state: State, memory: &[u64], cache: &[u64]) -> u8
     ensures { λ r. ⌜ r ≡ cause Call.RecoveryStart
-        (lent state (now (memory .entry)) (now (cache .entry)) (now (entries .entry))) ⌝ }
+        (lent state (now (memory .entry)) (now (cache .entry))) ⌝ }
 {
-    let rows = rows::bad_recovery_rows(memory, cache, entries);
+    let rows = rows::bad_recovery_rows(memory, cache);
     let header = rows::bad_header(memory);
     if rows | header {
         return first(Causes {
@@ -59,15 +52,15 @@ pub fn of_recovery_start(state: State, memory: &[u64], cache: &[u64], entries: &
 }
 
 // A step looks at all that its phase and its place ask for.
-pub fn of_step(state: State, memory: &[u64], cache: &[u64], entries: &[u16]) -> u8
+pub fn of_step(state: State, memory: &[u64], cache: &[u64]) -> u8
     ensures { λ r. ⌜ r ≡ cause Call.Step
-        (lent state (now (memory .entry)) (now (cache .entry)) (now (entries .entry))) ⌝ }
+        (lent state (now (memory .entry)) (now (cache .entry))) ⌝ }
 {
     let unready = record::not_ready(state);
     first(Causes {
         phase: phases::not_on(state),
         state: record::bad_step_record(state, unready),
-        rows: rows::bad_rows(state.lines, memory, cache, entries) | rows::bad_entry(state, entries),
+        rows: rows::bad_rows(state.lines, memory, cache),
         checkpoint: unready,
         epoch: rows::stores_spent_epoch(state, cache),
         ..NONE
@@ -75,21 +68,14 @@ pub fn of_step(state: State, memory: &[u64], cache: &[u64], entries: &[u16]) -> 
 }
 
 // An update looks at the worker and the data cell, and at what the other workers update.
-pub fn of_update(
-    state: State,
-    memory: &[u64],
-    cache: &[u64],
-    entries: &[u16],
-    worker: u64,
-    cell: u64,
-) -> u8
+pub fn of_update(state: State, memory: &[u64], cache: &[u64], worker: u64, cell: u64) -> u8
     ensures { λ r. ⌜ ((v : ℕ) → r ≡ cause (Call.Update worker cell v)
-        (lent state (now (memory .entry)) (now (cache .entry)) (now (entries .entry)))) ⌝ }
+        (lent state (now (memory .entry)) (now (cache .entry)))) ⌝ }
 {
     first(Causes {
         phase: phases::not_running(state),
         state: record::bad_record(state),
-        rows: rows::bad_rows(state.lines, memory, cache, entries),
+        rows: rows::bad_rows(state.lines, memory, cache),
         worker: record::no_worker(state, worker),
         address: record::no_data_cell(state, cell),
         condition: record::busy(state, worker),
@@ -99,20 +85,14 @@ pub fn of_update(
 }
 
 // A restart point is an update of the worker's own cell, which is no data cell.
-pub fn of_restart_point(
-    state: State,
-    memory: &[u64],
-    cache: &[u64],
-    entries: &[u16],
-    worker: u64,
-) -> u8
+pub fn of_restart_point(state: State, memory: &[u64], cache: &[u64], worker: u64) -> u8
     ensures { λ r. ⌜ ((v : ℕ) → r ≡ cause (Call.RestartPoint worker v)
-        (lent state (now (memory .entry)) (now (cache .entry)) (now (entries .entry)))) ⌝ }
+        (lent state (now (memory .entry)) (now (cache .entry)))) ⌝ }
 {
     first(Causes {
         phase: phases::not_running(state),
         state: record::bad_record(state),
-        rows: rows::bad_rows(state.lines, memory, cache, entries),
+        rows: rows::bad_rows(state.lines, memory, cache),
         worker: record::no_worker(state, worker),
         condition: record::busy(state, worker),
         conflict: record::others_update(state, worker, worker),
@@ -120,15 +100,15 @@ pub fn of_restart_point(
     })
 }
 
-// An advance looks at the worker, and at the room in the list where it must add a cell.
-pub fn of_advance(state: State, memory: &[u64], cache: &[u64], entries: &[u16], worker: u64) -> u8
+// An advance looks at the worker, which must be in the middle of an update.
+pub fn of_advance(state: State, memory: &[u64], cache: &[u64], worker: u64) -> u8
     ensures { λ r. ⌜ r ≡ cause (Call.Advance worker)
-        (lent state (now (memory .entry)) (now (cache .entry)) (now (entries .entry))) ⌝ }
+        (lent state (now (memory .entry)) (now (cache .entry))) ⌝ }
 {
     first(Causes {
         phase: phases::not_running(state),
-        state: record::bad_record(state) | record::list_full(state, worker),
-        rows: rows::bad_rows(state.lines, memory, cache, entries),
+        state: record::bad_record(state),
+        rows: rows::bad_rows(state.lines, memory, cache),
         worker: record::no_worker(state, worker),
         condition: record::idle(state, worker),
         ..NONE
@@ -136,14 +116,14 @@ pub fn of_advance(state: State, memory: &[u64], cache: &[u64], entries: &[u16], 
 }
 
 // A request looks at whether one stands, and at the cache's epoch.
-pub fn of_request(state: State, memory: &[u64], cache: &[u64], entries: &[u16]) -> u8
+pub fn of_request(state: State, memory: &[u64], cache: &[u64]) -> u8
     ensures { λ r. ⌜ r ≡ cause Call.Request
-        (lent state (now (memory .entry)) (now (cache .entry)) (now (entries .entry))) ⌝ }
+        (lent state (now (memory .entry)) (now (cache .entry))) ⌝ }
 {
     first(Causes {
         phase: phases::not_running(state),
         state: record::bad_record(state),
-        rows: rows::bad_rows(state.lines, memory, cache, entries),
+        rows: rows::bad_rows(state.lines, memory, cache),
         checkpoint: state.requested,
         epoch: rows::epoch_spent(cache),
         ..NONE
@@ -151,42 +131,54 @@ pub fn of_request(state: State, memory: &[u64], cache: &[u64], entries: &[u16]) 
 }
 
 // A write-back looks at the line.
-pub fn of_write_back(state: State, memory: &[u64], cache: &[u64], entries: &[u16], line: u64) -> u8
+pub fn of_write_back(state: State, memory: &[u64], cache: &[u64], line: u64) -> u8
     ensures { λ r. ⌜ r ≡ cause (Call.WriteBack line)
-        (lent state (now (memory .entry)) (now (cache .entry)) (now (entries .entry))) ⌝ }
+        (lent state (now (memory .entry)) (now (cache .entry))) ⌝ }
 {
     first(Causes {
         phase: phases::not_recovering_or_running(state),
         state: record::bad_record(state),
-        rows: rows::bad_rows(state.lines, memory, cache, entries),
+        rows: rows::bad_rows(state.lines, memory, cache),
         address: record::no_line(state, line),
         ..NONE
     })
 }
 
 // A read looks at the cell.
-pub fn of_read(state: State, memory: &[u64], cache: &[u64], entries: &[u16], cell: u64) -> u8
+pub fn of_read(state: State, memory: &[u64], cache: &[u64], cell: u64) -> u8
     ensures { λ r. ⌜ r ≡ cause (Call.Read cell)
-        (lent state (now (memory .entry)) (now (cache .entry)) (now (entries .entry))) ⌝ }
+        (lent state (now (memory .entry)) (now (cache .entry))) ⌝ }
 {
     first(Causes {
         phase: phases::not_running(state),
         state: record::bad_record(state),
-        rows: rows::bad_rows(state.lines, memory, cache, entries),
+        rows: rows::bad_rows(state.lines, memory, cache),
         address: record::no_cell(state, cell),
         ..NONE
     })
 }
 
-// Going away looks at the worker, which must be free.
-pub fn of_go_away(state: State, memory: &[u64], cache: &[u64], entries: &[u16], worker: u64) -> u8
-    ensures { λ r. ⌜ r ≡ cause (Call.GoAway worker)
-        (lent state (now (memory .entry)) (now (cache .entry)) (now (entries .entry))) ⌝ }
+// The count looks at nothing but the phase, the record and the rows.
+pub fn of_count(state: State, memory: &[u64], cache: &[u64]) -> u8
+    ensures { λ r. ⌜ r ≡ cause Call.Count (lent state (now (memory .entry)) (now (cache .entry))) ⌝ }
 {
     first(Causes {
         phase: phases::not_running(state),
         state: record::bad_record(state),
-        rows: rows::bad_rows(state.lines, memory, cache, entries),
+        rows: rows::bad_rows(state.lines, memory, cache),
+        ..NONE
+    })
+}
+
+// Going away looks at the worker, which must be free.
+pub fn of_go_away(state: State, memory: &[u64], cache: &[u64], worker: u64) -> u8
+    ensures { λ r. ⌜ r ≡ cause (Call.GoAway worker)
+        (lent state (now (memory .entry)) (now (cache .entry))) ⌝ }
+{
+    first(Causes {
+        phase: phases::not_running(state),
+        state: record::bad_record(state),
+        rows: rows::bad_rows(state.lines, memory, cache),
         worker: record::no_worker(state, worker),
         condition: record::busy(state, worker),
         ..NONE
@@ -194,14 +186,14 @@ pub fn of_go_away(state: State, memory: &[u64], cache: &[u64], entries: &[u16], 
 }
 
 // Coming back looks at the worker, which must be away, and at whether a checkpoint has begun.
-pub fn of_come_back(state: State, memory: &[u64], cache: &[u64], entries: &[u16], worker: u64) -> u8
+pub fn of_come_back(state: State, memory: &[u64], cache: &[u64], worker: u64) -> u8
     ensures { λ r. ⌜ r ≡ cause (Call.ComeBack worker)
-        (lent state (now (memory .entry)) (now (cache .entry)) (now (entries .entry))) ⌝ }
+        (lent state (now (memory .entry)) (now (cache .entry))) ⌝ }
 {
     first(Causes {
         phase: phases::not_running(state),
         state: record::bad_record(state),
-        rows: rows::bad_rows(state.lines, memory, cache, entries),
+        rows: rows::bad_rows(state.lines, memory, cache),
         worker: record::no_worker(state, worker),
         condition: record::not_away(state, worker),
         begun: record::checkpoint_begun(state),
@@ -210,15 +202,15 @@ pub fn of_come_back(state: State, memory: &[u64], cache: &[u64], entries: &[u16]
 }
 
 // A page looks at the room in its text row, last of all.
-pub fn of_page(state: State, memory: &[u64], cache: &[u64], entries: &[u16], text: &[u8]) -> u8
+pub fn of_page(state: State, memory: &[u64], cache: &[u64], text: &[u8]) -> u8
     ensures { λ r. ⌜ r ≡ pageCause
-        (lent state (now (memory .entry)) (now (cache .entry)) (now (entries .entry)))
+        (lent state (now (memory .entry)) (now (cache .entry)))
         (now (text .entry)) ⌝ }
 {
     first(Causes {
         phase: phases::not_running(state),
         state: record::bad_record(state),
-        rows: rows::bad_rows(state.lines, memory, cache, entries),
+        rows: rows::bad_rows(state.lines, memory, cache),
         text: rows::short_text(state.lines, text),
         ..NONE
     })

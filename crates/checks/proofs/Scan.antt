@@ -8,17 +8,21 @@ use mathlib.Core.List.{List, map}
 use lib.Dec.{leb, ltb, eqb}
 use lib.ListN.{length, length-map}
 use borrow.Author.Tests.{le-ltb, lt-ltb}
+use Rattle.bitset.specs.Passing.{anyUnder}
+use Rattle.bitset.specs.Words.{strays}
 use Rattle.board.specs.declared.State.{State}
+use Rattle.board.specs.declared.Phase.{Phase}
+use Rattle.board.specs.declared.Phase.the-variants.{Off, Formatting, Recovering, Running}
 use Rattle.board.specs.declared.Condition.{Condition}
 use Rattle.board.specs.declared.Condition.the-variants.{Free, Waiting, Updating, Away}
-use Rattle.board.specs.Board.{cells}
-use Rattle.board.specs.State.{anyUnder, anyWorker, conditionOf, quiescent, isRunning, updates, othersUpdate}
-use Rattle.board.specs.Causes.{badRecord, notReady}
+use Rattle.board.specs.Board.{cells, outside}
+use Rattle.board.specs.State.{anyWorker, conditionOf, quiescent, isRunning, updates, othersUpdate}
+use Rattle.board.specs.Causes.{placePast, badRecord, notReady}
 use Rattle.board.proofs.Laws.Bools.{and-off, and-left, and-right, and-not, or-right, not-of, none-under, under-none}
 use Rattle.checks.specs.declared.workers.Sought.{Sought}
 use Rattle.checks.specs.declared.workers.Sought.the-variants.{UpdateOf}
 use Rattle.checks.specs.Sought.{soughtIn, soughtAt}
-use Rattle.checks.specs.Sizes.{badSizes}
+use Rattle.checks.specs.Head.{headOf, headed, badHead}
 
 -- What is known of an array of structs speaks of the list of what they are made of, which is as long.
 pub length-unmade : (A B : Type 0) (f : A → B) (xs : List A) (n : ℕ) → length (map f xs) ≡ n → length xs ≡ n
@@ -72,8 +76,19 @@ waits-idle Bool.true Waiting test e = refl
 waits-idle Bool.true (Updating next c v) test e = absurd (true≢false e)
 waits-idle Bool.true Away test e = refl
 
--- The record of a running step that is ready is told by its sizes: all workers under W wait or are away, so that none has an update.
-pub ready-record : {running unready : Bool} (s : State) → running ≡ isRunning (s .phase) → unready ≡ notReady s → running && not unready ≡ true → badSizes s ≡ badRecord s
+-- The place is told by the head and the dirty lines.
+place-told : (phase : Phase) (s : State) → placePast phase (headed (headOf s) (s .dirty)) ≡ placePast phase s
+place-told Off s = refl
+place-told Formatting s = refl
+place-told Recovering s = refl
+place-told Running s = refl
+
+-- So is all of cause 3 but the workers' updates.
+pub head-told : (s : State) → badHead (headed (headOf s) (s .dirty)) ≡ badHead s
+head-told s = ap (λ (past : Bool). outside (s .lines) (s .workers) || strays (s .dirty) (s .lines) || past) (place-told (s .phase) s)
+
+-- The record of a running step that is ready is told without its workers: all workers under W wait or are away, so that none has an update.
+pub ready-record : {running unready : Bool} (s : State) → running ≡ isRunning (s .phase) → unready ≡ notReady s → running && not unready ≡ true → badHead s ≡ badRecord s
 unfolding badRecord
 ready-record {running} {unready} s p q t =
     let waits = anyWorker s (λ condition. not (quiescent condition)) in
@@ -81,5 +96,5 @@ ready-record {running} {unready} s p q t =
     let ready : notReady s ≡ false = sym q ∙ not-of unready (and-right running (not unready) t) in
     let all : waits ≡ false = or-right (not (s .requested)) waits (and-not (isRunning (s .phase)) (not (s .requested) || waits) ready on) in
     sym
-    (or-off (badSizes s) _
+    (or-off (badHead s) _
     (under-none 8 _ (λ i h. waits-idle (ltb i (s .workers)) (conditionOf s i) (leb (cells (s .lines))) (none-under 8 _ all i h))))

@@ -6,8 +6,8 @@ use lib.Dec.{ltb}
 use borrow.Author.Tests.{ltb-true, ltb-false, lt-ltb, le-ltb}
 use native.Mathlib.Omega.{arith}
 use native.Mathlib.Numerals.{add-one}
+use Rattle.bitset.specs.Passing.{anyUnder}
 use Rattle.board.specs.Board.{cells}
-use Rattle.board.specs.State.{anyUnder}
 use Rattle.board.proofs.Laws.Bools.{split}
 
 -- "W < 2L", halved.

@@ -6,11 +6,11 @@ use mathlib.Core.List.{List}
 use native.Mathlib.Omega.{arith}
 use lib.Dec.{ltb}
 use lib.ListN.{getD}
+use Rattle.bitset.specs.Passing.{anyUnder}
 use Rattle.line.specs.declared.Field.the-variants.{Mark}
 use Rattle.line.specs.Cell.{cellLine, fieldOffset, fieldOf}
 use Rattle.line.proofs.Part.{lent, field-read}
 use Rattle.board.specs.Board.{cells}
-use Rattle.board.specs.State.{anyUnder}
 use Rattle.checks.specs.Marks.{laterAt}
 use Rattle.checks.proofs.Tests.{under-more}
 

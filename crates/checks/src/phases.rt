@@ -46,7 +46,7 @@ pub fn is_running(phase: Phase) -> bool
 
 // "The step call needs a phase other than off."
 pub fn not_on(state: State) -> bool
-    ensures { λ r. ⌜ ((m c e : List ℕ) → r ≡ notOn (lent state m c e)) ⌝ }
+    ensures { λ r. ⌜ ((m c : List ℕ) → r ≡ notOn (lent state m c)) ⌝ }
 {
     let phase = state.phase;
     is_off(phase)
@@ -54,7 +54,7 @@ pub fn not_on(state: State) -> bool
 
 // "Write-back needs recovering or running."
 pub fn not_recovering_or_running(state: State) -> bool
-    ensures { λ r. ⌜ ((m c e : List ℕ) → r ≡ notRecoveringOrRunning (lent state m c e)) ⌝ }
+    ensures { λ r. ⌜ ((m c : List ℕ) → r ≡ notRecoveringOrRunning (lent state m c)) ⌝ }
 {
     let phase = state.phase;
     is_off(phase) | is_formatting(phase)
@@ -62,7 +62,7 @@ pub fn not_recovering_or_running(state: State) -> bool
 
 // "All else needs running."
 pub fn not_running(state: State) -> bool
-    ensures { λ r. ⌜ ((m c e : List ℕ) → r ≡ notRunning (lent state m c e)) ⌝ }
+    ensures { λ r. ⌜ ((m c : List ℕ) → r ≡ notRunning (lent state m c)) ⌝ }
 {
     let phase = state.phase;
     !is_running(phase)

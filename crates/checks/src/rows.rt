@@ -6,9 +6,9 @@ ghost use mathlib.Core.Path.{_≡_};
 ghost use mathlib.Core.List.{List};
 ghost use Prim.Native.Nat.{ℕ};
 ghost use lib.Dec.{ltb};
-ghost use lib.ListN.{length, getD};
+ghost use lib.ListN.{length};
 ghost use Rattle.board.specs.declared.State.{State};
-ghost use Rattle.board.specs.Causes.{badRows, badEntry, badRecoveryRows, badHeader, epochSpent, storesSpentEpoch};
+ghost use Rattle.board.specs.Causes.{badRows, badRecoveryRows, badHeader, epochSpent, storesSpentEpoch};
 ghost use Rattle.board.specs.Board.{restNotZero};
 ghost use Rattle.board.specs.Next.{lent};
 ghost use Rattle.board.specs.Page.{pageBytes};
@@ -16,20 +16,13 @@ ghost use Rattle.board.specs.Page.{pageBytes};
 // "2^64 − 1"
 const LAST_EPOCH: u64 = 0xffff_ffff_ffff_ffff;
 
-// An entry of the list, 0 past its end.
-pub fn entry(entries: &[u16], k: usize) -> u16
-    ensures { λ r. ⌜ r ≡ getD (now (entries .entry)) k 0 ⌝ }
-{
-    if k < entries.len() { entries[k] } else { 0 }
-}
-
-// "cache or memory not 8×(L+1) words, list under 2L"
-pub fn bad_rows(lines: u16, memory: &[u64], cache: &[u64], entries: &[u16]) -> bool
+// "cache or memory not 8×(L+1) words"
+pub fn bad_rows(lines: u16, memory: &[u64], cache: &[u64]) -> bool
     ensures { λ r. ⌜ ((s : State) →
-        r ≡ badRows lines (lent s (now (memory .entry)) (now (cache .entry)) (now (entries .entry)))) ⌝ }
+        r ≡ badRows lines (lent s (now (memory .entry)) (now (cache .entry)))) ⌝ }
 {
     let words = board::row_words(lines);
-    !(cache.len() == words) | !(memory.len() == words) | (entries.len() < board::list_words(lines))
+    !(cache.len() == words) | !(memory.len() == words)
 }
 
 // A page's text row is shorter than the page.
@@ -39,25 +32,13 @@ pub fn short_text(lines: u16, text: &[u8]) -> bool
     text.len() < board::page_bytes(lines)
 }
 
-// "a list entry that this step uses is 2L or more"
-pub fn bad_entry(state: State, entries: &[u16]) -> bool
-    ensures { λ r. ⌜ ((m c : List ℕ) → r ≡ badEntry (lent state m c (now (entries .entry)))) ⌝ }
-{
-    let place = state.place as usize;
-    record::checkpointing(state)
-        & (state.place < state.listed)
-        & (board::cells(state.lines) <= entry(entries, place) as u64)
-}
-
-// "at recovery's start: memory not a multiple of 8 in 16 to 4,096 words, cache of another length, list under (words div 4) − 2"
-pub fn bad_recovery_rows(memory: &[u64], cache: &[u64], entries: &[u16]) -> bool
+// "at recovery's start: memory not a multiple of 8 in 16 to 4,096 words, cache of another length"
+pub fn bad_recovery_rows(memory: &[u64], cache: &[u64]) -> bool
     ensures { λ r. ⌜ ((s : State) →
-        r ≡ badRecoveryRows (lent s (now (memory .entry)) (now (cache .entry)) (now (entries .entry)))) ⌝ }
+        r ≡ badRecoveryRows (lent s (now (memory .entry)) (now (cache .entry)))) ⌝ }
 {
     let words = memory.len();
-    !((words % 8 == 0) & (16 <= words) & (words <= 4096))
-        | !(cache.len() == words)
-        | (entries.len() < limits::less(words / 4, 2))
+    !((words % 8 == 0) & (16 <= words) & (words <= 4096)) | !(cache.len() == words)
 }
 
 // "words 3 to 7 not all zero"
@@ -84,14 +65,19 @@ pub fn bad_header(row: &[u64]) -> bool
 
 // "the cache's epoch 2^64 − 1, at a request"
 pub fn epoch_spent(cache: &[u64]) -> bool
-    ensures { λ r. ⌜ ((s : State) (m e : List ℕ) → r ≡ epochSpent (lent s m (now (cache .entry)) e)) ⌝ }
+    ensures { λ r. ⌜ ((s : State) (m : List ℕ) → r ≡ epochSpent (lent s m (now (cache .entry)))) ⌝ }
 {
     line::header_word_or_zero(cache, 0) == LAST_EPOCH
 }
 
-// "or at the epoch's store"
+// "or at the epoch's store": the dirty lines are counted only where a checkpoint steps
 pub fn stores_spent_epoch(state: State, cache: &[u64]) -> bool
-    ensures { λ r. ⌜ ((m e : List ℕ) → r ≡ storesSpentEpoch (lent state m (now (cache .entry)) e)) ⌝ }
+    ensures { λ r. ⌜ ((m : List ℕ) → r ≡ storesSpentEpoch (lent state m (now (cache .entry)))) ⌝ }
 {
-    record::checkpointing(state) & (state.place == state.listed) & epoch_spent(cache)
+    let dirty = state.dirty;
+    if record::checkpointing(state) {
+        (state.place as u64 == bitset::size(dirty)) & epoch_spent(cache)
+    } else {
+        false
+    }
 }

@@ -1,12 +1,12 @@
 // What the workers are doing, and the scans over those under W.
 use board::Condition;
 use board::State;
-use board::Store;
 use board::Worker;
 ghost use Prim.Native.Nat.{min};
 ghost use mathlib.Core.Path.{_≡_};
 ghost use lib.Dec.{leb, eqb};
-ghost use Rattle.board.specs.State.{conditionOf, isFree, isUpdating, isAway, quiescent, isMarkStore, mustList, updates, anyUnder};
+ghost use Rattle.bitset.specs.Passing.{anyUnder};
+ghost use Rattle.board.specs.State.{conditionOf, isFree, isUpdating, isAway, quiescent, updates};
 ghost use Rattle.checks.specs.Sought.{soughtIn, soughtAt};
 
 // What a scan looks for in a worker under W.
@@ -89,29 +89,6 @@ pub fn is_updating(condition: Condition) -> bool
         Condition::Free => false,
         Condition::Waiting => false,
         Condition::Updating { .. } => true,
-        Condition::Away => false,
-    }
-}
-
-// The next store of an update is the mark's.
-fn is_mark_store(next: Store) -> bool
-    ensures { λ r. ⌜ r ≡ isMarkStore next ⌝ }
-{
-    match next {
-        Store::Backup => false,
-        Store::Mark => true,
-        Store::Record => false,
-    }
-}
-
-// The worker's next advance "must add a cell" to the list.
-pub fn must_list(condition: Condition) -> bool
-    ensures { λ r. ⌜ r ≡ mustList condition ⌝ }
-{
-    match condition {
-        Condition::Free => false,
-        Condition::Waiting => false,
-        Condition::Updating { next, .. } => is_mark_store(next),
         Condition::Away => false,
     }
 }

@@ -7,6 +7,7 @@ use native.Mathlib.Omega.{arith}
 use lib.Dec.{eqb}
 use lib.ListN.{set}
 use borrow.Author.Tests.{le-leb, lt-leb, lt-ltb, le-ltb, eq-eqb, ne-eqb}
+use Rattle.bitset.specs.Words.{empty, nth}
 use Rattle.line.specs.declared.Field.{Field}
 use Rattle.line.specs.Line.{lineOf, withLine}
 use Rattle.line.specs.Cell.{cellLine, fieldOf, withField}
@@ -19,14 +20,14 @@ use Rattle.board.specs.declared.Condition.{Condition}
 use Rattle.board.specs.declared.Condition.the-variants.{Updating}
 use Rattle.board.specs.declared.Phase.the-variants.{Recovering}
 use Rattle.board.specs.Board.{Board, cells, headerWords, zeroWords, epochOf, linesOf, workersOf}
-use Rattle.board.specs.State.{started, placed, opened, released, conditioned, relisted}
-use Rattle.board.specs.Effects.{listedLine, Act, writeLine, storeEpoch, writeHeader, release, actAt, performAct, formatStep, logged, pastCell, recoveryStep, firstStore, noted, afterLast, advance}
+use Rattle.board.specs.State.{started, placed, opened, released, conditioned, dirtied, dirtyCount}
+use Rattle.board.specs.Effects.{Act, writeLine, storeEpoch, writeHeader, release, actAt, performAct, formatStep, logged, pastCell, recoveryStep, firstStore, noted, afterLast, advance}
 use Rattle.board.specs.Next.{lent}
 use Rattle.board.proofs.Laws.Bools.{chosen, passedOver}
 
 -- A board with equal parts.
-pub same-board : {s s′ : State} {m m′ c c′ e e′ : List ℕ} → s ≡ s′ → m ≡ m′ → c ≡ c′ → e ≡ e′ → lent s m c e ≡ lent s′ m′ c′ e′
-same-board p q r t = λ i. lent (p i) (q i) (r i) (t i)
+pub same-board : {s s′ : State} {m m′ c c′ : List ℕ} → s ≡ s′ → m ≡ m′ → c ≡ c′ → lent s m c ≡ lent s′ m′ c′
+same-board p q r = λ i. lent (p i) (q i) (r i)
 
 -- A choice by a test that the code found to hold.
 pub picked : {A : Type 0} {t u : Bool} {x z : A} (y : A) → t ≡ u → t ≡ true → z ≡ x → z ≡ cond u x y
@@ -38,16 +39,16 @@ dropped x p q e = e ∙ sym (passedOver _ x _ (sym p ∙ q))
 
 -- ---- format
 
-module _ (s : State) {s′ : State} (m c : List ℕ) {m′ c′ : List ℕ} (es : List ℕ) where
+module _ (s : State) {s′ : State} (m c : List ℕ) {m′ c′ : List ℕ} where
   -- A line up to L becomes zeros.
-  pub erased : s .place ≤ s .lines → s′ ≡ placed s (s .place + 1) (s .undo) → m′ ≡ withLine m (s .place) zeroWords → c′ ≡ withLine c (s .place) zeroWords → lent s′ m′ c′ es ≡ formatStep s (lent s m c es)
+  pub erased : s .place ≤ s .lines → s′ ≡ placed s (s .place + 1) (s .undo) → m′ ≡ withLine m (s .place) zeroWords → c′ ≡ withLine c (s .place) zeroWords → lent s′ m′ c′ ≡ formatStep s (lent s m c)
   unfolding formatStep
-  erased h p q r = picked _ (sym (le-leb (s .place) (s .lines) h)) refl (same-board p q r refl)
+  erased h p q r = picked _ (sym (le-leb (s .place) (s .lines) h)) refl (same-board p q r)
 
   -- Past line L the header is made.
-  pub headed : s .lines < s .place → s′ ≡ opened s 0 → m′ ≡ withLine m 0 (headerWords 1 (s .lines) (s .workers)) → c′ ≡ withLine c 0 (headerWords 1 (s .lines) (s .workers)) → lent s′ m′ c′ es ≡ formatStep s (lent s m c es)
+  pub headed : s .lines < s .place → s′ ≡ opened s empty → m′ ≡ withLine m 0 (headerWords 1 (s .lines) (s .workers)) → c′ ≡ withLine c 0 (headerWords 1 (s .lines) (s .workers)) → lent s′ m′ c′ ≡ formatStep s (lent s m c)
   unfolding formatStep
-  headed h p q r = dropped _ (sym (lt-leb (s .place) (s .lines) h)) refl (same-board p q r refl)
+  headed h p q r = dropped _ (sym (lt-leb (s .place) (s .lines) h)) refl (same-board p q r)
 
 -- ---- recovery
 
@@ -64,29 +65,29 @@ pub next-cell : (s : State) {s′ : State} {n : ℕ} → n ≡ cells (s .lines) 
 next-cell s e h p = picked _ (sym (lt-ltb (s .place + 1) (cells (s .lines)) (omega arith))) refl p
 
 -- Past the last cell the board runs.
-pub last-cell : (s : State) {s′ : State} {n : ℕ} → n ≡ cells (s .lines) → n ≤ s .place + 1 → s′ ≡ opened s (s .listed) → s′ ≡ pastCell s
+pub last-cell : (s : State) {s′ : State} {n : ℕ} → n ≡ cells (s .lines) → n ≤ s .place + 1 → s′ ≡ opened s (s .dirty) → s′ ≡ pastCell s
 last-cell s e h p = dropped _ (sym (le-ltb (s .place + 1) (cells (s .lines)) (omega arith))) refl p
 
-module _ (s : State) {s′ : State} (m c es : List ℕ) where
+module _ (s : State) {s′ : State} (m c : List ℕ) where
   -- "record := backup".
-  pub restores : {c′ : List ℕ} {t : Bool} {v : ℕ} → t ≡ logged c (s .place) → t ≡ true → s′ ≡ placed s (s .place) Unmark → v ≡ fieldOf c (s .place) Field.Backup → c′ ≡ withField c (s .place) Field.Record v → lent s′ m c′ es ≡ recoveryStep Restore s (lent s m c es)
+  pub restores : {c′ : List ℕ} {t : Bool} {v : ℕ} → t ≡ logged c (s .place) → t ≡ true → s′ ≡ placed s (s .place) Unmark → v ≡ fieldOf c (s .place) Field.Backup → c′ ≡ withField c (s .place) Field.Record v → lent s′ m c′ ≡ recoveryStep Restore s (lent s m c)
   unfolding recoveryStep
-  restores p q r f g = picked _ p q (same-board r refl (g ∙ ap (withField c (s .place) Field.Record) f) refl)
+  restores p q r f g = picked _ p q (same-board r refl (g ∙ ap (withField c (s .place) Field.Record) f))
 
   -- "any other, one step that stores nothing".
-  pub passes : {t : Bool} → t ≡ logged c (s .place) → t ≡ false → s′ ≡ pastCell s → lent s′ m c es ≡ recoveryStep Restore s (lent s m c es)
+  pub passes : {t : Bool} → t ≡ logged c (s .place) → t ≡ false → s′ ≡ pastCell s → lent s′ m c ≡ recoveryStep Restore s (lent s m c)
   unfolding recoveryStep
-  passes p q r = dropped _ p q (same-board r refl refl refl)
+  passes p q r = dropped _ p q (same-board r refl refl)
 
   -- "mark := 0".
-  pub unmarks : {c′ : List ℕ} → s′ ≡ placed s (s .place) WriteLine → c′ ≡ withField c (s .place) Field.Mark 0 → lent s′ m c′ es ≡ recoveryStep Unmark s (lent s m c es)
+  pub unmarks : {c′ : List ℕ} → s′ ≡ placed s (s .place) WriteLine → c′ ≡ withField c (s .place) Field.Mark 0 → lent s′ m c′ ≡ recoveryStep Unmark s (lent s m c)
   unfolding recoveryStep
-  unmarks p q = same-board p refl q refl
+  unmarks p q = same-board p refl q
 
   -- "its line written back".
-  pub writes : {m′ : List ℕ} {l : ℕ} → l ≡ cellLine (s .place) → s′ ≡ pastCell s → m′ ≡ withLine m l (lineOf c l) → lent s′ m′ c es ≡ recoveryStep WriteLine s (lent s m c es)
+  pub writes : {m′ : List ℕ} {l : ℕ} → l ≡ cellLine (s .place) → s′ ≡ pastCell s → m′ ≡ withLine m l (lineOf c l) → lent s′ m′ c ≡ recoveryStep WriteLine s (lent s m c)
   unfolding recoveryStep
-  writes e p q = same-board p (q ∙ ap (λ (l : ℕ). withLine m l (lineOf c l)) e) refl refl
+  writes e p q = same-board p (q ∙ ap (λ (l : ℕ). withLine m l (lineOf c l)) e) refl
 
 -- The step that is next.
 pub undo-told : {u u′ : UndoStep} (s : State) (b : Board) {b′ : Board} → u ≡ u′ → b′ ≡ recoveryStep u′ s b → b′ ≡ recoveryStep u s b
@@ -94,25 +95,25 @@ undo-told s b p e = e ∙ ap (λ (x : UndoStep). recoveryStep x s b) (sym p)
 
 -- ---- updates and restart points
 
-module _ (s : State) {s′ : State} (m c es : List ℕ) (w cell v : ℕ) where
+module _ (s : State) {s′ : State} (m c : List ℕ) (w cell v : ℕ) where
   -- "The start notes it."
-  pub notes : {next : Store} → next ≡ firstStore c cell → s′ ≡ conditioned s w (Updating next cell v) → lent s′ m c es ≡ noted w cell v (lent s m c es)
-  notes p q = same-board (q ∙ ap (λ (x : Store). conditioned s w (Updating x cell v)) p) refl refl refl
+  pub notes : {next : Store} → next ≡ firstStore c cell → s′ ≡ conditioned s w (Updating next cell v) → lent s′ m c ≡ noted w cell v (lent s m c)
+  notes p q = same-board (q ∙ ap (λ (x : Store). conditioned s w (Updating x cell v)) p) refl refl
 
   -- "backup := record".
-  pub backs-up : {c′ : List ℕ} {old : ℕ} → old ≡ fieldOf c cell Field.Record → c′ ≡ withField c cell Field.Backup old → s′ ≡ conditioned s w (Updating Mark cell v) → lent s′ m c′ es ≡ advance Backup w cell v s (lent s m c es)
+  pub backs-up : {c′ : List ℕ} {old : ℕ} → old ≡ fieldOf c cell Field.Record → c′ ≡ withField c cell Field.Backup old → s′ ≡ conditioned s w (Updating Mark cell v) → lent s′ m c′ ≡ advance Backup w cell v s (lent s m c)
   unfolding advance
-  backs-up f p q = same-board q refl (p ∙ ap (withField c cell Field.Backup) f) refl
+  backs-up f p q = same-board q refl (p ∙ ap (withField c cell Field.Backup) f)
 
-  -- "mark := epoch, and the cell is added to the list".
-  pub marks : {c′ : List ℕ} {epoch : ℕ} {es′ : List ℕ} {s″ : State} → epoch ≡ epochOf c → c′ ≡ withField c cell Field.Mark epoch → es′ ≡ set es (s .listed) cell → s″ ≡ conditioned s w (Updating Record cell v) → s′ ≡ relisted s″ (s .listed + 1) → lent s′ m c′ es′ ≡ advance Mark w cell v s (lent s m c es)
+  -- "mark := epoch", and the bit of the cell's line.
+  pub marks : {c′ : List ℕ} {epoch l : ℕ} {s″ : State} → epoch ≡ epochOf c → c′ ≡ withField c cell Field.Mark epoch → l ≡ cellLine cell → s″ ≡ conditioned s w (Updating Record cell v) → s′ ≡ dirtied s″ l → lent s′ m c′ ≡ advance Mark w cell v s (lent s m c)
   unfolding advance
-  marks f p q r t = same-board (t ∙ ap (λ (x : State). relisted x (s .listed + 1)) r) refl (p ∙ ap (withField c cell Field.Mark) f) q
+  marks f p e r t = same-board (t ∙ (λ i. dirtied (r i) (e i))) refl (p ∙ ap (withField c cell Field.Mark) f)
 
   -- "record := value".
-  pub records : {c′ : List ℕ} {k : Condition} → k ≡ afterLast s cell → c′ ≡ withField c cell Field.Record v → s′ ≡ conditioned s w k → lent s′ m c′ es ≡ advance Record w cell v s (lent s m c es)
+  pub records : {c′ : List ℕ} {k : Condition} → k ≡ afterLast s cell → c′ ≡ withField c cell Field.Record v → s′ ≡ conditioned s w k → lent s′ m c′ ≡ advance Record w cell v s (lent s m c)
   unfolding advance
-  records f p q = same-board (q ∙ ap (λ (k : Condition). conditioned s w k) f) refl p refl
+  records f p q = same-board (q ∙ ap (λ (k : Condition). conditioned s w k) f) refl p
 
 -- The store that is next.
 pub store-told : {u u′ : Store} (w cell v : ℕ) (s : State) (b : Board) {b′ : Board} → u ≡ u′ → b′ ≡ advance u′ w cell v s b → b′ ≡ advance u w cell v s b
@@ -138,27 +139,27 @@ unfolding actAt
 act-release {n} {place} h o p =
     passedOver _ _ _ (le-ltb place n h) ∙ passedOver _ _ _ (ne-eqb place n o) ∙ passedOver _ _ _ (ne-eqb place (n + 1) p)
 
--- The act that comes at the place.
-acted : {a : Act} (s : State) (b : Board) {b′ : Board} → actAt (s .listed) (s .place) ≡ a → b′ ≡ performAct a s b → b′ ≡ performAct (actAt (s .listed) (s .place)) s b
-acted s b p e = e ∙ ap (λ (x : Act). performAct x s b) (sym p)
+-- The act that comes at the place, after `n` dirty lines.
+acted : {a : Act} {n : ℕ} (s : State) (b : Board) {b′ : Board} → n ≡ dirtyCount s → actAt n (s .place) ≡ a → b′ ≡ performAct a s b → b′ ≡ performAct (actAt (dirtyCount s) (s .place)) s b
+acted s b k p e = e ∙ ap (λ (x : Act). performAct x s b) (sym p ∙ ap (λ (x : ℕ). actAt x (s .place)) k)
 
-module _ (s : State) {s′ : State} (m c es : List ℕ) where
-  -- "one step for each list entry, writing that cell's line back".
-  pub writes-listed : {m′ : List ℕ} {l : ℕ} → l ≡ listedLine (s .place) es → s .place < s .listed → s′ ≡ placed s (s .place + 1) (s .undo) → m′ ≡ withLine m l (lineOf c l) → lent s′ m′ c es ≡ performAct (actAt (s .listed) (s .place)) s (lent s m c es)
+module _ (s : State) {s′ : State} (m c : List ℕ) {n : ℕ} (count : n ≡ dirtyCount s) where
+  -- "writes the set lines in rising order".
+  pub writes-dirty : {m′ : List ℕ} {l : ℕ} → l ≡ nth (s .dirty) (s .place) → s .place < n → s′ ≡ placed s (s .place + 1) (s .undo) → m′ ≡ withLine m l (lineOf c l) → lent s′ m′ c ≡ performAct (actAt (dirtyCount s) (s .place)) s (lent s m c)
   unfolding performAct
-  writes-listed e h p q = acted s (lent s m c es) (act-line h) (same-board p (q ∙ ap (λ (l : ℕ). withLine m l (lineOf c l)) e) refl refl)
+  writes-dirty e h p q = acted s (lent s m c) count (act-line h) (same-board p (q ∙ ap (λ (l : ℕ). withLine m l (lineOf c l)) e) refl)
 
   -- "epoch := epoch + 1 in the cache".
-  pub stores-epoch : {c′ : List ℕ} {epoch : ℕ} → s .place ≡ s .listed → s′ ≡ placed s (s .place + 1) (s .undo) → epoch ≡ epochOf c → c′ ≡ set c 0 (epoch + 1) → lent s′ m c′ es ≡ performAct (actAt (s .listed) (s .place)) s (lent s m c es)
+  pub stores-epoch : {c′ : List ℕ} {epoch : ℕ} → s .place ≡ n → s′ ≡ placed s (s .place + 1) (s .undo) → epoch ≡ epochOf c → c′ ≡ set c 0 (epoch + 1) → lent s′ m c′ ≡ performAct (actAt (dirtyCount s) (s .place)) s (lent s m c)
   unfolding performAct
-  stores-epoch h p f q = acted s (lent s m c es) (act-epoch h) (same-board p refl (q ∙ ap (λ (x : ℕ). set c 0 (x + 1)) f) refl)
+  stores-epoch h p f q = acted s (lent s m c) count (act-epoch h) (same-board p refl (q ∙ ap (λ (x : ℕ). set c 0 (x + 1)) f))
 
   -- "line 0 written back".
-  pub writes-header : {m′ : List ℕ} → s .place ≡ s .listed + 1 → s′ ≡ placed s (s .place + 1) (s .undo) → m′ ≡ withLine m 0 (lineOf c 0) → lent s′ m′ c es ≡ performAct (actAt (s .listed) (s .place)) s (lent s m c es)
+  pub writes-header : {m′ : List ℕ} → s .place ≡ n + 1 → s′ ≡ placed s (s .place + 1) (s .undo) → m′ ≡ withLine m 0 (lineOf c 0) → lent s′ m′ c ≡ performAct (actAt (dirtyCount s) (s .place)) s (lent s m c)
   unfolding performAct
-  writes-header h p q = acted s (lent s m c es) (act-header (s .listed) h) (same-board p q refl refl)
+  writes-header h p q = acted s (lent s m c) count (act-header n h) (same-board p q refl)
 
   -- "release".
-  pub releases : s .listed ≤ s .place → (s .place ≡ s .listed → ⊥) → (s .place ≡ s .listed + 1 → ⊥) → s′ ≡ released s → lent s′ m c es ≡ performAct (actAt (s .listed) (s .place)) s (lent s m c es)
+  pub releases : n ≤ s .place → (s .place ≡ n → ⊥) → (s .place ≡ n + 1 → ⊥) → s′ ≡ released s → lent s′ m c ≡ performAct (actAt (dirtyCount s) (s .place)) s (lent s m c)
   unfolding performAct
-  releases h o n p = acted s (lent s m c es) (act-release h o n) (same-board p refl refl refl)
+  releases h o k p = acted s (lent s m c) count (act-release h o k) (same-board p refl refl)

@@ -1,5 +1,8 @@
 -- What a step leaves of the state record, apart from L and W.
+use Prim.Native.Nat.{ℕ}
+use mathlib.Core.Bool.{Bool, cond}
 use mathlib.Core.List.{List}
+use Rattle.bitset.specs.Words.{empty}
 use Rattle.board.specs.declared.State.{State}
 use Rattle.board.specs.declared.Worker.{Worker}
 use Rattle.board.specs.State.{allFree, releasedWorkers}
@@ -13,7 +16,11 @@ workersAfter Kept s = s .worker
 workersAfter Freed s = allFree
 workersAfter Released s = releasedWorkers s
 
+-- The dirty lines after a step that cleared them, or kept them.
+abbrev pub dirtyAfter : Bool → List ℕ → List ℕ
+dirtyAfter cleared dirty = cond cleared empty dirty
+
 -- The record with a step's progress put in: L and W stay.
 abbrev pub progressed : State → Progress → State
 progressed s p =
-    record { phase = p .phase; lines = s .lines; workers = s .workers; listed = p .listed; place = p .place; undo = p .undo; requested = p .requested; worker = workersAfter (p .workers) s }
+    record { phase = p .phase; lines = s .lines; workers = s .workers; place = p .place; undo = p .undo; requested = p .requested; dirty = dirtyAfter (p .cleared) (s .dirty); worker = workersAfter (p .workers) s }

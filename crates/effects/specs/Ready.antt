@@ -1,14 +1,15 @@
 -- What a passed cause table gives: the bounds that the functions behind the calls ask for.
 use Prim.Native.Nat.{ℕ, _+_, _≤_, _<_}
 use mathlib.Core.Path.{_≡_}
+use mathlib.Core.Bool.{false}
 use mathlib.Core.List.{List}
-use lib.ListN.{length, getD}
+use lib.ListN.{length}
+use Rattle.bitset.specs.Words.{strays}
 use Rattle.board.specs.declared.State.{State}
-use Rattle.board.specs.declared.Store.{Store}
-use Rattle.board.specs.declared.Store.the-variants.{Mark}
 use Rattle.line.specs.Line.{lineStart}
 use Rattle.line.specs.Cell.{cellLine}
-use Rattle.board.specs.Board.{cells, rowWords, listWords, linesOf, workersOf, epochOf, lastEpoch}
+use Rattle.board.specs.Board.{cells, rowWords, linesOf, workersOf, epochOf, lastEpoch}
+use Rattle.board.specs.State.{dirtyCount}
 
 -- Rows of the lengths that the record's L asks, L within its limits.
 pub record Rows (s : State) (memory cache : List ℕ) : Type 0 where
@@ -33,21 +34,15 @@ pub record Recovers (s : State) (memory cache : List ℕ) : Type 0 where
   pub rows : Rows s memory cache
   pub place : s .place < cells (s .lines)
 
--- A checkpoint's place is an entry that names a cell, the epoch's store with a next epoch, or one of the two steps after it.
-pub record Checkpoints (s : State) (memory cache entries : List ℕ) : Type 0 where
+-- Every dirty line is one of lines 1 to L; a checkpoint's place is that of a dirty line, the epoch's store with a next epoch, or one of the two steps after it.
+pub record Checkpoints (s : State) (memory cache : List ℕ) : Type 0 where
   pub rows : Rows s memory cache
-  pub listed : s .listed ≤ cells (s .lines)
-  pub list : listWords (s .lines) ≤ length entries
-  pub place : s .place ≤ s .listed + 2
-  pub entry : s .place < s .listed → getD entries (s .place) 0 < cells (s .lines)
-  pub epoch : s .place ≡ s .listed → epochOf cache ≡ lastEpoch → ⊥
+  pub lines : strays (s .dirty) (s .lines) ≡ false
+  pub place : s .place ≤ dirtyCount s + 2
+  pub epoch : s .place ≡ dirtyCount s → epochOf cache ≡ lastEpoch → ⊥
 
--- A worker and a cell that are there.
+-- A worker and a cell that are there, with a bit for the cell's line.
 pub record Stores (cache : List ℕ) (worker cell : ℕ) : Type 0 where
   pub byWorker : worker < 8
   pub ofCell : lineStart (cellLine cell) + 8 ≤ length cache
-
--- An advance has a worker, a cell, and room in the list where it must add the cell.
-pub record Advances (s : State) (cache entries : List ℕ) (worker cell : ℕ) (next : Store) : Type 0 where
-  pub stores : Stores cache worker cell
-  pub room : next ≡ Mark → (s .listed < length entries) × (s .listed < 1022)
+  pub ofBit : cellLine cell < 512

@@ -1,8 +1,8 @@
 // Every way in which a step makes a new state record.
 ghost use mathlib.Core.Path.{_≡_};
 ghost use Prim.Native.Nat.{_+_, _<_};
-ghost use Rattle.effects.specs.Progress.{progressed};
-ghost use Rattle.board.specs.State.{started, placed, opened, requesting, afterRelease, releasedWorkers, released, conditioned, relisted};
+ghost use Rattle.effects.specs.Progress.{dirtyAfter, progressed};
+ghost use Rattle.board.specs.State.{started, placed, opened, requesting, afterRelease, releasedWorkers, released, conditioned, dirtied};
 use board::Condition;
 use board::Phase;
 use board::State;
@@ -20,10 +20,10 @@ pub fn started(phase: Phase, lines: u16, workers: u8) -> State
         phase,
         lines,
         workers,
-        listed: 0,
         place: 0,
         undo: UndoStep::Restore,
         requested: false,
+        dirty: [0; 8],
         worker,
     }
 }
@@ -35,14 +35,14 @@ pub enum Workers {
     Released,
 }
 
-// What a step leaves of the state record: these fields, and the eight workers. The record is made of it in one place,
-// `progressed`, so that it is copied once at most (docs/BENCH.md).
+// What a step leaves of the state record: these fields, whether it cleared the dirty lines, and the eight workers. The
+// record is made of it in one place, `progressed`, so that it is copied once at most (docs/BENCH.md).
 pub struct Progress {
     pub phase: Phase,
-    pub listed: u16,
     pub place: u16,
     pub undo: UndoStep,
     pub requested: bool,
+    pub cleared: bool,
     pub workers: Workers,
 }
 
@@ -83,6 +83,13 @@ fn released_workers(state: State) -> [Worker; 8]
     ]
 }
 
+// The dirty lines after a step that cleared them, or kept them.
+fn dirty_after(dirty: [u64; 8], cleared: bool) -> [u64; 8]
+    ensures { λ r. ⌜ r ≡ dirtyAfter cleared dirty ⌝ }
+{
+    if cleared { [0; 8] } else { dirty }
+}
+
 // The state record after a step.
 pub fn progressed(state: State, progress: Progress) -> State
     ensures { λ r. ⌜ r ≡ progressed state progress ⌝ }
@@ -90,6 +97,8 @@ pub fn progressed(state: State, progress: Progress) -> State
     let phase = progress.phase;
     let undo = progress.undo;
     let workers = progress.workers;
+    let before = state.dirty;
+    let dirty = dirty_after(before, progress.cleared);
     let mut worker = state.worker;
     match workers {
         Workers::Kept => {}
@@ -104,10 +113,10 @@ pub fn progressed(state: State, progress: Progress) -> State
         phase,
         lines: state.lines,
         workers: state.workers,
-        listed: progress.listed,
         place: progress.place,
         undo,
         requested: progress.requested,
+        dirty,
         worker,
     }
 }
@@ -119,10 +128,10 @@ pub fn placed(state: State, place: u16, undo: UndoStep) -> Progress
     let phase = state.phase;
     Progress {
         phase,
-        listed: state.listed,
         place,
         undo,
         requested: state.requested,
+        cleared: false,
         workers: Workers::Kept,
     }
 }
@@ -136,21 +145,21 @@ pub fn next_place(state: State) -> Progress
     placed(state, state.place + 1, undo)
 }
 
-// "Then running, all free": the end of a format or a recovery.
-pub fn opened(state: State, listed: u16) -> Progress
-    ensures { λ r. ⌜ progressed state r ≡ opened state listed ⌝ }
+// "Then running, all free": the end of a format, which clears the dirty lines, or of a recovery, which leaves them.
+pub fn opened(state: State, cleared: bool) -> Progress
+    ensures { λ r. ⌜ progressed state r ≡ opened state (dirtyAfter cleared (state .dirty)) ⌝ }
 {
     Progress {
         phase: Phase::Running,
-        listed,
         place: 0,
         undo: UndoStep::Restore,
         requested: state.requested,
+        cleared,
         workers: Workers::Freed,
     }
 }
 
-// "release, with all eight workers free" but those that are away, "list empty, request gone", in the phase that it is
+// "release, with all eight workers free" but those that are away, "request gone", no line dirty, in the phase that it is
 // in.
 pub fn released(state: State) -> Progress
     ensures { λ r. ⌜ progressed state r ≡ released state ⌝ }
@@ -158,10 +167,10 @@ pub fn released(state: State) -> Progress
     let phase = state.phase;
     Progress {
         phase,
-        listed: 0,
         place: 0,
         undo: UndoStep::Restore,
         requested: false,
+        cleared: true,
         workers: Workers::Released,
     }
 }
@@ -199,9 +208,12 @@ pub fn conditioned(state: State, worker: usize, condition: Condition) -> State
     next
 }
 
-// Another length of the list.
-pub fn relisted(state: State, listed: u16) -> State
-    ensures { λ r. ⌜ r ≡ relisted state listed ⌝ }
+// "a bit for each line": the bit of a line set.
+pub fn dirtied(state: State, line: u64) -> State
+    requires { ⌜ line < 512 ⌝ }
+    ensures { λ r. ⌜ r ≡ dirtied state line ⌝ }
 {
-    State { listed, ..state }
+    let before = state.dirty;
+    let dirty = bitset::inserted(before, line);
+    State { dirty, ..state }
 }

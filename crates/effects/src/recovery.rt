@@ -1,7 +1,6 @@
 // A recovery's start and its steps.
 ghost use mathlib.Core.Path.{_≡_};
-ghost use mathlib.Core.List.{List};
-ghost use Prim.Native.Nat.{ℕ, _≤_};
+ghost use Prim.Native.Nat.{_≤_};
 ghost use Rattle.board.specs.Board.{linesOf, workersOf};
 ghost use Rattle.board.specs.State.{started};
 ghost use Rattle.board.specs.Effects.{pastCell, recoveryStep};
@@ -20,7 +19,7 @@ use board::State;
 use board::UndoStep;
 use line::Field;
 
-// "The start copies memory to cache, list empty", with L and W from the header.
+// "The start copies memory to cache", with L and W from the header.
 pub fn restart(memory: &[u64], cache: &mut [u64]) -> State
     requires { ⌜ Restarts (now memory) (now cache) ⌝ }
     ensures { λ r. ⌜
@@ -39,20 +38,19 @@ fn past_cell(state: State) -> Progress
     ensures { λ r. ⌜ progressed state r ≡ pastCell state ⌝ }
 {
     let place = state.place as u64;
-    let listed = state.listed;
     if place + 1 < board::cells(state.lines) {
         placed(state, state.place + 1, UndoStep::Restore)
     } else {
-        opened(state, listed)
+        opened(state, false)
     }
 }
 
 // "record := backup" where the mark equals the epoch; any other cell, "one step that stores nothing".
 fn first_step(state: State, memory: &[u64], cache: &mut [u64]) -> Progress
     requires { ⌜ Recovers state (now memory) (now cache) ⌝ }
-    ensures { λ r. ⌜ ((es : List ℕ) →
-        lent (progressed state r) (now (memory .entry)) (now (cache .exit)) es
-        ≡ recoveryStep Restore state (lent state (now (memory .entry)) (now (cache .entry)) es)) ⌝ }
+    ensures { λ r. ⌜
+        lent (progressed state r) (now (memory .entry)) (now (cache .exit))
+        ≡ recoveryStep Restore state (lent state (now (memory .entry)) (now (cache .entry))) ⌝ }
 {
     let place = state.place;
     let cell = place as usize;
@@ -68,9 +66,9 @@ fn first_step(state: State, memory: &[u64], cache: &mut [u64]) -> Progress
 // "record := backup; mark := 0; its line written back."
 pub fn recovery_step(state: State, memory: &mut [u64], cache: &mut [u64]) -> Progress
     requires { ⌜ Recovers state (now memory) (now cache) ⌝ }
-    ensures { λ r. ⌜ ((es : List ℕ) →
-        lent (progressed state r) (now (memory .exit)) (now (cache .exit)) es
-        ≡ recoveryStep (state .undo) state (lent state (now (memory .entry)) (now (cache .entry)) es)) ⌝ }
+    ensures { λ r. ⌜
+        lent (progressed state r) (now (memory .exit)) (now (cache .exit))
+        ≡ recoveryStep (state .undo) state (lent state (now (memory .entry)) (now (cache .entry))) ⌝ }
 {
     let place = state.place;
     let cell = place as usize;

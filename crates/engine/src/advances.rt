@@ -8,18 +8,12 @@ use board::State;
 use effects::store_next;
 
 // What a taken advance does.
-pub fn taken_advance(
-    state: State,
-    memory: &[u64],
-    cache: &mut [u64],
-    entries: &mut [u16],
-    worker: u64,
-) -> State
-    requires { ⌜ Taken (Call.Advance worker) (lent state (now memory) (now cache) (now entries)) ⌝ }
+pub fn taken_advance(state: State, memory: &[u64], cache: &mut [u64], worker: u64) -> State
+    requires { ⌜ Taken (Call.Advance worker) (lent state (now memory) (now cache)) ⌝ }
     ensures { λ r. ⌜
-        lent r (now (memory .entry)) (now (cache .exit)) (now (entries .exit))
+        lent r (now (memory .entry)) (now (cache .exit))
         ≡ effect (Call.Advance worker)
-        (lent state (now (memory .entry)) (now (cache .entry)) (now (entries .entry))) ⌝ }
+        (lent state (now (memory .entry)) (now (cache .entry))) ⌝ }
 {
     let condition = checks::condition_of(state, worker);
     match condition {
@@ -28,7 +22,6 @@ pub fn taken_advance(
         Condition::Updating { next, cell, value } => store_next(
             state,
             cache,
-            entries,
             worker as usize,
             cell,
             value,

@@ -5,6 +5,7 @@ use crate::Answer;
 use crate::Reading;
 use crate::advance;
 use crate::come_back;
+use crate::count;
 use crate::format_start;
 use crate::go_away;
 use crate::read;
@@ -17,7 +18,7 @@ use crate::write_back;
 use board::Call;
 use board::State;
 
-// An answer with nothing read.
+// An answer with nothing read or counted.
 fn unread(answer: Answer) -> Reading
     ensures { λ r. ⌜ (r .number ≡ answer .number) × (r .value ≡ 0) × (r .state ≡ answer .state) ⌝ }
 {
@@ -29,48 +30,41 @@ fn unread(answer: Answer) -> Reading
     }
 }
 
-// The call that is named; the value is what a read read, 0 for every other call.
-pub fn perform(
-    call: Call,
-    state: State,
-    memory: &mut [u64],
-    cache: &mut [u64],
-    entries: &mut [u16],
-) -> Reading
+// The call that is named; the value is what a read read or the count counted, 0 for every other call.
+pub fn perform(call: Call, state: State, memory: &mut [u64], cache: &mut [u64]) -> Reading
     ensures performed { λ r. ⌜ Performed call
-        (lent state (now (memory .entry)) (now (cache .entry)) (now (entries .entry)))
+        (lent state (now (memory .entry)) (now (cache .entry)))
         (r .number) (r .value)
-        (lent (r .state) (now (memory .exit)) (now (cache .exit)) (now (entries .exit))) ⌝ }
+        (lent (r .state) (now (memory .exit)) (now (cache .exit))) ⌝ }
 {
     match call {
         Call::FormatStart { lines, workers } => unread(format_start(
             state,
             memory,
             cache,
-            entries,
             lines,
             workers,
         )),
-        Call::RecoveryStart => unread(recovery_start(state, memory, cache, entries)),
-        Call::Step => unread(step(state, memory, cache, entries)),
+        Call::RecoveryStart => unread(recovery_start(state, memory, cache)),
+        Call::Step => unread(step(state, memory, cache)),
         Call::Update {
             worker,
             cell,
             value,
-        } => unread(update(state, memory, cache, entries, worker, cell, value)),
+        } => unread(update(state, memory, cache, worker, cell, value)),
         Call::RestartPoint { worker, value } => unread(restart_point(
             state,
             memory,
             cache,
-            entries,
             worker,
             value,
         )),
-        Call::Advance { worker } => unread(advance(state, memory, cache, entries, worker)),
-        Call::Request => unread(request(state, memory, cache, entries)),
-        Call::WriteBack { line } => unread(write_back(state, memory, cache, entries, line)),
-        Call::Read { cell } => read(state, memory, cache, entries, cell),
-        Call::GoAway { worker } => unread(go_away(state, memory, cache, entries, worker)),
-        Call::ComeBack { worker } => unread(come_back(state, memory, cache, entries, worker)),
+        Call::Advance { worker } => unread(advance(state, memory, cache, worker)),
+        Call::Request => unread(request(state, memory, cache)),
+        Call::WriteBack { line } => unread(write_back(state, memory, cache, line)),
+        Call::Read { cell } => read(state, memory, cache, cell),
+        Call::GoAway { worker } => unread(go_away(state, memory, cache, worker)),
+        Call::ComeBack { worker } => unread(come_back(state, memory, cache, worker)),
+        Call::Count => count(state, memory, cache),
     }
 }

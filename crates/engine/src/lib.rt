@@ -1,5 +1,5 @@
-// The calls of documents 01 and 02 that a host can make. Each is lent all three rows and says its complete outcome, taken
-// or refused, as one equation with a definition of crate `board`.
+// The calls of documents 01 and 02 that a host can make. Each is lent both rows and says its complete outcome, taken or
+// refused, as one equation with a definition of crate `board`.
 mod advances;
 mod dispatch;
 mod steps;
@@ -42,7 +42,7 @@ pub struct Answer {
     pub state: State,
 }
 
-// The same with the value that was read.
+// The same with the value that was read or counted.
 pub struct Reading {
     pub number: u8,
     pub value: u64,
@@ -57,20 +57,13 @@ pub fn off() -> State
 }
 
 // A format's start; it "changes no row".
-pub fn format_start(
-    state: State,
-    memory: &[u64],
-    cache: &[u64],
-    entries: &[u16],
-    lines: u64,
-    workers: u64,
-) -> Answer
+pub fn format_start(state: State, memory: &[u64], cache: &[u64], lines: u64, workers: u64) -> Answer
     ensures performed { λ r. ⌜ Performed (Call.FormatStart lines workers)
-        (lent state (now (memory .entry)) (now (cache .entry)) (now (entries .entry)))
+        (lent state (now (memory .entry)) (now (cache .entry)))
         (r .number) 0
-        (lent (r .state) (now (memory .entry)) (now (cache .entry)) (now (entries .entry))) ⌝ }
+        (lent (r .state) (now (memory .entry)) (now (cache .entry))) ⌝ }
 {
-    let number = causes::of_format_start(state, memory, cache, entries, lines, workers);
+    let number = causes::of_format_start(state, memory, cache, lines, workers);
     if number != TAKEN {
         return Answer { number, state };
     }
@@ -82,13 +75,13 @@ pub fn format_start(
 }
 
 // A recovery's start.
-pub fn recovery_start(state: State, memory: &[u64], cache: &mut [u64], entries: &[u16]) -> Answer
+pub fn recovery_start(state: State, memory: &[u64], cache: &mut [u64]) -> Answer
     ensures performed { λ r. ⌜ Performed Call.RecoveryStart
-        (lent state (now (memory .entry)) (now (cache .entry)) (now (entries .entry)))
+        (lent state (now (memory .entry)) (now (cache .entry)))
         (r .number) 0
-        (lent (r .state) (now (memory .entry)) (now (cache .exit)) (now (entries .entry))) ⌝ }
+        (lent (r .state) (now (memory .entry)) (now (cache .exit))) ⌝ }
 {
-    let number = causes::of_recovery_start(state, memory, cache, entries);
+    let number = causes::of_recovery_start(state, memory, cache);
     if number != TAKEN {
         return Answer { number, state };
     }
@@ -100,17 +93,17 @@ pub fn recovery_start(state: State, memory: &[u64], cache: &mut [u64], entries: 
 }
 
 // A step of a format, a recovery or a checkpoint.
-pub fn step(state: State, memory: &mut [u64], cache: &mut [u64], entries: &[u16]) -> Answer
+pub fn step(state: State, memory: &mut [u64], cache: &mut [u64]) -> Answer
     ensures performed { λ r. ⌜ Performed Call.Step
-        (lent state (now (memory .entry)) (now (cache .entry)) (now (entries .entry)))
+        (lent state (now (memory .entry)) (now (cache .entry)))
         (r .number) 0
-        (lent (r .state) (now (memory .exit)) (now (cache .exit)) (now (entries .entry))) ⌝ }
+        (lent (r .state) (now (memory .exit)) (now (cache .exit))) ⌝ }
 {
-    let number = causes::of_step(state, memory, cache, entries);
+    let number = causes::of_step(state, memory, cache);
     if number != TAKEN {
         return Answer { number, state };
     }
-    let progress = taken_step(state, memory, cache, entries);
+    let progress = taken_step(state, memory, cache);
     let next = progressed(state, progress);
     Answer {
         number: TAKEN,
@@ -123,17 +116,16 @@ pub fn update(
     state: State,
     memory: &[u64],
     cache: &[u64],
-    entries: &[u16],
     worker: u64,
     cell: u64,
     value: u64,
 ) -> Answer
     ensures performed { λ r. ⌜ Performed (Call.Update worker cell value)
-        (lent state (now (memory .entry)) (now (cache .entry)) (now (entries .entry)))
+        (lent state (now (memory .entry)) (now (cache .entry)))
         (r .number) 0
-        (lent (r .state) (now (memory .entry)) (now (cache .entry)) (now (entries .entry))) ⌝ }
+        (lent (r .state) (now (memory .entry)) (now (cache .entry))) ⌝ }
 {
-    let number = causes::of_update(state, memory, cache, entries, worker, cell);
+    let number = causes::of_update(state, memory, cache, worker, cell);
     if number != TAKEN {
         return Answer { number, state };
     }
@@ -145,20 +137,13 @@ pub fn update(
 }
 
 // The start of a restart point (worker, number), on the worker's own restart cell.
-pub fn restart_point(
-    state: State,
-    memory: &[u64],
-    cache: &[u64],
-    entries: &[u16],
-    worker: u64,
-    value: u64,
-) -> Answer
+pub fn restart_point(state: State, memory: &[u64], cache: &[u64], worker: u64, value: u64) -> Answer
     ensures performed { λ r. ⌜ Performed (Call.RestartPoint worker value)
-        (lent state (now (memory .entry)) (now (cache .entry)) (now (entries .entry)))
+        (lent state (now (memory .entry)) (now (cache .entry)))
         (r .number) 0
-        (lent (r .state) (now (memory .entry)) (now (cache .entry)) (now (entries .entry))) ⌝ }
+        (lent (r .state) (now (memory .entry)) (now (cache .entry))) ⌝ }
 {
-    let number = causes::of_restart_point(state, memory, cache, entries, worker);
+    let number = causes::of_restart_point(state, memory, cache, worker);
     if number != TAKEN {
         return Answer { number, state };
     }
@@ -170,23 +155,17 @@ pub fn restart_point(
 }
 
 // The next store of a worker's update.
-pub fn advance(
-    state: State,
-    memory: &mut [u64],
-    cache: &mut [u64],
-    entries: &mut [u16],
-    worker: u64,
-) -> Answer
+pub fn advance(state: State, memory: &mut [u64], cache: &mut [u64], worker: u64) -> Answer
     ensures performed { λ r. ⌜ Performed (Call.Advance worker)
-        (lent state (now (memory .entry)) (now (cache .entry)) (now (entries .entry)))
+        (lent state (now (memory .entry)) (now (cache .entry)))
         (r .number) 0
-        (lent (r .state) (now (memory .exit)) (now (cache .exit)) (now (entries .exit))) ⌝ }
+        (lent (r .state) (now (memory .exit)) (now (cache .exit))) ⌝ }
 {
-    let number = causes::of_advance(state, memory, cache, entries, worker);
+    let number = causes::of_advance(state, memory, cache, worker);
     if number != TAKEN {
         return Answer { number, state };
     }
-    let next = taken_advance(state, memory, cache, entries, worker);
+    let next = taken_advance(state, memory, cache, worker);
     Answer {
         number: TAKEN,
         state: next,
@@ -194,13 +173,13 @@ pub fn advance(
 }
 
 // A request of a checkpoint.
-pub fn request(state: State, memory: &[u64], cache: &[u64], entries: &[u16]) -> Answer
+pub fn request(state: State, memory: &[u64], cache: &[u64]) -> Answer
     ensures performed { λ r. ⌜ Performed Call.Request
-        (lent state (now (memory .entry)) (now (cache .entry)) (now (entries .entry)))
+        (lent state (now (memory .entry)) (now (cache .entry)))
         (r .number) 0
-        (lent (r .state) (now (memory .entry)) (now (cache .entry)) (now (entries .entry))) ⌝ }
+        (lent (r .state) (now (memory .entry)) (now (cache .entry))) ⌝ }
 {
-    let number = causes::of_request(state, memory, cache, entries);
+    let number = causes::of_request(state, memory, cache);
     if number != TAKEN {
         return Answer { number, state };
     }
@@ -212,19 +191,13 @@ pub fn request(state: State, memory: &[u64], cache: &[u64], entries: &[u16]) -> 
 }
 
 // "A write-back copies a whole line from cache to memory."
-pub fn write_back(
-    state: State,
-    memory: &mut [u64],
-    cache: &[u64],
-    entries: &[u16],
-    line: u64,
-) -> Answer
+pub fn write_back(state: State, memory: &mut [u64], cache: &[u64], line: u64) -> Answer
     ensures performed { λ r. ⌜ Performed (Call.WriteBack line)
-        (lent state (now (memory .entry)) (now (cache .entry)) (now (entries .entry)))
+        (lent state (now (memory .entry)) (now (cache .entry)))
         (r .number) 0
-        (lent (r .state) (now (memory .exit)) (now (cache .entry)) (now (entries .entry))) ⌝ }
+        (lent (r .state) (now (memory .exit)) (now (cache .entry))) ⌝ }
 {
-    let number = causes::of_write_back(state, memory, cache, entries, line);
+    let number = causes::of_write_back(state, memory, cache, line);
     if number != TAKEN {
         return Answer { number, state };
     }
@@ -236,13 +209,13 @@ pub fn write_back(
 }
 
 // "Read gives a cell's record in the cache"; "read value 0" where it is refused.
-pub fn read(state: State, memory: &[u64], cache: &[u64], entries: &[u16], cell: u64) -> Reading
+pub fn read(state: State, memory: &[u64], cache: &[u64], cell: u64) -> Reading
     ensures performed { λ r. ⌜ Performed (Call.Read cell)
-        (lent state (now (memory .entry)) (now (cache .entry)) (now (entries .entry)))
+        (lent state (now (memory .entry)) (now (cache .entry)))
         (r .number) (r .value)
-        (lent (r .state) (now (memory .entry)) (now (cache .entry)) (now (entries .entry))) ⌝ }
+        (lent (r .state) (now (memory .entry)) (now (cache .entry))) ⌝ }
 {
-    let number = causes::of_read(state, memory, cache, entries, cell);
+    let number = causes::of_read(state, memory, cache, cell);
     if number != TAKEN {
         return Reading {
             number,
@@ -258,14 +231,38 @@ pub fn read(state: State, memory: &[u64], cache: &[u64], entries: &[u16], cell: 
     }
 }
 
-// "A free worker may go away".
-pub fn go_away(state: State, memory: &[u64], cache: &[u64], entries: &[u16], worker: u64) -> Answer
-    ensures performed { λ r. ⌜ Performed (Call.GoAway worker)
-        (lent state (now (memory .entry)) (now (cache .entry)) (now (entries .entry)))
-        (r .number) 0
-        (lent (r .state) (now (memory .entry)) (now (cache .entry)) (now (entries .entry))) ⌝ }
+// "the count of set bits plus 3", the steps that a checkpoint of the dirty lines takes; "turned down, it gets 0".
+pub fn count(state: State, memory: &[u64], cache: &[u64]) -> Reading
+    ensures performed { λ r. ⌜ Performed Call.Count
+        (lent state (now (memory .entry)) (now (cache .entry)))
+        (r .number) (r .value)
+        (lent (r .state) (now (memory .entry)) (now (cache .entry))) ⌝ }
 {
-    let number = causes::of_go_away(state, memory, cache, entries, worker);
+    let number = causes::of_count(state, memory, cache);
+    if number != TAKEN {
+        return Reading {
+            number,
+            value: 0,
+            state,
+        };
+    }
+    let dirty = state.dirty;
+    let value = bitset::size(dirty) + 3;
+    Reading {
+        number: TAKEN,
+        value,
+        state,
+    }
+}
+
+// "A free worker may go away".
+pub fn go_away(state: State, memory: &[u64], cache: &[u64], worker: u64) -> Answer
+    ensures performed { λ r. ⌜ Performed (Call.GoAway worker)
+        (lent state (now (memory .entry)) (now (cache .entry)))
+        (r .number) 0
+        (lent (r .state) (now (memory .entry)) (now (cache .entry))) ⌝ }
+{
+    let number = causes::of_go_away(state, memory, cache, worker);
     if number != TAKEN {
         return Answer { number, state };
     }
@@ -277,19 +274,13 @@ pub fn go_away(state: State, memory: &[u64], cache: &[u64], entries: &[u16], wor
 }
 
 // "and come back free".
-pub fn come_back(
-    state: State,
-    memory: &[u64],
-    cache: &[u64],
-    entries: &[u16],
-    worker: u64,
-) -> Answer
+pub fn come_back(state: State, memory: &[u64], cache: &[u64], worker: u64) -> Answer
     ensures performed { λ r. ⌜ Performed (Call.ComeBack worker)
-        (lent state (now (memory .entry)) (now (cache .entry)) (now (entries .entry)))
+        (lent state (now (memory .entry)) (now (cache .entry)))
         (r .number) 0
-        (lent (r .state) (now (memory .entry)) (now (cache .entry)) (now (entries .entry))) ⌝ }
+        (lent (r .state) (now (memory .entry)) (now (cache .entry))) ⌝ }
 {
-    let number = causes::of_come_back(state, memory, cache, entries, worker);
+    let number = causes::of_come_back(state, memory, cache, worker);
     if number != TAKEN {
         return Answer { number, state };
     }

@@ -13,12 +13,12 @@ use effects::placed;
 use effects::recovery_step;
 
 // What a taken step does.
-pub fn taken_step(state: State, memory: &mut [u64], cache: &mut [u64], entries: &[u16]) -> Progress
-    requires { ⌜ Taken Call.Step (lent state (now memory) (now cache) (now entries)) ⌝ }
+pub fn taken_step(state: State, memory: &mut [u64], cache: &mut [u64]) -> Progress
+    requires { ⌜ Taken Call.Step (lent state (now memory) (now cache)) ⌝ }
     ensures { λ r. ⌜
-        lent (progressed state r) (now (memory .exit)) (now (cache .exit)) (now (entries .entry))
+        lent (progressed state r) (now (memory .exit)) (now (cache .exit))
         ≡ effect Call.Step
-        (lent state (now (memory .entry)) (now (cache .entry)) (now (entries .entry))) ⌝ }
+        (lent state (now (memory .entry)) (now (cache .entry))) ⌝ }
 {
     let phase = state.phase;
     let undo = state.undo;
@@ -26,6 +26,6 @@ pub fn taken_step(state: State, memory: &mut [u64], cache: &mut [u64], entries: 
         Phase::Off => placed(state, state.place, undo),
         Phase::Formatting => format_step(state, memory, cache),
         Phase::Recovering => recovery_step(state, memory, cache),
-        Phase::Running => checkpoint_step(state, memory, cache, entries),
+        Phase::Running => checkpoint_step(state, memory, cache),
     }
 }

@@ -46,15 +46,15 @@ pub fn text_row() -> [u8; 69564]
 }
 
 // A page of the board's cells into the text row; bytes past the page stay.
-pub fn page(state: State, memory: &[u64], cache: &[u64], entries: &[u16], text: &mut [u8]) -> Answer
+pub fn page(state: State, memory: &[u64], cache: &[u64], text: &mut [u8]) -> Answer
     ensures performed { λ r. ⌜ PagePerformed
-        (lent state (now (memory .entry)) (now (cache .entry)) (now (entries .entry)))
+        (lent state (now (memory .entry)) (now (cache .entry)))
         (now (text .entry))
         (r .number)
-        (lent (r .state) (now (memory .entry)) (now (cache .entry)) (now (entries .entry)))
+        (lent (r .state) (now (memory .entry)) (now (cache .entry)))
         (now (text .exit)) ⌝ }
 {
-    let number = causes::of_page(state, memory, cache, entries, text);
+    let number = causes::of_page(state, memory, cache, text);
     if number == TAKEN {
         put_page(cache, state.lines, text);
     }

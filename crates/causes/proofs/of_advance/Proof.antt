@@ -11,11 +11,10 @@ returns c =
       c .first .ensures,
       c .before .idle .ensures,
       c .before .before .no-worker .ensures,
-      c .before .before .before .bad-rows .ensures (c .before .before .before .before .before .before .before .before .before .before .args .state),
-      c .before .before .before .before .list-full .ensures,
-      c .before .before .before .before .before .bad-record .ensures,
-      c .before .before .before .before .before .before .not-running .ensures [] [] [],
+      c .before .before .before .bad-rows .ensures (c .before .before .before .before .before .before .before .before .args .state),
+      c .before .before .before .before .bad-record .ensures,
+      c .before .before .before .before .before .not-running .ensures [] [],
     )
 
 pub of-advance-spec : {M : Type 1} → statement M
-of-advance-spec = tie.close (tie.spec (λ _ _. tt) (λ _ _. tt) (λ _ _. tt) (λ _ _. tt) (λ _ _. tt) (λ _ _. tt) (λ _ _. tt) returns)
+of-advance-spec = tie.close (tie.spec (λ _ _. tt) (λ _ _. tt) (λ _ _. tt) (λ _ _. tt) (λ _ _. tt) (λ _ _. tt) returns)

@@ -12,9 +12,9 @@ returns c =
       c .before .checkpoint-begun .ensures,
       c .before .before .not-away .ensures,
       c .before .before .before .no-worker .ensures,
-      c .before .before .before .before .bad-rows .ensures (c .before .before .before .before .before .before .before .before .before .before .args .state),
+      c .before .before .before .before .bad-rows .ensures (c .before .before .before .before .before .before .before .before .before .args .state),
       c .before .before .before .before .before .bad-record .ensures,
-      c .before .before .before .before .before .before .not-running .ensures [] [] [],
+      c .before .before .before .before .before .before .not-running .ensures [] [],
     )
 
 pub of-come-back-spec : {M : Type 1} → statement M

@@ -26,14 +26,14 @@ capped-rows l w b =
 returns : tie.Need-returns
 unfolding cause causes firstStanding
 returns c =
-    let given = c .before .before .before .before .before .before .before .args in
+    let given = c .before .before .before .before .before .before .args in
     rw (
       c .first .ensures,
       c .before .bad-rows .ensures (given .state),
       c .before .before .capped .ensures,
       c .before .before .before .outside .ensures,
     )
-    (capped-rows (given .lines) (given .workers) (lent (given .state) (given .memory .now) (given .cache .now) (given .entries .now)))
+    (capped-rows (given .lines) (given .workers) (lent (given .state) (given .memory .now) (given .cache .now)))
 
 pub of-format-start-spec : {M : Type 1} → statement M
 of-format-start-spec = tie.close (tie.spec (λ _ _. tt) (λ _ _. tt) (λ _ _. tt) (λ _ _. tt) returns)

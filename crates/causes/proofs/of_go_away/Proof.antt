@@ -11,9 +11,9 @@ returns c =
       c .first .ensures,
       c .before .busy .ensures,
       c .before .before .no-worker .ensures,
-      c .before .before .before .bad-rows .ensures (c .before .before .before .before .before .before .before .before .before .args .state),
+      c .before .before .before .bad-rows .ensures (c .before .before .before .before .before .before .before .before .args .state),
       c .before .before .before .before .bad-record .ensures,
-      c .before .before .before .before .before .not-running .ensures [] [] [],
+      c .before .before .before .before .before .not-running .ensures [] [],
     )
 
 pub of-go-away-spec : {M : Type 1} → statement M

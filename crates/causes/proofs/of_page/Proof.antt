@@ -11,9 +11,9 @@ returns c =
     rw (
       c .first .ensures,
       c .before .short-text .ensures,
-      c .before .before .bad-rows .ensures (c .before .before .before .before .before .before .before .before .before .args .state),
+      c .before .before .bad-rows .ensures (c .before .before .before .before .before .before .before .before .args .state),
       c .before .before .before .bad-record .ensures,
-      c .before .before .before .before .not-running .ensures [] [] [],
+      c .before .before .before .before .not-running .ensures [] [],
     )
 
 pub of-page-spec : {M : Type 1} → statement M

@@ -10,9 +10,9 @@ returns c =
     rw (
       c .first .ensures,
       c .before .no-cell .ensures,
-      c .before .before .bad-rows .ensures (c .before .before .before .before .before .before .before .before .args .state),
+      c .before .before .bad-rows .ensures (c .before .before .before .before .before .before .before .args .state),
       c .before .before .before .bad-record .ensures,
-      c .before .before .before .before .not-running .ensures [] [] [],
+      c .before .before .before .before .not-running .ensures [] [],
     )
 
 pub of-read-spec : {M : Type 1} → statement M

@@ -9,10 +9,10 @@ unfolding cause causes firstStanding
 returns c =
     rw (
       c .first .ensures,
-      c .before .epoch-spent .ensures (c .before .before .before .before .before .before .before .before .args .state) [] [],
-      c .before .before .bad-rows .ensures (c .before .before .before .before .before .before .before .before .args .state),
+      c .before .epoch-spent .ensures (c .before .before .before .before .before .before .before .args .state) [],
+      c .before .before .bad-rows .ensures (c .before .before .before .before .before .before .before .args .state),
       c .before .before .before .bad-record .ensures,
-      c .before .before .before .before .not-running .ensures [] [] [],
+      c .before .before .before .before .not-running .ensures [] [],
     )
 
 pub of-request-spec : {M : Type 1} → statement M

@@ -12,9 +12,9 @@ returns c v =
       c .before .others-update .ensures,
       c .before .before .busy .ensures,
       c .before .before .before .no-worker .ensures,
-      c .before .before .before .before .bad-rows .ensures (c .before .before .before .before .before .before .before .before .before .before .args .state),
+      c .before .before .before .before .bad-rows .ensures (c .before .before .before .before .before .before .before .before .before .args .state),
       c .before .before .before .before .before .bad-record .ensures,
-      c .before .before .before .before .before .before .not-running .ensures [] [] [],
+      c .before .before .before .before .before .before .not-running .ensures [] [],
     )
 
 pub of-restart-point-spec : {M : Type 1} → statement M

@@ -10,13 +10,12 @@ unfolding cause causes firstStanding
 returns c =
     rw (
       c .first .ensures,
-      c .before .stores-spent-epoch .ensures [] [],
-      c .before .before .bad-entry .ensures [] [],
-      c .before .before .before .bad-rows .ensures (c .before .before .before .before .before .before .before .before .before .before .args .state),
-      c .before .before .before .before .bad-step-record .ensures,
-      c .before .before .before .before .before .not-on .ensures [] [] [],
-      c .before .before .before .before .before .before .not-ready .ensures,
+      c .before .stores-spent-epoch .ensures [],
+      c .before .before .bad-rows .ensures (c .before .before .before .before .before .before .before .before .args .state),
+      c .before .before .before .bad-step-record .ensures,
+      c .before .before .before .before .not-on .ensures [] [],
+      c .before .before .before .before .before .not-ready .ensures,
     )
 
 pub of-step-spec : {M : Type 1} → statement M
-of-step-spec = tie.close (tie.spec (λ _ _. tt) (λ _ _. tt) (λ c κs. search needs) (λ _ _. tt) (λ _ _. tt) (λ _ _. tt) (λ _ _. tt) returns)
+of-step-spec = tie.close (tie.spec (λ _ _. tt) (λ _ _. tt) (λ c κs. search needs) (λ _ _. tt) (λ _ _. tt) (λ _ _. tt) returns)

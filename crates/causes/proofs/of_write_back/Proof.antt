@@ -10,9 +10,9 @@ returns c =
     rw (
       c .first .ensures,
       c .before .no-line .ensures,
-      c .before .before .bad-rows .ensures (c .before .before .before .before .before .before .before .before .args .state),
+      c .before .before .bad-rows .ensures (c .before .before .before .before .before .before .before .args .state),
       c .before .before .before .bad-record .ensures,
-      c .before .before .before .before .not-recovering-or-running .ensures [] [] [],
+      c .before .before .before .before .not-recovering-or-running .ensures [] [],
     )
 
 pub of-write-back-spec : {M : Type 1} → statement M

@@ -16,5 +16,5 @@ returns-2 c = search (needs, done)
 pub advance-spec : {M : Type 1} → statement M
 advance-spec =
     tie.close
-    (tie.spec (search needs) (search needs) (search needs) (search needs) returns (search needs)
-    (search needs) (search needs) (search needs) returns-2)
+    (tie.spec (search needs) (search needs) (search needs) returns (search needs)
+    (search needs) (search needs) returns-2)

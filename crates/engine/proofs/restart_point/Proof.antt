@@ -11,19 +11,19 @@ use Rattle.engine.proofs.restart_point.Tie as tie
 
 returns : tie.Need-returns
 unfolding valueOf
-returns c = refused _ _ _ _ _ refl (c .before .of-restart-point .ensures (c .before .before .before .before .before .args .value)) (c .if1 .taken)
+returns c = refused _ _ _ _ refl (c .before .of-restart-point .ensures (c .before .before .before .before .args .value)) (c .if1 .taken)
 
 cast-noted : tie.Need-cast-noted
-cast-noted c = omega (arith, restart-stores _ _ _ (sym (c .before .of-restart-point .ensures (c .before .before .before .before .before .args .value)) ∙ c .if1 .left))
+cast-noted c = omega (arith, restart-stores _ _ _ (sym (c .before .of-restart-point .ensures (c .before .before .before .before .args .value)) ∙ c .if1 .left))
 
 noted-requires : tie.Need-noted-requires
-noted-requires c κs = restart-stores _ _ _ (sym (c .before .of-restart-point .ensures (c .before .before .before .before .before .args .value)) ∙ c .if1 .left) .0
+noted-requires c κs = restart-stores _ _ _ (sym (c .before .of-restart-point .ensures (c .before .before .before .before .args .value)) ∙ c .if1 .left) .0
 
 returns-2 : tie.Need-returns-2
 unfolding valueOf
 returns-2 c =
-    done _ _ _ _ _ refl (c .before .before .of-restart-point .ensures (c .before .before .before .before .before .before .args .value)) (c .before .if1 .left)
-    (starts-restart _ _ _ _ _ _ (c .noted .ensures _ _))
+    done _ _ _ _ refl (c .before .before .of-restart-point .ensures (c .before .before .before .before .before .args .value)) (c .before .if1 .left)
+    (starts-restart _ _ _ _ _ (c .noted .ensures _))
 
 pub restart-point-spec : {M : Type 1} → statement M
 restart-point-spec =

@@ -49,21 +49,21 @@ page-refused b text number e z =
 
 -- The board that a page is lent.
 abbrev board : tie.Start → Board
-board c = lent (c .args .state) (c .args .memory .now) (c .args .cache .now) (c .args .entries .now)
+board c = lent (c .args .state) (c .args .memory .now) (c .args .cache .now)
 
 put-page-requires : tie.Need-put-page-requires
 put-page-requires c κs =
-    let start = c .before .before .before .before .before .before .before .before in
+    let start = c .before .before .before .before .before .before .before in
     let p = passed (board start) (start .args .text .now) (sym (c .before .before .of-page .ensures) ∙ c .before .if1 .taken) in
     (p .lines, p .cache, p .room)
 
 returns : tie.Need-returns
 returns c =
-    let start = c .before .before .before .before .before .before .before .before .before .before .before in
+    let start = c .before .before .before .before .before .before .before .before .before .before in
     page-taken (board start) (start .args .text .now) _ (c .before .before .before .before .before .of-page .result) (c .before .before .before .before .before .of-page .ensures) (c .before .before .before .before .if1 .taken) (c .before .before .put-page .ensures)
 
 returns-2 : tie.Need-returns-2
-returns-2 c = page-refused (board (c .before .before .before .before .before .before .before)) (c .before .before .before .before .before .before .before .args .text .now) (c .before .of-page .result) (c .before .of-page .ensures) (c .if1 .left)
+returns-2 c = page-refused (board (c .before .before .before .before .before .before)) (c .before .before .before .before .before .before .args .text .now) (c .before .of-page .result) (c .before .of-page .ensures) (c .if1 .left)
 
 pub page-spec : {M : Type 1} → statement M
 page-spec = tie.close (tie.spec (search needs) put-page-requires (search needs) returns (search needs) returns-2)

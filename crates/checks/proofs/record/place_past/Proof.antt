@@ -10,7 +10,7 @@ returns-3 : tie.Need-returns-3
 returns-3 c = rw (c .before .before .enum-told3 .given .1, c .before .cells .ensures)
 
 returns-4 : tie.Need-returns-4
-returns-4 c = rw (c .before .before .before .enum-told4 .given .1)
+returns-4 c = rw (c .before .enum-told4 .given .1, c .past-release .ensures)
 
 pub place-past-spec : {M : Type 1} → statement M
-place-past-spec = tie.close (tie.spec (λ c. search needs) (λ c. search needs) (λ c. search needs) (λ c. search needs) (λ c. search needs) (λ c. search needs) (λ _ _. tt) (λ c. search needs) (λ c. search needs) (λ c. search needs) (λ c. search needs) (λ c. search needs) (λ c. search needs) returns-2 returns-3 returns-4)
+place-past-spec = tie.close (tie.spec (λ c. search needs) (λ c. search needs) (λ c. search needs) (λ c. search needs) (λ c. search needs) (λ c. search needs) (λ _ _. tt) (λ c. search needs) (λ c. search needs) (λ _ _. tt) (λ c. search needs) returns-2 returns-3 returns-4)

@@ -1,17 +1,18 @@
 -- `effects::checkpoint::checkpoint_step` meets its contract: each branch does the act that comes at its place, within the bounds of `Checkpoints`.
 use borrow.Author.Needs.{needs}
-use Rattle.effects.proofs.Ready.{entry-in, epoch-in}
-use Rattle.effects.proofs.Effects.{writes-listed, stores-epoch, writes-header, releases}
+use Rattle.effects.proofs.Ready.{dirty-in, epoch-in, place-in}
+use Rattle.effects.proofs.Effects.{writes-dirty, stores-epoch, writes-header, releases}
 use Rattle.effects.proofs.checkpoint.checkpoint_step.Statement.{statement}
 use Rattle.effects.proofs.checkpoint.checkpoint_step.Tie as tie
 
 write-back-requires : tie.Need-write-back-requires
 write-back-requires c κs =
-    let listed = c .before .before .before in
-    entry-in _ _ _ _ (listed .before .before .before .before .pre) (listed .if1 .taken) (c .listed-line .ensures)
+    let below = c .before .before .before in
+    let counted = below .before in
+    dirty-in _ _ _ (counted .before .before .before .before .before .pre) (counted .size .ensures) (below .if1 .taken) (c .nth .ensures)
 
 returns : tie.Need-returns
-returns c = search (needs, writes-listed)
+returns c = search (needs, writes-dirty)
 
 add-store-header-word : tie.Need-add-store-header-word
 add-store-header-word c = record { fits = search (needs, epoch-in) }
@@ -28,7 +29,7 @@ returns-4 c = search (needs, releases)
 pub checkpoint-step-spec : {M : Type 1} → statement M
 checkpoint-step-spec =
     tie.close
-    (tie.spec (search needs) write-back-requires (search needs)
+    (tie.spec (search needs) (search needs) (search needs) write-back-requires (λ c κs. search (needs, place-in))
     (search needs) (search needs) returns (search needs) add-store-header-word (search needs)
-    (search needs) (search needs) returns-2 (search needs) (search needs) (search needs)
-    (search needs) (search needs) returns-3 (search needs) returns-4)
+    (λ c κs. search (needs, place-in)) (search needs) returns-2 (search needs) (search needs)
+    (λ c κs. search (needs, place-in)) (search needs) (search needs) returns-3 (search needs) returns-4)

@@ -5,10 +5,10 @@ use Rattle.effects.proofs.format.format_step.Statement.{statement}
 use Rattle.effects.proofs.format.format_step.Tie as tie
 
 returns : tie.Need-returns
-returns c es = search (needs, erased)
+returns c = search (needs, erased)
 
 returns-2 : tie.Need-returns-2
-returns-2 c es = search (needs, headed)
+returns-2 c = search (needs, headed)
 
 pub format-step-spec : {M : Type 1} → statement M
 format-step-spec =

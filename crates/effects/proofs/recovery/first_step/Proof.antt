@@ -5,10 +5,10 @@ use Rattle.effects.proofs.recovery.first_step.Statement.{statement}
 use Rattle.effects.proofs.recovery.first_step.Tie as tie
 
 returns : tie.Need-returns
-returns c es = search (needs, restores)
+returns c = search (needs, restores)
 
 returns-2 : tie.Need-returns-2
-returns-2 c es = search (needs, passes)
+returns-2 c = search (needs, passes)
 
 pub first-step-spec : {M : Type 1} → statement M
 first-step-spec =

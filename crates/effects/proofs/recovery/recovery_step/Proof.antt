@@ -5,13 +5,13 @@ use Rattle.effects.proofs.recovery.recovery_step.Statement.{statement}
 use Rattle.effects.proofs.recovery.recovery_step.Tie as tie
 
 returns : tie.Need-returns
-returns c es = search (needs, undo-told, c .before .before .first-step .ensures es)
+returns c = search (needs, undo-told)
 
 returns-2 : tie.Need-returns-2
-returns-2 c es = search (needs, undo-told, unmarks)
+returns-2 c = search (needs, undo-told, unmarks)
 
 returns-3 : tie.Need-returns-3
-returns-3 c es = search (needs, undo-told, writes)
+returns-3 c = search (needs, undo-told, writes)
 
 pub recovery-step-spec : {M : Type 1} → statement M
 recovery-step-spec =

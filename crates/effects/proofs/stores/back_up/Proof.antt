@@ -5,7 +5,7 @@ use Rattle.effects.proofs.stores.back_up.Statement.{statement}
 use Rattle.effects.proofs.stores.back_up.Tie as tie
 
 returns : tie.Need-returns
-returns c m es = search (needs, backs-up)
+returns c m = search (needs, backs-up)
 
 pub back-up-spec : {M : Type 1} → statement M
 back-up-spec =

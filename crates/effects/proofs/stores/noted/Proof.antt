@@ -5,7 +5,7 @@ use Rattle.effects.proofs.stores.noted.Statement.{statement}
 use Rattle.effects.proofs.stores.noted.Tie as tie
 
 returns : tie.Need-returns
-returns c m es = search (needs, notes)
+returns c m = search (needs, notes)
 
 pub noted-spec : {M : Type 1} → statement M
 noted-spec =

@@ -5,7 +5,7 @@ use Rattle.effects.proofs.stores.store_record.Statement.{statement}
 use Rattle.effects.proofs.stores.store_record.Tie as tie
 
 returns : tie.Need-returns
-returns c m es = search (needs, records)
+returns c m = search (needs, records)
 
 pub store-record-spec : {M : Type 1} → statement M
 store-record-spec =

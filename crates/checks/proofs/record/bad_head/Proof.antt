@@ -1,0 +1,10 @@
+-- Each part is the part of the definition.
+use borrow.Author.Needs.{needs}
+use Rattle.checks.proofs.record.bad_head.Statement.{statement}
+use Rattle.checks.proofs.record.bad_head.Tie as tie
+
+returns : tie.Need-returns
+returns c = rw (c .before .before .before .outside .ensures, c .before .strays .ensures, c .place-past .ensures)
+
+pub bad-head-spec : {M : Type 1} → statement M
+bad-head-spec = tie.close (tie.spec (λ c. search needs) (λ c. search needs) (λ _ _. tt) (λ c. search needs) (λ _ _. tt) (λ _ _. tt) returns)
