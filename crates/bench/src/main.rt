@@ -26,16 +26,13 @@ fn checksum(kind: Kind, plan: Plan, rounds: u32) -> u64
 {
     let mut memory = [0u64; 4096];
     let mut cache = [0u64; 4096];
-    let mut entries = [0u16; 1022];
     let words = board::row_words(plan.lines);
-    let most = board::list_words(plan.lines);
     workloads::run(
         kind,
         plan,
         rounds,
         &mut memory[..words],
         &mut cache[..words],
-        &mut entries[..most],
     )
 }
 
@@ -64,6 +61,9 @@ fn main() {
         worker: seed % workers,
         seed,
     };
+    if !rounds::has_lines(kind, plan) {
+        return;
+    }
     io::print_decimal(1, checksum(kind, plan, rounds as u32));
     io::write_all(1, b"\n");
 }

@@ -70,7 +70,6 @@ fn print(
     state: State,
     memory: &[u64],
     cache: &mut [u64],
-    entries: &[u16],
     text: &mut [u8],
 ) -> u64
     requires { ⌜ Allowed plan × (length (now cache) ≡ rowWords (plan .lines)) ⌝ }
@@ -79,7 +78,7 @@ fn print(
     let mut sum = 0;
     let mut left = rounds;
     while left > 0 {
-        let r = page::page(state, memory, cache, entries, text);
+        let r = page::page(state, memory, cache, text);
         sum = std::num::wrapping_add_u64(sum, r.number as u64);
         put_record(cache, drawn.cell as usize, drawn.random);
         drawn = draw(plan, drawn.random);
@@ -96,20 +95,11 @@ pub fn printed(
     state: State,
     memory: &[u64],
     cache: &mut [u64],
-    entries: &[u16],
 ) -> u64
     requires { ⌜ Allowed plan × (length (now cache) ≡ rowWords (plan .lines)) ⌝ }
 {
     let mut text = page::text_row();
     let bytes = board::page_bytes(plan.lines);
     fill(marks, plan, cache);
-    print(
-        plan,
-        rounds,
-        state,
-        memory,
-        cache,
-        entries,
-        &mut text[..bytes],
-    )
+    print(plan, rounds, state, memory, cache, &mut text[..bytes])
 }

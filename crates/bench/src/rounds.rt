@@ -10,17 +10,22 @@ pub enum Round {
     Format,
     // The data cells below n updated in rising order, each to its own number: a start and three advances each.
     Fill,
+    // n − W data cells updated in the same way, each the first cell of a line that has no restart cell.
+    Spread,
     // A request, then a restart point of each worker, after which it waits.
     Wait,
     // A request, a restart point of worker 0, after which it waits, and every other worker away.
     Leave,
-    // An update of an unmarked cell: a start and three advances. The host then takes the mark and the entry back.
+    // An update of an unmarked cell: a start and three advances. The host then takes the mark and the bits back.
     Update,
     // An update of a marked cell: a start and one advance.
     Again,
-    // A checkpoint's n + 3 steps. The host then puts the state record back.
+    // A checkpoint of n cells, the data cells alone in their lines: W/2 + n − W + 3 steps, W/2 rounded up. The host then
+    // puts the state record back.
     Checkpoint,
-    // The same with every worker but worker 0 away, whose restart cells are not listed: n − W + 4 steps.
+    // The same with cells 0 to n − 1, both cells of n/2 lines: n/2 + 3 steps, n/2 rounded up.
+    CheckpointPairs,
+    // As `Checkpoint`, with every worker but worker 0 away, whose restart cells are not marked: n − W + 4 steps.
     CheckpointAway,
     // A recovery's start and its 2L steps, with no cell to undo.
     Recovery,
@@ -56,11 +61,12 @@ pub fn numbered(kind: u64) -> Kind {
         7 => Kind::Pages(Marks::Rising),
         8 => Kind::Pages(Marks::Random),
         9 => Kind::Calls(Round::CheckpointAway),
+        10 => Kind::Calls(Round::CheckpointPairs),
         _ => Kind::Unknown,
     }
 }
 
-// A board's L and W, the cell n that a fill stops before (n cells are then listed for a checkpoint), the worker that
+// A board's L and W, the cell n that a fill stops before (n cells are then marked for a checkpoint), the worker that
 // updates, and the seed.
 pub struct Plan {
     pub lines: u16,
@@ -90,6 +96,36 @@ pub fn draw(plan: Plan, last: u64) -> Drawn
     }
 }
 
+// How many lines have restart cells.
+fn restart_lines(plan: Plan) -> u32
+    ensures { λ r. ⌜ r ≤ 32768 ⌝ }
+{
+    (plan.workers as u32 + 1) / 2
+}
+
+// The lines that a spread and the restart points make dirty.
+fn spread_lines(plan: Plan) -> u32
+    requires { ⌜ plan .workers ≤ plan .n ⌝ }
+    ensures { λ r. ⌜ r < 131072 ⌝ }
+{
+    restart_lines(plan) + (plan.n as u32 - plan.workers as u32)
+}
+
+// Whether the board has a line for every data cell that is to be alone in one.
+pub fn has_lines(kind: Kind, plan: Plan) -> bool
+    requires { ⌜ plan .workers ≤ plan .n ⌝ }
+{
+    let enough = spread_lines(plan) <= plan.lines as u32;
+    match kind {
+        Kind::Calls(round) => match round {
+            Round::Checkpoint | Round::CheckpointAway => enough,
+            _ => true,
+        },
+        Kind::Pages(_) => true,
+        Kind::Unknown => true,
+    }
+}
+
 // How many calls a round has.
 pub fn calls_in(round: Round, plan: Plan) -> u32
     requires { ⌜ plan .workers ≤ plan .n ⌝ }
@@ -100,12 +136,13 @@ pub fn calls_in(round: Round, plan: Plan) -> u32
     let n = plan.n as u32;
     match round {
         Round::Format => 1 + lines + 2,
-        Round::Fill => 4 * (n - workers),
+        Round::Fill | Round::Spread => 4 * (n - workers),
         Round::Wait => 1 + 4 * workers,
         Round::Leave => 4 + workers,
         Round::Update => 4,
         Round::Again => 2,
-        Round::Checkpoint => n + 3,
+        Round::Checkpoint => spread_lines(plan) + 3,
+        Round::CheckpointPairs => (n + 1) / 2 + 3,
         Round::CheckpointAway => n - workers + 4,
         Round::Recovery => 1 + cells,
         Round::WriteBack => 1,
@@ -124,6 +161,12 @@ fn update_call(worker: u64, k: u64, cell: u64, value: u64) -> Call {
     } else {
         Call::Advance { worker }
     }
+}
+
+// Call number `k` of a spread: four calls for the first cell of each line after the restart cells'.
+fn spread_call(plan: Plan, k: u64) -> Call {
+    let cell = 2 * (restart_lines(plan) as u64 + k / 4);
+    update_call(plan.worker, k % 4, cell, cell)
 }
 
 // Call number `k` of a wait: the request, and four calls of each worker in turn.
@@ -165,10 +208,11 @@ pub fn call_at(round: Round, plan: Plan, k: u64, drawn: Drawn) -> Call {
             },
         ),
         Round::Fill => update_call(plan.worker, k % 4, workers + k / 4, workers + k / 4),
+        Round::Spread => spread_call(plan, k),
         Round::Wait => wait_call(k),
         Round::Leave => leave_call(k),
         Round::Update | Round::Again => update_call(plan.worker, k, drawn.cell, drawn.random),
-        Round::Checkpoint | Round::CheckpointAway => Call::Step,
+        Round::Checkpoint | Round::CheckpointPairs | Round::CheckpointAway => Call::Step,
         Round::Recovery => step_call(k, Call::RecoveryStart),
         Round::WriteBack => Call::WriteBack {
             line: line::cell_line(drawn.cell as usize) as u64,

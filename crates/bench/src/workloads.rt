@@ -43,7 +43,6 @@ fn play(
     from: State,
     memory: &mut [u64],
     cache: &mut [u64],
-    entries: &mut [u16],
 ) -> Summed
     requires { ⌜ Allowed plan × (length (now cache) ≡ rowWords (plan .lines)) ⌝ }
 {
@@ -55,7 +54,7 @@ fn play(
     let mut k = 0;
     while left > 0 {
         let call = call_at(round, plan, k, drawn);
-        let r = engine::perform(call, state, memory, cache, entries);
+        let r = engine::perform(call, state, memory, cache);
         state = r.state;
         sum = added(sum, r.number, r.value);
         left -= 1;
@@ -64,9 +63,11 @@ fn play(
             match round {
                 Round::Update => {
                     unmark(cache, drawn.cell);
-                    state.listed = 0;
+                    state.dirty = [0; 8];
                 }
-                Round::Checkpoint | Round::CheckpointAway => state = from,
+                Round::Checkpoint | Round::CheckpointPairs | Round::CheckpointAway => {
+                    state = from
+                }
                 _ => {}
             }
             drawn = draw(plan, drawn.random);
@@ -76,61 +77,47 @@ fn play(
     Summed { state, sum }
 }
 
-// The state record after a fill and a round `last`, after which the workers wait or are away.
+// The state record after the updates of a round `first` and a round `last`, after which the workers wait or are away.
 fn prepared(
+    first: Round,
     last: Round,
     plan: Plan,
     fresh: State,
     memory: &mut [u64],
     cache: &mut [u64],
-    entries: &mut [u16],
 ) -> State
     requires { ⌜ Allowed plan × (length (now cache) ≡ rowWords (plan .lines)) ⌝ }
 {
-    let filled = play(Round::Fill, plan, 1, fresh, memory, cache, entries);
-    let state = filled.state;
-    let ready = play(last, plan, 1, state, memory, cache, entries);
+    let updated = play(first, plan, 1, fresh, memory, cache);
+    let state = updated.state;
+    let ready = play(last, plan, 1, state, memory, cache);
     ready.state
 }
 
-// The state record with the cells listed that a workload needs: all data cells, or those below n and the restart cells
-// of the workers that wait.
-fn listed(
-    round: Round,
-    plan: Plan,
-    fresh: State,
-    memory: &mut [u64],
-    cache: &mut [u64],
-    entries: &mut [u16],
-) -> State
+// The state record with the cells marked that a workload needs: all data cells, or n with the restart cells of the
+// workers that wait among them.
+fn marked(round: Round, plan: Plan, fresh: State, memory: &mut [u64], cache: &mut [u64]) -> State
     requires { ⌜ Allowed plan × (length (now cache) ≡ rowWords (plan .lines)) ⌝ }
 {
     match round {
         Round::Again => {
             let mut full = plan;
             full.n = board::cells(plan.lines) as u16;
-            let filled = play(Round::Fill, full, 1, fresh, memory, cache, entries);
+            let filled = play(Round::Fill, full, 1, fresh, memory, cache);
             filled.state
         }
-        Round::Checkpoint => prepared(Round::Wait, plan, fresh, memory, cache, entries),
-        Round::CheckpointAway => prepared(Round::Leave, plan, fresh, memory, cache, entries),
+        Round::Checkpoint => prepared(Round::Spread, Round::Wait, plan, fresh, memory, cache),
+        Round::CheckpointPairs => prepared(Round::Fill, Round::Wait, plan, fresh, memory, cache),
+        Round::CheckpointAway => prepared(Round::Spread, Round::Leave, plan, fresh, memory, cache),
         _ => fresh,
     }
 }
 
 // The state record that a format leaves.
-fn formatted(plan: Plan, memory: &mut [u64], cache: &mut [u64], entries: &mut [u16]) -> State
+fn formatted(plan: Plan, memory: &mut [u64], cache: &mut [u64]) -> State
     requires { ⌜ Allowed plan × (length (now cache) ≡ rowWords (plan .lines)) ⌝ }
 {
-    let done = play(
-        Round::Format,
-        plan,
-        1,
-        engine::off(),
-        memory,
-        cache,
-        entries,
-    );
+    let done = play(Round::Format, plan, 1, engine::off(), memory, cache);
     done.state
 }
 
@@ -142,31 +129,23 @@ fn called(
     fresh: State,
     memory: &mut [u64],
     cache: &mut [u64],
-    entries: &mut [u16],
 ) -> Summed
     requires { ⌜ Allowed plan × (length (now cache) ≡ rowWords (plan .lines)) ⌝ }
 {
-    let start = listed(round, plan, fresh, memory, cache, entries);
-    play(round, plan, rounds, start, memory, cache, entries)
+    let start = marked(round, plan, fresh, memory, cache);
+    play(round, plan, rounds, start, memory, cache)
 }
 
 // A workload from its format to the end of its rounds, with the sum of the rounds alone.
-fn measured(
-    kind: Kind,
-    plan: Plan,
-    rounds: u32,
-    memory: &mut [u64],
-    cache: &mut [u64],
-    entries: &mut [u16],
-) -> Summed
+fn measured(kind: Kind, plan: Plan, rounds: u32, memory: &mut [u64], cache: &mut [u64]) -> Summed
     requires { ⌜ Allowed plan × (length (now cache) ≡ rowWords (plan .lines)) ⌝ }
 {
-    let fresh = formatted(plan, memory, cache, entries);
+    let fresh = formatted(plan, memory, cache);
     match kind {
-        Kind::Calls(round) => called(round, plan, rounds, fresh, memory, cache, entries),
+        Kind::Calls(round) => called(round, plan, rounds, fresh, memory, cache),
         Kind::Pages(marks) => Summed {
             state: fresh,
-            sum: pages::printed(marks, plan, rounds, fresh, memory, cache, entries),
+            sum: pages::printed(marks, plan, rounds, fresh, memory, cache),
         },
         Kind::Unknown => Summed {
             state: fresh,
@@ -176,18 +155,11 @@ fn measured(
 }
 
 // A workload's checksum: the sum of its rounds, and of a read of every cell after them.
-pub fn run(
-    kind: Kind,
-    plan: Plan,
-    rounds: u32,
-    memory: &mut [u64],
-    cache: &mut [u64],
-    entries: &mut [u16],
-) -> u64
+pub fn run(kind: Kind, plan: Plan, rounds: u32, memory: &mut [u64], cache: &mut [u64]) -> u64
     requires { ⌜ Allowed plan × (length (now cache) ≡ rowWords (plan .lines)) ⌝ }
 {
-    let done = measured(kind, plan, rounds, memory, cache, entries);
+    let done = measured(kind, plan, rounds, memory, cache);
     let end = done.state;
-    let reads = play(Round::Reads, plan, 1, end, memory, cache, entries);
+    let reads = play(Round::Reads, plan, 1, end, memory, cache);
     std::num::wrapping_add_u64(done.sum, reads.sum)
 }

@@ -129,11 +129,11 @@ used-more program first reached after piece used more so-far fits e =
     ∙ sym (ap (λ (f : Fed). f .after) (ap (fed program first) (take-add used more piece) ∙ fed-append program first (take used piece) (take more rest)))
 
 -- What is carried once more bytes of a line are kept.
-pub kept-by : (k p : Progress) (m c e line after rest : List ℕ) → (k .session ≡ p .session) × (k .number ≡ p .number) × (take (k .begun) after ≡ take 80 (take (p .begun) line ++ rest)) → carriedBy k m c e after ≡ kept (carriedBy p m c e line) rest
-kept-by k p m c e line after rest w =
-    ap (λ (s : Session). carried (boardOf s m c e) (k .number) (take (k .begun) after)) (w .0)
-    ∙ ap (λ (n : ℕ). carried (boardOf (p .session) m c e) n (take (k .begun) after)) (w .1)
-    ∙ ap (carried (boardOf (p .session) m c e) (p .number)) (w .2)
+pub kept-by : (k p : Progress) (m c line after rest : List ℕ) → (k .session ≡ p .session) × (k .number ≡ p .number) × (take (k .begun) after ≡ take 80 (take (p .begun) line ++ rest)) → carriedBy k m c after ≡ kept (carriedBy p m c line) rest
+kept-by k p m c line after rest w =
+    ap (λ (s : Session). carried (boardOf s m c) (k .number) (take (k .begun) after)) (w .0)
+    ∙ ap (λ (n : ℕ). carried (boardOf (p .session) m c) n (take (k .begun) after)) (w .1)
+    ∙ ap (carried (boardOf (p .session) m c) (p .number)) (w .2)
 
 -- At most 80 bytes are kept.
 pub begun-short : {p : Progress} → Ready p → (line : List ℕ) → length (take (p .begun) line) ≤ 80
@@ -142,16 +142,16 @@ begun-short {p} r line = omega (arith, r .line-within, length-take (p .begun) li
 -- ---- after the input
 
 -- No line is begun.
-pub none-last : (program : Program) (p : Progress) (m c e line : List ℕ) → p .begun ≡ 0 → leaving (carriedBy p m c e line) [] ≡ finished program (carriedBy p m c e line)
-none-last program p m c e line z =
+pub none-last : (program : Program) (p : Progress) (m c line : List ℕ) → p .begun ≡ 0 → leaving (carriedBy p m c line) [] ≡ finished program (carriedBy p m c line)
+none-last program p m c line z =
     let none : length (take (p .begun) line) ≡ 0 = ap (λ (k : ℕ). length (take k line)) z in
     sym (chosen (eqb (length (take (p .begun) line)) 0) _ _ (eq-eqb _ 0 none))
 
 -- The line begun ends by the line feed that it lacks.
-pub line-last : (program : Program) (p : Progress) (m c e line : List ℕ) → Ready p → length line ≡ 80 → (p .begun ≡ 0 → ⊥) → {f : Fed} {used written : ℕ} → f ≡ fed program (carriedBy p m c e line) (take used (feed ∷ [])) → Stops (feed ∷ []) used written → f ≡ finished program (carriedBy p m c e line)
+pub line-last : (program : Program) (p : Progress) (m c line : List ℕ) → Ready p → length line ≡ 80 → (p .begun ≡ 0 → ⊥) → {f : Fed} {used written : ℕ} → f ≡ fed program (carriedBy p m c line) (take used (feed ∷ [])) → Stops (feed ∷ []) used written → f ≡ finished program (carriedBy p m c line)
 unfolding fed
-line-last program p m c e line r size some {f} {used} {written} e′ stops =
-    let from = carriedBy p m c e line in
+line-last program p m c line r size some {f} {used} {written} e′ stops =
+    let from = carriedBy p m c line in
     let begun : length (take (p .begun) line) ≡ p .begun = length-take-le (p .begun) line (omega (arith, r .line-within)) in
     let whole : used ≡ 1 = omega (arith, stops .used-within, stops .goes-on (omega arith)) in
     e′

@@ -86,9 +86,9 @@ AnyPiecesBoard =
 -- ---- what contracts say
 
 -- What the code carries: the board of its session, the lines answered, and the first bytes of the line kept.
-abbrev pub carriedBy : Progress → List ℕ → List ℕ → List ℕ → List ℕ → Carried
-carriedBy p memory cache entries line =
-    carried (boardOf (p .session) memory cache entries) (p .number) (take (p .begun) line)
+abbrev pub carriedBy : Progress → List ℕ → List ℕ → List ℕ → Carried
+carriedBy p memory cache line =
+    carried (boardOf (p .session) memory cache) (p .number) (take (p .begun) line)
 
 -- What the code carries on after a line: none is begun.
 abbrev pub afterLine : Session → ℕ → Progress

@@ -39,7 +39,7 @@ pub struct Answers {
 
 // Before the first line.
 pub fn start() -> Progress
-    ensures first { λ r. ⌜ ((memory cache entries line : List ℕ) → carriedBy r memory cache entries line ≡ first) ⌝ }
+    ensures first { λ r. ⌜ ((memory cache line : List ℕ) → carriedBy r memory cache line ≡ first) ⌝ }
     ensures ready { λ r. ⌜ Ready r ⌝ }
 {
     Progress {
@@ -93,14 +93,13 @@ fn end_line(
     progress: Progress,
     memory: &mut [u64; 4104],
     cache: &mut [u64; 4104],
-    entries: &mut [u16; 1100],
     line: &mut [u8],
     rest: &[u8],
     out: &mut [u8; 65536],
     at: usize,
 ) -> Ended
     requires { ⌜ Ready progress × (length (now line) ≡ 80) × (at + 80 ≤ 65536) ⌝ }
-    ensures ends { λ r. ⌜ Ends (ended program (kept (carriedBy progress (now (memory .entry)) (now (cache .entry)) (now (entries .entry)) (now (line .entry))) (now (rest .entry)))) (carriedBy (r .progress) (now (memory .exit)) (now (cache .exit)) (now (entries .exit)) (now (line .exit))) (now (out .entry)) at (now (out .exit)) (r .end) ⌝ }
+    ensures ends { λ r. ⌜ Ends (ended program (kept (carriedBy progress (now (memory .entry)) (now (cache .entry)) (now (line .entry))) (now (rest .entry)))) (carriedBy (r .progress) (now (memory .exit)) (now (cache .exit)) (now (line .exit))) (now (out .entry)) at (now (out .exit)) (r .end) ⌝ }
     ensures ready { λ r. ⌜ Ready (r .progress) ⌝ }
 {
     let session = progress.session;
@@ -113,7 +112,7 @@ fn end_line(
             end: script::put_answer(out, at, number, b'?', Shown::Unknown, Shown::Nothing),
         };
     }
-    let done = session::act(session, memory, cache, entries, call);
+    let done = session::act(session, memory, cache, call);
     let next = done.session;
     let answer = done.answer;
     let value = done.value;
@@ -142,13 +141,12 @@ pub fn answer(
     progress: Progress,
     memory: &mut [u64; 4104],
     cache: &mut [u64; 4104],
-    entries: &mut [u16; 1100],
     line: &mut [u8],
     piece: &[u8],
     out: &mut [u8; 65536],
 ) -> Answers
     requires { ⌜ Ready progress × (length (now line) ≡ 80) ⌝ }
-    ensures fed { λ r. ⌜ leaving (carriedBy (r .progress) (now (memory .exit)) (now (cache .exit)) (now (entries .exit)) (now (line .exit))) (take (r .written) (now (out .exit))) ≡ fed program (carriedBy progress (now (memory .entry)) (now (cache .entry)) (now (entries .entry)) (now (line .entry))) (take (r .used) (now (piece .entry))) ⌝ }
+    ensures fed { λ r. ⌜ leaving (carriedBy (r .progress) (now (memory .exit)) (now (cache .exit)) (now (line .exit))) (take (r .written) (now (out .exit))) ≡ fed program (carriedBy progress (now (memory .entry)) (now (cache .entry)) (now (line .entry))) (take (r .used) (now (piece .entry))) ⌝ }
     ensures stops { λ r. ⌜ Stops (now (piece .entry)) (r .used) (r .written) ⌝ }
     ensures ready { λ r. ⌜ Ready (r .progress) ⌝ }
 {
@@ -165,17 +163,7 @@ pub fn answer(
                 written: end,
             };
         }
-        let r = end_line(
-            program,
-            reached,
-            memory,
-            cache,
-            entries,
-            line,
-            rest,
-            out,
-            end,
-        );
+        let r = end_line(program, reached, memory, cache, line, rest, out, end);
         reached = r.progress;
         end = r.end;
         at = stop + 1;
@@ -193,18 +181,17 @@ pub fn answer_last(
     progress: Progress,
     memory: &mut [u64; 4104],
     cache: &mut [u64; 4104],
-    entries: &mut [u16; 1100],
     line: &mut [u8],
     out: &mut [u8; 65536],
 ) -> Ended
     requires { ⌜ Ready progress × (length (now line) ≡ 80) ⌝ }
-    ensures finishes { λ r. ⌜ leaving (carriedBy (r .progress) (now (memory .exit)) (now (cache .exit)) (now (entries .exit)) (now (line .exit))) (take (r .end) (now (out .exit))) ≡ finished program (carriedBy progress (now (memory .entry)) (now (cache .entry)) (now (entries .entry)) (now (line .entry))) ⌝ }
+    ensures finishes { λ r. ⌜ leaving (carriedBy (r .progress) (now (memory .exit)) (now (cache .exit)) (now (line .exit))) (take (r .end) (now (out .exit))) ≡ finished program (carriedBy progress (now (memory .entry)) (now (cache .entry)) (now (line .entry))) ⌝ }
     ensures ready { λ r. ⌜ Ready (r .progress) × (r .end ≤ 65536) ⌝ }
 {
     if progress.begun == 0 {
         return Ended { progress, end: 0 };
     }
-    let r = answer(program, progress, memory, cache, entries, line, b"\n", out);
+    let r = answer(program, progress, memory, cache, line, b"\n", out);
     let last = r.progress;
     Ended {
         progress: last,

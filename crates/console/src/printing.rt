@@ -18,18 +18,12 @@ pub struct Paged {
 }
 
 // The page of the board, put at the front of a text row as long as the largest page.
-fn print(
-    session: Session,
-    memory: &[u64],
-    cache: &[u64],
-    entries: &[u16],
-    text: &mut [u8; 69564],
-) -> Paged
-    requires { ⌜ Fits session (now memory) (now cache) (now entries) ⌝ }
-    ensures prints { λ r. ⌜ printing (r .number) (take (r .bytes) (now (text .exit))) ≡ printedOf (boardOf session (now (memory .entry)) (now (cache .entry)) (now (entries .entry))) ⌝ }
+fn print(session: Session, memory: &[u64], cache: &[u64], text: &mut [u8; 69564]) -> Paged
+    requires { ⌜ Fits session (now memory) (now cache) ⌝ }
+    ensures prints { λ r. ⌜ printing (r .number) (take (r .bytes) (now (text .exit))) ≡ printedOf (boardOf session (now (memory .entry)) (now (cache .entry))) ⌝ }
     ensures within { λ r. ⌜ r .bytes ≤ 69564 ⌝ }
 {
-    let number = session::put_page(session, memory, cache, entries, text);
+    let number = session::put_page(session, memory, cache, text);
     if number != 0 {
         return Paged { number, bytes: 0 };
     }
@@ -46,17 +40,16 @@ pub fn last_page(
     progress: Progress,
     memory: &mut [u64; 4104],
     cache: &mut [u64; 4104],
-    entries: &mut [u16; 1100],
     line: &mut [u8],
     out: &mut [u8; 65536],
     text: &mut [u8; 69564],
 ) -> Paged
     requires { ⌜ Ready progress × (length (now line) ≡ 80) ⌝ }
-    ensures prints { λ r. ⌜ printing (r .number) (take (r .bytes) (now (text .exit))) ≡ printedOf (finished Program.Page (carriedBy progress (now (memory .entry)) (now (cache .entry)) (now (entries .entry)) (now (line .entry))) .after .board) ⌝ }
+    ensures prints { λ r. ⌜ printing (r .number) (take (r .bytes) (now (text .exit))) ≡ printedOf (finished Program.Page (carriedBy progress (now (memory .entry)) (now (cache .entry)) (now (line .entry))) .after .board) ⌝ }
     ensures within { λ r. ⌜ r .bytes ≤ 69564 ⌝ }
 {
-    let last = answer_last(Program::Page, progress, memory, cache, entries, line, out);
+    let last = answer_last(Program::Page, progress, memory, cache, line, out);
     let left = last.progress;
     let session = left.session;
-    print(session, memory, cache, entries, text)
+    print(session, memory, cache, text)
 }

@@ -1,5 +1,5 @@
 -- What each damaging line leaves and shows, from what its parts did.
-use Prim.Native.Nat.{ℕ, _≤_}
+use Prim.Native.Nat.{ℕ}
 use mathlib.Core.Path.{_≡_, sym, ap, subst, _∙_}
 use mathlib.Core.Bool.{Bool, true, false, cond}
 use mathlib.Core.List.{List}
@@ -8,23 +8,23 @@ use Rattle.board.specs.declared.State.{State}
 use Rattle.board.specs.Board.{Board}
 use Rattle.board.specs.Next.{lent}
 use Rattle.script.specs.declared.Damage.{Damage}
-use Rattle.script.specs.declared.Damage.the-variants.{Lengths, Memory, Cache, Entry, Field, Worker, Checksum}
+use Rattle.script.specs.declared.Damage.the-variants.{Lengths, Memory, Cache, Dirty, Field, Worker, Checksum}
 use Rattle.script.specs.declared.Shown.{Shown}
 use Rattle.script.specs.declared.Shown.the-variants.{Nothing, Number}
 use Rattle.damage.specs.declared.Sizes.{Sizes}
 use Rattle.damage.specs.declared.Damaged.{Damaged}
-use Rattle.damage.specs.Record.{fieldFits, fieldPut, workerFits, workerPut}
-use Rattle.damage.specs.Rows.{resized, wordFits, entryFits, storedIf, Stored}
+use Rattle.damage.specs.Record.{fieldFits, fieldPut, wordThere, wordPut, workerFits, workerPut}
+use Rattle.damage.specs.Rows.{resized, wordFits, storedIf, Stored}
 use Rattle.damage.specs.Checksum.{checksum}
 use Rattle.damage.specs.Damages.{Outcome, showing, answerIf, roomFor, relengthened, outcome, inUse, left, Within}
 
 -- What the code leaves and shows, by its parts.
-pub by-parts : {r : Damaged} {state : State} {sizes : Sizes} {answer value : Shown} (m c e : List ℕ) → (r .state ≡ state) × (r .sizes ≡ sizes) × (r .answer ≡ answer) × (r .value ≡ value) → left r m c e ≡ showing (inUse state sizes m c e) answer value
-by-parts {r} {state} {sizes} {answer} {value} m c e w =
-    ap (λ (x : State). showing (inUse x (r .sizes) m c e) (r .answer) (r .value)) (w .0)
-    ∙ ap (λ (x : Sizes). showing (inUse state x m c e) (r .answer) (r .value)) (w .1)
-    ∙ ap (λ (x : Shown). showing (inUse state sizes m c e) x (r .value)) (w .2)
-    ∙ ap (showing (inUse state sizes m c e) answer) (w .3)
+pub by-parts : {r : Damaged} {state : State} {sizes : Sizes} {answer value : Shown} (m c : List ℕ) → (r .state ≡ state) × (r .sizes ≡ sizes) × (r .answer ≡ answer) × (r .value ≡ value) → left r m c ≡ showing (inUse state sizes m c) answer value
+by-parts {r} {state} {sizes} {answer} {value} m c w =
+    ap (λ (x : State). showing (inUse x (r .sizes) m c) (r .answer) (r .value)) (w .0)
+    ∙ ap (λ (x : Sizes). showing (inUse state x m c) (r .answer) (r .value)) (w .1)
+    ∙ ap (λ (x : Shown). showing (inUse state sizes m c) x (r .value)) (w .2)
+    ∙ ap (showing (inUse state sizes m c) answer) (w .3)
 
 -- A line whose kind is told leaves what that kind leaves.
 pub told-as : {d : Damage} {x : Outcome} (b : Board) (k : Damage) → d ≡ k → x ≡ outcome k b → x ≡ outcome d b
@@ -34,51 +34,49 @@ told-as b k told did = did ∙ ap (λ (y : Damage). outcome y b) (sym told)
 pub kept-within : {s t : Sizes} → t ≡ s → Within s → Within t
 kept-within e h = subst Within (sym e) h
 
-module _ (state : State) (s : Sizes) (m c e : List ℕ) where
-  pub lengths-put : (x y z : ℕ) (m′ c′ e′ : List ℕ) → roomFor x y z ≡ true → take x m′ ≡ resized (take (s .memory) m) x → take y c′ ≡ resized (take (s .cache) c) y → take z e′ ≡ resized (take (s .list) e) z → showing (lent state (take x m′) (take y c′) (take z e′)) (Number 0) Nothing ≡ outcome (Lengths x y z) (inUse state s m c e)
+module _ (state : State) (s : Sizes) (m c : List ℕ) where
+  pub lengths-put : (x y : ℕ) (m′ c′ : List ℕ) → roomFor x y ≡ true → take x m′ ≡ resized (take (s .memory) m) x → take y c′ ≡ resized (take (s .cache) c) y → showing (lent state (take x m′) (take y c′)) (Number 0) Nothing ≡ outcome (Lengths x y) (inUse state s m c)
   unfolding outcome
-  lengths-put x y z m′ c′ e′ room hm hc he =
-      let b = inUse state s m c e in
-      ap (λ (l : List ℕ). showing (lent state l (take y c′) (take z e′)) (Number 0) Nothing) hm
-      ∙ ap (λ (l : List ℕ). showing (lent state (resized (take (s .memory) m) x) l (take z e′)) (Number 0) Nothing) hc
-      ∙ ap (λ (l : List ℕ). showing (lent state (resized (take (s .memory) m) x) (resized (take (s .cache) c) y) l) (Number 0) Nothing) he
-      ∙ sym (ap (λ (t : Bool). showing (cond t (relengthened b x y z) b) (answerIf t) Nothing) room)
+  lengths-put x y m′ c′ room hm hc =
+      let b = inUse state s m c in
+      ap (λ (l : List ℕ). showing (lent state l (take y c′)) (Number 0) Nothing) hm
+      ∙ ap (λ (l : List ℕ). showing (lent state (resized (take (s .memory) m) x) l) (Number 0) Nothing) hc
+      ∙ sym (ap (λ (t : Bool). showing (cond t (relengthened b x y) b) (answerIf t) Nothing) room)
 
-  pub lengths-off : (x y z : ℕ) → roomFor x y z ≡ false → showing (inUse state s m c e) (answerIf false) Nothing ≡ outcome (Lengths x y z) (inUse state s m c e)
+  pub lengths-off : (x y : ℕ) → roomFor x y ≡ false → showing (inUse state s m c) (answerIf false) Nothing ≡ outcome (Lengths x y) (inUse state s m c)
   unfolding outcome
-  lengths-off x y z room =
-      let b = inUse state s m c e in sym (ap (λ (t : Bool). showing (cond t (relengthened b x y z) b) (answerIf t) Nothing) room)
+  lengths-off x y room =
+      let b = inUse state s m c in sym (ap (λ (t : Bool). showing (cond t (relengthened b x y) b) (answerIf t) Nothing) room)
 
-  pub memory-put : (i v : ℕ) (put : Bool) (m′ : List ℕ) → Stored (wordFits (take (s .memory) m) i) (take (s .memory) m) i v put (take (s .memory) m′) → showing (inUse state s m′ c e) (answerIf put) Nothing ≡ outcome (Memory i v) (inUse state s m c e)
+  pub memory-put : (i v : ℕ) (put : Bool) (m′ : List ℕ) → Stored (wordFits (take (s .memory) m) i) (take (s .memory) m) i v put (take (s .memory) m′) → showing (inUse state s m′ c) (answerIf put) Nothing ≡ outcome (Memory i v) (inUse state s m c)
   unfolding outcome
   memory-put i v put m′ w =
-      ap (λ (l : List ℕ). showing (lent state l (take (s .cache) c) (take (s .list) e)) (answerIf put) Nothing) (w .leaves)
-      ∙ ap (λ (t : Bool). showing (lent state (storedIf (wordFits (take (s .memory) m) i) (take (s .memory) m) i v) (take (s .cache) c) (take (s .list) e)) (answerIf t) Nothing) (w .told)
+      ap (λ (l : List ℕ). showing (lent state l (take (s .cache) c)) (answerIf put) Nothing) (w .leaves)
+      ∙ ap (λ (t : Bool). showing (lent state (storedIf (wordFits (take (s .memory) m) i) (take (s .memory) m) i v) (take (s .cache) c)) (answerIf t) Nothing) (w .told)
 
-  pub cache-put : (i v : ℕ) (put : Bool) (c′ : List ℕ) → Stored (wordFits (take (s .cache) c) i) (take (s .cache) c) i v put (take (s .cache) c′) → showing (inUse state s m c′ e) (answerIf put) Nothing ≡ outcome (Cache i v) (inUse state s m c e)
+  pub cache-put : (i v : ℕ) (put : Bool) (c′ : List ℕ) → Stored (wordFits (take (s .cache) c) i) (take (s .cache) c) i v put (take (s .cache) c′) → showing (inUse state s m c′) (answerIf put) Nothing ≡ outcome (Cache i v) (inUse state s m c)
   unfolding outcome
   cache-put i v put c′ w =
-      ap (λ (l : List ℕ). showing (lent state (take (s .memory) m) l (take (s .list) e)) (answerIf put) Nothing) (w .leaves)
-      ∙ ap (λ (t : Bool). showing (lent state (take (s .memory) m) (storedIf (wordFits (take (s .cache) c) i) (take (s .cache) c) i v) (take (s .list) e)) (answerIf t) Nothing) (w .told)
+      ap (λ (l : List ℕ). showing (lent state (take (s .memory) m) l) (answerIf put) Nothing) (w .leaves)
+      ∙ ap (λ (t : Bool). showing (lent state (take (s .memory) m) (storedIf (wordFits (take (s .cache) c) i) (take (s .cache) c) i v)) (answerIf t) Nothing) (w .told)
 
-  pub entry-put : (i v : ℕ) (put : Bool) (e′ : List ℕ) → Stored (entryFits (take (s .list) e) i v) (take (s .list) e) i v put (take (s .list) e′) → showing (inUse state s m c e′) (answerIf put) Nothing ≡ outcome (Entry i v) (inUse state s m c e)
-  unfolding outcome
-  entry-put i v put e′ w =
-      ap (λ (l : List ℕ). showing (lent state (take (s .memory) m) (take (s .cache) c) l) (answerIf put) Nothing) (w .leaves)
-      ∙ ap (λ (t : Bool). showing (lent state (take (s .memory) m) (take (s .cache) c) (storedIf (entryFits (take (s .list) e) i v) (take (s .list) e) i v)) (answerIf t) Nothing) (w .told)
+  -- The record put anew, if it can be.
+  put-anew : (fits put : Bool) (given after : State) → (put ≡ fits) × (after ≡ given) → showing (inUse after s m c) (answerIf put) Nothing ≡ showing (inUse given s m c) (answerIf fits) Nothing
+  put-anew fits put given after w =
+      ap (λ (t : Bool). showing (inUse after s m c) (answerIf t) Nothing) (w .0) ∙ ap (λ (x : State). showing (inUse x s m c) (answerIf fits) Nothing) (w .1)
 
-  pub field-put : (k v : ℕ) (put : Bool) (after : State) → (put ≡ fieldFits k v) × (after ≡ fieldPut state k v) → showing (inUse after s m c e) (answerIf put) Nothing ≡ outcome (Field k v) (inUse state s m c e)
+  pub word-put : (i v : ℕ) (put : Bool) (after : State) → (put ≡ wordThere i) × (after ≡ wordPut state i v) → showing (inUse after s m c) (answerIf put) Nothing ≡ outcome (Dirty i v) (inUse state s m c)
   unfolding outcome
-  field-put k v put after w =
-      ap (λ (t : Bool). showing (inUse after s m c e) (answerIf t) Nothing) (w .0)
-      ∙ ap (λ (x : State). showing (inUse x s m c e) (answerIf (fieldFits k v)) Nothing) (w .1)
+  word-put i v put after w = put-anew (wordThere i) put (wordPut state i v) after w
 
-  pub worker-put : (w′ k n a v : ℕ) (put : Bool) (after : State) → (put ≡ workerFits w′ k n a v) × (after ≡ workerPut state w′ k n a v) → showing (inUse after s m c e) (answerIf put) Nothing ≡ outcome (Worker w′ k n a v) (inUse state s m c e)
+  pub field-put : (k v : ℕ) (put : Bool) (after : State) → (put ≡ fieldFits k v) × (after ≡ fieldPut state k v) → showing (inUse after s m c) (answerIf put) Nothing ≡ outcome (Field k v) (inUse state s m c)
   unfolding outcome
-  worker-put w′ k n a v put after w =
-      ap (λ (t : Bool). showing (inUse after s m c e) (answerIf t) Nothing) (w .0)
-      ∙ ap (λ (x : State). showing (inUse x s m c e) (answerIf (workerFits w′ k n a v)) Nothing) (w .1)
+  field-put k v put after w = put-anew (fieldFits k v) put (fieldPut state k v) after w
 
-  pub sum-shown : (sum : ℕ) → sum ≡ checksum (inUse state s m c e) → showing (inUse state s m c e) (Number 0) (Number sum) ≡ outcome Checksum (inUse state s m c e)
+  pub worker-put : (w′ k n a v : ℕ) (put : Bool) (after : State) → (put ≡ workerFits w′ k n a v) × (after ≡ workerPut state w′ k n a v) → showing (inUse after s m c) (answerIf put) Nothing ≡ outcome (Worker w′ k n a v) (inUse state s m c)
   unfolding outcome
-  sum-shown sum same = ap (λ (n : ℕ). showing (inUse state s m c e) (Number 0) (Number n)) same
+  worker-put w′ k n a v put after w = put-anew (workerFits w′ k n a v) put (workerPut state w′ k n a v) after w
+
+  pub sum-shown : (sum : ℕ) → sum ≡ checksum (inUse state s m c) → showing (inUse state s m c) (Number 0) (Number sum) ≡ outcome Checksum (inUse state s m c)
+  unfolding outcome
+  sum-shown sum same = ap (λ (n : ℕ). showing (inUse state s m c) (Number 0) (Number n)) same

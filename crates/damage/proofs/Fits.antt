@@ -1,7 +1,7 @@
 -- What follows from a number that fits its field.
 use Prim.Native.Nat.{ℕ, _≤_}
 use mathlib.Core.Path.{_≡_, sym, ap, _∙_}
-use mathlib.Core.Bool.{true, _&&_}
+use mathlib.Core.Bool.{true}
 use lib.Dec.{leb}
 use borrow.Author.Tests.{leb-true}
 use Rattle.board.proofs.Laws.Bools.{and-left, and-right}
@@ -9,13 +9,9 @@ use Rattle.damage.specs.Damages.{roomFor}
 use Rattle.damage.specs.Record.{fieldFits, conditionFits}
 
 -- Lengths that have room are within it.
-pub room-bounds : (m c e : ℕ) → roomFor m c e ≡ true → (m ≤ 4104) × (c ≤ 4104) × (e ≤ 1100)
-room-bounds m c e t =
-    let rest = and-right (leb m 4104) (leb c 4104 && leb e 1100) t in (
-      leb-true m 4104 (and-left (leb m 4104) (leb c 4104 && leb e 1100) t),
-      leb-true c 4104 (and-left (leb c 4104) (leb e 1100) rest),
-      leb-true e 1100 (and-right (leb c 4104) (leb e 1100) rest),
-    )
+pub room-bounds : (m c : ℕ) → roomFor m c ≡ true → (m ≤ 4104) × (c ≤ 4104)
+room-bounds m c t =
+    (leb-true m 4104 (and-left (leb m 4104) (leb c 4104) t), leb-true c 4104 (and-right (leb m 4104) (leb c 4104) t))
 
 -- A number that fits field `n` is within that field's bound.
 pub field-bound : (k n v most : ℕ) → k ≡ n → fieldFits k v ≡ true → fieldFits n v ≡ leb v most → v ≤ most

@@ -8,7 +8,7 @@ use native.Mathlib.Numerals.{add-one}
 use lib.ListN.{length, drop, getD, drop-of-length-le}
 use lib.Seq.{drop-cons}
 use Rattle.board.specs.Board.{Board}
-use Rattle.damage.specs.Checksum.{mixed, summed, fieldNumbers, workersNumbers, rowNumbers, checksum}
+use Rattle.damage.specs.Checksum.{mixed, summed, fieldNumbers, workersNumbers, dirtyNumbers, rowNumbers, checksum}
 
 -- The product by 2^40 + 435 mod 2^64, from the low 24 bits and two halves.
 pub spread-parts : (y : ℕ) → ((y % 16777216 * 1099511627776 + y / 4294967296 * 435 % 4294967296 * 4294967296) % 2 ^ 64 + y % 4294967296 * 435) % 2 ^ 64 ≡ (y * 1099511628211) % 2 ^ 64
@@ -69,7 +69,7 @@ pub eight-parts : (h : ℕ) (a b c d e f g i : List ℕ) → summed h (a ++ b ++
 eight-parts h a b c d e f g i = simp summed-append
 
 -- Everything, part by part.
-pub checksum-parts : (b : Board) → checksum b ≡ summed (summed (summed (summed (summed 14695981039346656037 (fieldNumbers (b .state))) (workersNumbers (b .state))) (rowNumbers (b .memory))) (rowNumbers (b .cache))) (rowNumbers (b .entries))
+pub checksum-parts : (b : Board) → checksum b ≡ summed (summed (summed (summed (summed 14695981039346656037 (fieldNumbers (b .state))) (workersNumbers (b .state))) (dirtyNumbers (b .state))) (rowNumbers (b .memory))) (rowNumbers (b .cache))
 unfolding checksum
 checksum-parts b =
-    five-parts 14695981039346656037 (fieldNumbers (b .state)) (workersNumbers (b .state)) (rowNumbers (b .memory)) (rowNumbers (b .cache)) (rowNumbers (b .entries))
+    five-parts 14695981039346656037 (fieldNumbers (b .state)) (workersNumbers (b .state)) (dirtyNumbers (b .state)) (rowNumbers (b .memory)) (rowNumbers (b .cache))

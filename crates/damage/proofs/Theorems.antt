@@ -1,15 +1,17 @@
 -- What is put is what is read back.
-use Prim.Native.Nat.{ℕ, zero, suc, _≤_}
+use Prim.Native.Nat.{ℕ, zero, suc, _≤_, _<_}
 use mathlib.Core.Path.{_≡_, refl, sym, ap, _∙_}
 use mathlib.Core.Bool.{true, false, _&&_}
-use mathlib.Core.List.{[], _∷_}
+use mathlib.Core.List.{List, [], _∷_}
 use native.Mathlib.Omega.{arith}
 use lib.Dec.{leb, eqb}
+use lib.ListN.{length, getD, set, length-set}
+use lib.Seq.{ext-getD}
 use borrow.Author.Tests.{leb-true, eqb-true, ne-eqb}
 use Rattle.board.proofs.Laws.Bools.{clash, and-left, and-right}
 use Rattle.damage.specs.Record.{phaseOf, undoOf, storeOf, fieldFits, withField, unused, conditionFits, conditionOf}
 use Rattle.damage.specs.Checksum.{phaseNumber, undoNumber, storeNumber, requestNumber}
-use Rattle.damage.specs.Damages.{FieldsReadBack, WorkersReadBack}
+use Rattle.damage.specs.Damages.{FieldsReadBack, WordsReadBack, WorkersReadBack}
 
 phase-back : (v : ℕ) → v ≤ 3 → phaseNumber (phaseOf v) ≡ v
 phase-back zero h = refl
@@ -35,11 +37,11 @@ request-back zero h = refl
 request-back (suc zero) h = refl
 request-back (suc (suc v)) h = absurd (omega arith)
 
--- There are seven fields.
+-- There is no field from 7 on.
 no-field : (k v : ℕ) → 7 ≤ k → fieldFits k v ≡ false
 unfolding fieldFits
 no-field k v h =
-    simp (ne-eqb k 0 (λ e. omega arith), ne-eqb k 1 (λ e. omega arith), ne-eqb k 2 (λ e. omega arith), ne-eqb k 3 (λ e. omega arith), ne-eqb k 4 (λ e. omega arith), ne-eqb k 5 (λ e. omega arith), ne-eqb k 6 (λ e. omega arith))
+    simp (ne-eqb k 0 (λ e. omega arith), ne-eqb k 1 (λ e. omega arith), ne-eqb k 2 (λ e. omega arith), ne-eqb k 4 (λ e. omega arith), ne-eqb k 5 (λ e. omega arith), ne-eqb k 6 (λ e. omega arith))
 
 -- There are four conditions.
 no-condition : (c n a v : ℕ) → 4 ≤ c → conditionFits c n a v ≡ false
@@ -52,11 +54,31 @@ unfolding fieldFits withField
 fields-back s zero v fits = phase-back v (leb-true v 3 fits)
 fields-back s (suc zero) v fits = refl
 fields-back s (suc (suc zero)) v fits = refl
-fields-back s (suc (suc (suc zero))) v fits = refl
+fields-back s (suc (suc (suc zero))) v fits = absurd (clash fits refl)
 fields-back s (suc (suc (suc (suc zero)))) v fits = refl
 fields-back s (suc (suc (suc (suc (suc zero))))) v fits = undo-back v (leb-true v 2 fits)
 fields-back s (suc (suc (suc (suc (suc (suc zero)))))) v fits = request-back v (leb-true v 1 fits)
 fields-back s (suc (suc (suc (suc (suc (suc (suc k))))))) v fits = absurd (clash fits (no-field (suc (suc (suc (suc (suc (suc (suc k))))))) v (omega arith)))
+
+-- Eight words, one by one.
+eight-words : (l : List ℕ) → length l ≡ 8 → getD l 0 0 ∷ getD l 1 0 ∷ getD l 2 0 ∷ getD l 3 0 ∷ getD l 4 0 ∷ getD l 5 0 ∷ getD l 6 0 ∷ getD l 7 0 ∷ [] ≡ l
+eight-words l e = ext-getD 0 (getD l 0 0 ∷ getD l 1 0 ∷ getD l 2 0 ∷ getD l 3 0 ∷ getD l 4 0 ∷ getD l 5 0 ∷ getD l 6 0 ∷ getD l 7 0 ∷ []) l (sym e) at
+  where
+    at : (i : ℕ) → i < 8 → getD (getD l 0 0 ∷ getD l 1 0 ∷ getD l 2 0 ∷ getD l 3 0 ∷ getD l 4 0 ∷ getD l 5 0 ∷ getD l 6 0 ∷ getD l 7 0 ∷ []) i 0 ≡ getD l i 0
+    at zero h = refl
+    at (suc zero) h = refl
+    at (suc (suc zero)) h = refl
+    at (suc (suc (suc zero))) h = refl
+    at (suc (suc (suc (suc zero)))) h = refl
+    at (suc (suc (suc (suc (suc zero))))) h = refl
+    at (suc (suc (suc (suc (suc (suc zero)))))) h = refl
+    at (suc (suc (suc (suc (suc (suc (suc zero))))))) h = refl
+    at (suc (suc (suc (suc (suc (suc (suc (suc i)))))))) h = absurd (omega arith)
+
+-- Each word of the line bits.
+pub words-back : WordsReadBack
+words-back s i v eight =
+    eight-words (set (s .dirty) i v) (length-set (s .dirty) i v ∙ eight) ∙ ap (λ (l : List ℕ). set l i v) (sym (eight-words (s .dirty) eight))
 
 -- Numbers that are not used are 0.
 zeros-back : (c n a v : ℕ) → unused n a v ≡ true → c ∷ 0 ∷ 0 ∷ 0 ∷ [] ≡ c ∷ n ∷ a ∷ v ∷ []

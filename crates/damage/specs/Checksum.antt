@@ -3,7 +3,7 @@ use Prim.Native.Nat.{ℕ, _*_, _%_, _^_}
 use mathlib.Core.Bool.{Bool, true, false}
 use mathlib.Core.List.{List, [], _∷_, _++_}
 use lib.Bits.{bitXor}
-use lib.ListN.{length}
+use lib.ListN.{length, getD}
 use Rattle.board.specs.declared.State.{State}
 use Rattle.board.specs.declared.Phase.{Phase}
 use Rattle.board.specs.declared.Phase.the-variants.{Off, Formatting, Recovering, Running}
@@ -53,10 +53,10 @@ abbrev pub requestNumber : Bool → ℕ
 requestNumber true = 1
 requestNumber false = 0
 
--- "the fields of `B`, rising".
+-- "the fields of `B` that there are, rising".
 abbrev pub fieldNumbers : State → List ℕ
 fieldNumbers s =
-    phaseNumber (s .phase) ∷ s .lines ∷ s .workers ∷ s .listed ∷ s .place ∷ undoNumber (s .undo) ∷ requestNumber (s .requested) ∷ []
+    phaseNumber (s .phase) ∷ s .lines ∷ s .workers ∷ s .place ∷ undoNumber (s .undo) ∷ requestNumber (s .requested) ∷ []
 
 -- "c, n, a, v as in `K`".
 abbrev pub conditionNumbers : Condition → List ℕ
@@ -74,14 +74,19 @@ unfoldable pub workersNumbers : State → List ℕ
 workersNumbers s =
     workerNumbers s 0 ++ workerNumbers s 1 ++ workerNumbers s 2 ++ workerNumbers s 3 ++ workerNumbers s 4 ++ workerNumbers s 5 ++ workerNumbers s 6 ++ workerNumbers s 7
 
+-- "the eight words of bits".
+abbrev pub dirtyNumbers : State → List ℕ
+dirtyNumbers s =
+    getD (s .dirty) 0 0 ∷ getD (s .dirty) 1 0 ∷ getD (s .dirty) 2 0 ∷ getD (s .dirty) 3 0 ∷ getD (s .dirty) 4 0 ∷ getD (s .dirty) 5 0 ∷ getD (s .dirty) 6 0 ∷ getD (s .dirty) 7 0 ∷ []
+
 -- "its length, then its words".
 abbrev pub rowNumbers : List ℕ → List ℕ
 rowNumbers row = length row ∷ row
 
--- "in this order: the fields, the workers, then memory, the cache and the list".
+-- "in this order: the fields, the workers, the words of bits, then memory and the cache".
 abbrev pub everything : Board → List ℕ
 everything b =
-    fieldNumbers (b .state) ++ workersNumbers (b .state) ++ rowNumbers (b .memory) ++ rowNumbers (b .cache) ++ rowNumbers (b .entries)
+    fieldNumbers (b .state) ++ workersNumbers (b .state) ++ dirtyNumbers (b .state) ++ rowNumbers (b .memory) ++ rowNumbers (b .cache)
 
 -- "the checksum of everything".
 unfoldable pub checksum : Board → ℕ

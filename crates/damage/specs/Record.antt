@@ -1,7 +1,8 @@
--- The fault program's `B k v` and `K w c n a v`: the state record with a field or a worker put anew.
+-- The fault program's `B k v`, `Q i v` and `K w c n a v`: the state record with a field, a word of the dirty lines' bits or a worker put anew.
 use Prim.Native.Nat.{ℕ}
 use mathlib.Core.Bool.{Bool, false, cond, _&&_}
 use lib.Dec.{leb, ltb, eqb}
+use lib.ListN.{set}
 use Rattle.board.specs.declared.State.{State}
 use Rattle.board.specs.declared.Phase.{Phase}
 use Rattle.board.specs.declared.Phase.the-variants.{Off, Formatting, Recovering, Running}
@@ -25,10 +26,10 @@ undoOf n = cond (eqb n 0) Restore (cond (eqb n 1) Unmark WriteLine)
 abbrev pub storeOf : ℕ → Store
 storeOf n = cond (eqb n 0) Backup (cond (eqb n 1) Mark Record)
 
--- "0 phase; 1 L, to 65,535; 2 W, to 255; 3 the list's length, to 65,535; 4 place, to 65,535; 5 a recovery's step; 6 request, 0 or 1".
+-- "0 phase; 1 L, to 65,535; 2 W, to 255; 4 place, to 65,535; 5 a recovery's step; 6 request, 0 or 1"; "there is no field 3".
 unfoldable pub fieldFits : ℕ → ℕ → Bool
 fieldFits k v =
-    cond (eqb k 0) (leb v 3) (cond (eqb k 1) (leb v 65535) (cond (eqb k 2) (leb v 255) (cond (eqb k 3) (leb v 65535) (cond (eqb k 4) (leb v 65535) (cond (eqb k 5) (leb v 2) (cond (eqb k 6) (leb v 1) false))))))
+    cond (eqb k 0) (leb v 3) (cond (eqb k 1) (leb v 65535) (cond (eqb k 2) (leb v 255) (cond (eqb k 4) (leb v 65535) (cond (eqb k 5) (leb v 2) (cond (eqb k 6) (leb v 1) false)))))
 
 -- "field k of the record := v", all else as it was.
 unfoldable pub withField : State → ℕ → ℕ → State
@@ -37,16 +38,29 @@ withField s k v =
       phase = cond (eqb k 0) (phaseOf v) (s .phase);
       lines = cond (eqb k 1) v (s .lines);
       workers = cond (eqb k 2) v (s .workers);
-      listed = cond (eqb k 3) v (s .listed);
       place = cond (eqb k 4) v (s .place);
       undo = cond (eqb k 5) (undoOf v) (s .undo);
       requested = cond (eqb k 6) (eqb v 1) (s .requested);
+      dirty = s .dirty;
       worker = s .worker;
     }
 
 -- The record after `B k v`.
 abbrev pub fieldPut : State → ℕ → ℕ → State
 fieldPut s k v = cond (fieldFits k v) (withField s k v) s
+
+-- "word i, 0 to 7, of the record's line bits".
+abbrev pub wordThere : ℕ → Bool
+wordThere i = ltb i 8
+
+-- That word := v, all else as it was.
+abbrev pub withWord : State → ℕ → ℕ → State
+withWord s i v =
+    record { phase = s .phase; lines = s .lines; workers = s .workers; place = s .place; undo = s .undo; requested = s .requested; dirty = set (s .dirty) i v; worker = s .worker }
+
+-- The record after `Q i v`.
+abbrev pub wordPut : State → ℕ → ℕ → State
+wordPut s i v = cond (wordThere i) (withWord s i v) s
 
 -- "those that a condition has no use for must be 0".
 abbrev pub unused : ℕ → ℕ → ℕ → Bool

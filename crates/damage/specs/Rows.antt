@@ -1,9 +1,9 @@
--- The fault program's `W m c e`, `M i v`, `N i v` and `Q i v`: rows made longer or shorter, and words of a row.
+-- The fault program's `W m c`, `M i v` and `N i v`: rows made longer or shorter, and words of a row.
 use Prim.Native.Nat.{ℕ, _-_}
 use mathlib.Core.Path.{_≡_}
-use mathlib.Core.Bool.{Bool, cond, _&&_}
+use mathlib.Core.Bool.{Bool, cond}
 use mathlib.Core.List.{List, _++_}
-use lib.Dec.{ltb, leb}
+use lib.Dec.{ltb}
 use lib.ListN.{length, take, set, replicate}
 
 -- "words that stay keep their contents, new ones are 0".
@@ -13,10 +13,6 @@ resized row n = take n row ++ replicate (n - length row) 0
 -- "i the row's length or more: `?`".
 abbrev pub wordFits : List ℕ → ℕ → Bool
 wordFits row i = ltb i (length row)
-
--- "list entry i := v, at most 65,535, i the list's length or more: `?`".
-abbrev pub entryFits : List ℕ → ℕ → ℕ → Bool
-entryFits list i v = ltb i (length list) && leb v 65535
 
 -- "word i := v", where it can be put.
 abbrev pub storedIf : Bool → List ℕ → ℕ → ℕ → List ℕ

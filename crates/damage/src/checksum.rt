@@ -3,7 +3,7 @@ ghost use mathlib.Core.Path.{_≡_};
 ghost use mathlib.Core.List.{[], _∷_};
 ghost use Prim.Native.Nat.{_*_, _%_, _^_};
 ghost use Rattle.board.specs.Next.{lent};
-ghost use Rattle.damage.specs.Checksum.{mixed, summed, phaseNumber, undoNumber, requestNumber, storeNumber, fieldNumbers, conditionNumbers, workersNumbers, rowNumbers, checksumOf, checksum};
+ghost use Rattle.damage.specs.Checksum.{mixed, summed, phaseNumber, undoNumber, requestNumber, storeNumber, fieldNumbers, conditionNumbers, workersNumbers, dirtyNumbers, rowNumbers, checksumOf, checksum};
 use board::Condition;
 use board::Phase;
 use board::State;
@@ -37,25 +37,6 @@ fn mix_row(sum: u64, row: &[u64]) -> u64
     let mut i = 0;
     while i < row.len() {
         reached = mix(reached, row[i]);
-        i += 1;
-    }
-    reached
-}
-
-fn wide(x: u16) -> u64
-    ensures { λ r. ⌜ r ≡ x ⌝ }
-{
-    x as u64
-}
-
-// The same of the list.
-fn mix_list(sum: u64, list: &[u16]) -> u64
-    ensures { λ r. ⌜ r ≡ summed sum (rowNumbers (now (list .entry))) ⌝ }
-{
-    let mut reached = mix(sum, list.len() as u64);
-    let mut i = 0;
-    while i < list.len() {
-        reached = mix(reached, wide(list[i]));
         i += 1;
     }
     reached
@@ -137,12 +118,11 @@ fn mix_fields(sum: u64, state: State) -> u64
 {
     let phase = state.phase;
     let undo = state.undo;
-    let first = mix(sum, phase_number(phase));
     let four = mix_four(
-        first,
+        sum,
+        phase_number(phase),
         state.lines as u64,
         state.workers as u64,
-        state.listed as u64,
         state.place as u64,
     );
     let five = mix(four, undo_number(undo));
@@ -178,13 +158,22 @@ fn mix_workers(sum: u64, state: State) -> u64
     mix_worker(g, state.worker[7])
 }
 
+// "the eight words of bits".
+fn mix_dirty(sum: u64, state: State) -> u64
+    ensures { λ r. ⌜ r ≡ summed sum (dirtyNumbers state) ⌝ }
+{
+    let dirty = state.dirty;
+    let half = mix_four(sum, dirty[0], dirty[1], dirty[2], dirty[3]);
+    mix_four(half, dirty[4], dirty[5], dirty[6], dirty[7])
+}
+
 // "the checksum of everything".
-pub fn checksum(state: State, memory: &[u64], cache: &[u64], list: &[u16]) -> u64
-    ensures { λ r. ⌜ r ≡ checksum (lent state (now (memory .entry)) (now (cache .entry)) (now (list .entry))) ⌝ }
+pub fn checksum(state: State, memory: &[u64], cache: &[u64]) -> u64
+    ensures { λ r. ⌜ r ≡ checksum (lent state (now (memory .entry)) (now (cache .entry))) ⌝ }
 {
     let fields = mix_fields(14695981039346656037, state);
     let workers = mix_workers(fields, state);
-    let words = mix_row(workers, memory);
-    let lines = mix_row(words, cache);
-    mix_list(lines, list)
+    let bits = mix_dirty(workers, state);
+    let words = mix_row(bits, memory);
+    mix_row(words, cache)
 }

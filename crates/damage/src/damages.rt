@@ -1,4 +1,4 @@
-// The fault program's own letters, each on a board whose rows are the first words of three arrays.
+// The fault program's own letters, each on a board whose rows are the first words of two arrays.
 ghost use mathlib.Core.Path.{_≡_};
 ghost use Rattle.damage.specs.Damages.{outcome, answerIf, roomFor, inUse, left, Within, HasRoom};
 ghost use Rattle.script.specs.declared.Damage.the-variants.{Lengths, Checksum};
@@ -7,11 +7,10 @@ use crate::Sizes;
 use crate::checksum::checksum;
 use crate::record::Put;
 use crate::record::put_field;
+use crate::record::put_word;
 use crate::record::put_worker;
 use crate::rows::resize;
-use crate::rows::resize_list;
 use crate::rows::store;
-use crate::rows::store_entry;
 use board::State;
 use script::Damage;
 use script::Shown;
@@ -45,42 +44,35 @@ fn recorded(put: Put, sizes: Sizes) -> Damaged
 }
 
 // "over the room: `?`".
-fn has_room(memory: u64, cache: u64, list: u64) -> bool
-    ensures { λ r. ⌜ r ≡ roomFor memory cache list ⌝ }
+fn has_room(memory: u64, cache: u64) -> bool
+    ensures { λ r. ⌜ r ≡ roomFor memory cache ⌝ }
 {
     if memory > 4104 {
         return false;
     }
-    if cache > 4104 {
-        return false;
-    }
-    list <= 1100
+    cache <= 4104
 }
 
-// "W m c e: the rows' lengths".
+// "W m c: the rows' lengths".
 fn put_lengths(
     state: State,
     sizes: Sizes,
     memory: &mut [u64],
     cache: &mut [u64],
-    entries: &mut [u16],
     m: u64,
     c: u64,
-    e: u64,
 ) -> Damaged
-    requires { ⌜ Within sizes × HasRoom (now memory) (now cache) (now entries) ⌝ }
-    ensures { λ r. ⌜ left r (now (memory .exit)) (now (cache .exit)) (now (entries .exit)) ≡ outcome (Lengths m c e) (inUse state sizes (now (memory .entry)) (now (cache .entry)) (now (entries .entry))) ⌝ }
+    requires { ⌜ Within sizes × HasRoom (now memory) (now cache) ⌝ }
+    ensures { λ r. ⌜ left r (now (memory .exit)) (now (cache .exit)) ≡ outcome (Lengths m c) (inUse state sizes (now (memory .entry)) (now (cache .entry))) ⌝ }
     ensures { λ r. ⌜ Within (r .sizes) ⌝ }
 {
-    if has_room(m, c, e) {
+    if has_room(m, c) {
         let new = Sizes {
             memory: m as usize,
             cache: c as usize,
-            list: e as usize,
         };
         resize(memory, sizes.memory, m as usize);
         resize(cache, sizes.cache, c as usize);
-        resize_list(entries, sizes.list, e as usize);
         return shown(state, new, true);
     }
     shown(state, sizes, false)
@@ -99,21 +91,14 @@ fn summed(state: State, sizes: Sizes, sum: u64) -> Damaged
 }
 
 // "T: the checksum of everything".
-fn show_checksum(
-    state: State,
-    sizes: Sizes,
-    memory: &[u64],
-    cache: &[u64],
-    entries: &[u16],
-) -> Damaged
-    requires { ⌜ Within sizes × HasRoom (now memory) (now cache) (now entries) ⌝ }
-    ensures { λ r. ⌜ left r (now (memory .entry)) (now (cache .entry)) (now (entries .entry)) ≡ outcome Checksum (inUse state sizes (now (memory .entry)) (now (cache .entry)) (now (entries .entry))) ⌝ }
+fn show_checksum(state: State, sizes: Sizes, memory: &[u64], cache: &[u64]) -> Damaged
+    requires { ⌜ Within sizes × HasRoom (now memory) (now cache) ⌝ }
+    ensures { λ r. ⌜ left r (now (memory .entry)) (now (cache .entry)) ≡ outcome Checksum (inUse state sizes (now (memory .entry)) (now (cache .entry))) ⌝ }
     ensures { λ r. ⌜ Within (r .sizes) ⌝ }
 {
     let words = sizes.memory;
     let lines = sizes.cache;
-    let list = sizes.list;
-    let sum = checksum(state, &memory[..words], &cache[..lines], &entries[..list]);
+    let sum = checksum(state, &memory[..words], &cache[..lines]);
     summed(state, sizes, sum)
 }
 
@@ -123,26 +108,20 @@ pub fn carry_out(
     sizes: Sizes,
     memory: &mut [u64],
     cache: &mut [u64],
-    entries: &mut [u16],
     damage: Damage,
 ) -> Damaged
-    requires { ⌜ Within sizes × HasRoom (now memory) (now cache) (now entries) ⌝ }
-    ensures { λ r. ⌜ left r (now (memory .exit)) (now (cache .exit)) (now (entries .exit)) ≡ outcome damage (inUse state sizes (now (memory .entry)) (now (cache .entry)) (now (entries .entry))) ⌝ }
+    requires { ⌜ Within sizes × HasRoom (now memory) (now cache) ⌝ }
+    ensures { λ r. ⌜ left r (now (memory .exit)) (now (cache .exit)) ≡ outcome damage (inUse state sizes (now (memory .entry)) (now (cache .entry))) ⌝ }
     ensures { λ r. ⌜ Within (r .sizes) ⌝ }
 {
     match damage {
         Damage::Lengths {
             memory: m,
             cache: c,
-            list: e,
-        } => put_lengths(state, sizes, memory, cache, entries, m, c, e),
+        } => put_lengths(state, sizes, memory, cache, m, c),
         Damage::Memory { at, word } => shown(state, sizes, store(memory, sizes.memory, at, word)),
         Damage::Cache { at, word } => shown(state, sizes, store(cache, sizes.cache, at, word)),
-        Damage::Entry { at, entry } => shown(
-            state,
-            sizes,
-            store_entry(entries, sizes.list, at, entry),
-        ),
+        Damage::Dirty { at, word } => recorded(put_word(state, at, word), sizes),
         Damage::Field { field, number } => recorded(put_field(state, field, number), sizes),
         Damage::Worker {
             worker,
@@ -154,6 +133,6 @@ pub fn carry_out(
             put_worker(state, worker, condition, next, cell, value),
             sizes,
         ),
-        Damage::Checksum => show_checksum(state, sizes, memory, cache, entries),
+        Damage::Checksum => show_checksum(state, sizes, memory, cache),
     }
 }

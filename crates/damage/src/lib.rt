@@ -9,11 +9,10 @@ pub use checksum::bytes_checksum;
 pub use damages::carry_out;
 use script::Shown;
 
-// How many words of the memory and cache arrays and entries of the list array are in use.
+// How many words of the memory and cache arrays are in use.
 pub struct Sizes {
     pub memory: usize,
     pub cache: usize,
-    pub list: usize,
 }
 
 // After a line: the state record, the words in use, and the answer and the value to show.

@@ -1,7 +1,7 @@
-// The state record with a field or a worker put anew.
+// The state record with a field, a word of the dirty lines' bits or a worker put anew.
 ghost use mathlib.Core.Path.{_≡_};
 ghost use mathlib.Core.Bool.{true};
-ghost use Rattle.damage.specs.Record.{phaseOf, undoOf, storeOf, fieldFits, withField, fieldPut, unused, conditionFits, conditionOf, workerFits, workerPut};
+ghost use Rattle.damage.specs.Record.{phaseOf, undoOf, storeOf, fieldFits, withField, fieldPut, wordThere, wordPut, unused, conditionFits, conditionOf, workerFits, workerPut};
 use board::Condition;
 use board::Phase;
 use board::State;
@@ -56,7 +56,6 @@ fn field_fits(field: u64, number: u64) -> bool
         0 => number <= 3,
         1 => number <= 65535,
         2 => number <= 255,
-        3 => number <= 65535,
         4 => number <= 65535,
         5 => number <= 2,
         6 => number <= 1,
@@ -79,10 +78,6 @@ fn with_field(state: State, field: u64, number: u64) -> State
         },
         2 => State {
             workers: number as u8,
-            ..state
-        },
-        3 => State {
-            listed: number as u16,
             ..state
         },
         4 => State {
@@ -110,6 +105,21 @@ pub fn put_field(state: State, field: u64, number: u64) -> Put
         };
     }
     Put { state, put: false }
+}
+
+// "Q i v": word i of the record's line bits := v.
+pub fn put_word(state: State, at: u64, word: u64) -> Put
+    ensures { λ r. ⌜ (r .put ≡ wordThere at) × (r .state ≡ wordPut state at word) ⌝ }
+{
+    if at >= 8 {
+        return Put { state, put: false };
+    }
+    let mut dirty = state.dirty;
+    dirty[at as usize] = word;
+    Put {
+        state: State { dirty, ..state },
+        put: true,
+    }
 }
 
 // "those that a condition has no use for must be 0".

@@ -2,7 +2,7 @@
 ghost use mathlib.Core.Path.{_≡_};
 ghost use Prim.Native.Nat.{_≤_};
 ghost use lib.ListN.{length, take};
-ghost use Rattle.damage.specs.Rows.{wordFits, entryFits, Stored, resized};
+ghost use Rattle.damage.specs.Rows.{wordFits, Stored, resized};
 
 // "M i v", "N i v": a word := v. Whether there is such a word.
 pub fn store(row: &mut [u64], used: usize, at: u64, word: u64) -> bool
@@ -11,21 +11,6 @@ pub fn store(row: &mut [u64], used: usize, at: u64, word: u64) -> bool
 {
     if at < used as u64 {
         row[at as usize] = word;
-        return true;
-    }
-    false
-}
-
-// "Q i v": list entry i := v, at most 65,535. Whether there is such an entry, and v fits it.
-pub fn store_entry(list: &mut [u16], used: usize, at: u64, entry: u64) -> bool
-    requires { ⌜ used ≤ length (now list) ⌝ }
-    ensures { λ r. ⌜ Stored (entryFits (take used (now (list .entry))) at entry) (take used (now (list .entry))) at entry r (take used (now (list .exit))) ⌝ }
-{
-    if at >= used as u64 {
-        return false;
-    }
-    if entry <= 65535 {
-        list[at as usize] = entry as u16;
         return true;
     }
     false
@@ -42,21 +27,6 @@ pub fn resize(row: &mut [u64], used: usize, size: usize)
     }
     while i < size {
         row[i] = 0;
-        i += 1;
-    }
-}
-
-// The same of a list.
-pub fn resize_list(list: &mut [u16], used: usize, size: usize)
-    requires { ⌜ (used ≤ length (now list)) × (size ≤ length (now list)) ⌝ }
-    ensures { λ _. ⌜ take size (now (list .exit)) ≡ resized (take used (now (list .entry))) size ⌝ }
-{
-    let mut i = used;
-    if size <= used {
-        return;
-    }
-    while i < size {
-        list[i] = 0;
         i += 1;
     }
 }

@@ -4,10 +4,8 @@ use board::Call;
 use board::State;
 use libc::STDOUT_FILENO;
 
-// A row of a board with one cell line, and its list.
+// A row of a board with one cell line.
 type Row = [u64; 16];
-
-type List = [u16; 2];
 
 // Tells the number of a call that was turned down.
 fn told(number: u8) {
@@ -18,11 +16,11 @@ fn told(number: u8) {
 }
 
 // Makes one call, as often as is asked, and passes on the record that it leaves.
-fn make(s: State, m: &mut Row, c: &mut Row, l: &mut List, call: Call, times: u64) -> State {
+fn make(s: State, m: &mut Row, c: &mut Row, call: Call, times: u64) -> State {
     let mut state = s;
     let mut left = times;
     while left > 0 {
-        let answer = engine::perform(call, state, m, c, l);
+        let answer = engine::perform(call, state, m, c);
         state = answer.state;
         told(answer.number);
         left -= 1;
@@ -31,8 +29,8 @@ fn make(s: State, m: &mut Row, c: &mut Row, l: &mut List, call: Call, times: u64
 }
 
 // Prints what cell 1 reads.
-fn show(s: State, m: &mut Row, c: &mut Row, l: &mut List) {
-    let answer = engine::perform(Call::Read { cell: 1 }, s, m, c, l);
+fn show(s: State, m: &mut Row, c: &mut Row) {
+    let answer = engine::perform(Call::Read { cell: 1 }, s, m, c);
     io::print_decimal(STDOUT_FILENO, answer.value);
     io::write_all(STDOUT_FILENO, b"\n");
 }
@@ -47,13 +45,13 @@ fn update(value: u64) -> Call {
 }
 
 // An update or a restart point of worker 0: its start, and the three stores of a cell that is not logged yet.
-fn change(s: State, m: &mut Row, c: &mut Row, l: &mut List, start: Call) -> State {
-    let begun = make(s, m, c, l, start, 1);
-    make(begun, m, c, l, Call::Advance { worker: 0 }, 3)
+fn change(s: State, m: &mut Row, c: &mut Row, start: Call) -> State {
+    let begun = make(s, m, c, start, 1);
+    make(begun, m, c, Call::Advance { worker: 0 }, 3)
 }
 
-// A new board, 7 in cell 1, a checkpoint of n = 2 listed cells in n + 3 steps; then 9 in cell 1, its line written back.
-fn work(m: &mut Row, c: &mut Row, l: &mut List) {
+// A new board, 7 in cell 1, a checkpoint of n = 1 dirty line in n + 3 steps; then 9 in cell 1, its line written back.
+fn work(m: &mut Row, c: &mut Row) {
     let format = Call::FormatStart {
         lines: 1,
         workers: 1,
@@ -62,26 +60,26 @@ fn work(m: &mut Row, c: &mut Row, l: &mut List) {
         worker: 0,
         value: 3,
     };
-    let started = make(engine::off(), m, c, l, format, 1);
-    let fresh = make(started, m, c, l, Call::Step, 3);
-    let seven = change(fresh, m, c, l, update(7));
-    let asked = make(seven, m, c, l, Call::Request, 1);
-    let waiting = change(asked, m, c, l, point);
-    let kept = make(waiting, m, c, l, Call::Step, 5);
-    let nine = change(kept, m, c, l, update(9));
-    let written = make(nine, m, c, l, Call::WriteBack { line: 1 }, 1);
-    show(written, m, c, l);
+    let started = make(engine::off(), m, c, format, 1);
+    let fresh = make(started, m, c, Call::Step, 3);
+    let seven = change(fresh, m, c, update(7));
+    let asked = make(seven, m, c, Call::Request, 1);
+    let waiting = change(asked, m, c, point);
+    let kept = make(waiting, m, c, Call::Step, 4);
+    let nine = change(kept, m, c, update(9));
+    let written = make(nine, m, c, Call::WriteBack { line: 1 }, 1);
+    show(written, m, c);
 }
 
 // After a cut: 3 steps for the logged cell and 1 for the other.
-fn recover(m: &mut Row, c: &mut Row, l: &mut List) {
-    let started = make(engine::off(), m, c, l, Call::RecoveryStart, 1);
-    let running = make(started, m, c, l, Call::Step, 4);
-    show(running, m, c, l);
+fn recover(m: &mut Row, c: &mut Row) {
+    let started = make(engine::off(), m, c, Call::RecoveryStart, 1);
+    let running = make(started, m, c, Call::Step, 4);
+    show(running, m, c);
 }
 
 fn main() {
     let mut memory = [0u64; 16];
-    work(&mut memory, &mut [0u64; 16], &mut [0u16; 2]);
-    recover(&mut memory, &mut [0u64; 16], &mut [0u16; 2]);
+    work(&mut memory, &mut [0u64; 16]);
+    recover(&mut memory, &mut [0u64; 16]);
 }

@@ -3,15 +3,15 @@ use mathlib.Core.Path.{_≡_, refl}
 use mathlib.Core.List.{List, [], _∷_, _++_, map}
 use Prim.Native.Nat.{ℕ}
 use lib.ListN.{replicate}
-use Rattle.board.specs.declared.Call.the-variants.{FormatStart, Step, Update, RestartPoint, Read, GoAway, ComeBack}
+use Rattle.board.specs.declared.Call.the-variants.{FormatStart, Step, Update, RestartPoint, Read, GoAway, ComeBack, Count}
 use Rattle.script.specs.declared.Line.{Line}
 use Rattle.script.specs.declared.Line.the-variants.{Format, Make, Show, Cut, Damage as Damaging, Page as Paging, Unknown}
-use Rattle.script.specs.declared.Damage.the-variants.{Field, Worker, Checksum}
+use Rattle.script.specs.declared.Damage.the-variants.{Lengths, Dirty, Field, Worker, Checksum}
 use Rattle.script.specs.declared.Program.the-variants.{Drill, Fault, Page}
 use Rattle.script.specs.declared.Shown.the-variants as shown
-use Rattle.text.specs.Ascii.{tab, feed, '-', '0', '9', '?', 'A', 'B', 'F', 'G', 'K', 'P', 'S', 'T', 'U', 'X', 'a', 'b', 'f', 'p'}
+use Rattle.text.specs.Ascii.{tab, feed, '-', '0', '9', '?', 'A', 'B', 'F', 'G', 'K', 'P', 'Q', 'S', 'T', 'U', 'W', 'X', 'a', 'b', 'f', 'p'}
 use Rattle.text.specs.Numbers.{spelled, allDigits, valueAfter}
-use Rattle.script.specs.Grammar.{fields, isNumber, allNumbers, drilled, damaging, formed, meaning}
+use Rattle.script.specs.Grammar.{'n', fields, isNumber, allNumbers, drilled, damaging, formed, meaning}
 use Rattle.script.specs.Answers.{answerText}
 
 -- A line of the script, and what it means.
@@ -61,14 +61,17 @@ pub lines-mean : map (λ (e : Example). meaning Drill (e .text)) examples ≡ ma
 unfolding fields allDigits valueAfter isNumber allNumbers drilled damaging formed meaning
 lines-mean = refl
 
--- The fault program's own letters: "T", "p 9", "a 7", "b 0", "f 1 1", "B 6 1" and "K 7 2 0 9 5", with tabs for blanks, and a drill's letter.
+-- The fault program's own letters: "T", "n", "p 9", "a 7", "b 0", "f 1 1", "W 9 9", "Q 7 5", "B 6 1" and "K 7 2 0 9 5", with tabs for blanks, and a drill's letter.
 abbrev pub damages : List Example
 damages =
     row ('T' ∷ []) (Damaging Checksum) ∷
+    row ('n' ∷ []) (Show Count) ∷
     row ('p' ∷ tab ∷ '9' ∷ []) (Paging 9) ∷
     row ('a' ∷ tab ∷ 55 ∷ []) (Make (GoAway 7)) ∷
     row ('b' ∷ tab ∷ '0' ∷ []) (Make (ComeBack 0)) ∷
     row ('f' ∷ tab ∷ 49 ∷ tab ∷ 49 ∷ []) (Make (FormatStart 1 1)) ∷
+    row ('W' ∷ tab ∷ '9' ∷ tab ∷ '9' ∷ []) (Damaging (Lengths 9 9)) ∷
+    row ('Q' ∷ tab ∷ 55 ∷ tab ∷ 53 ∷ []) (Damaging (Dirty 7 5)) ∷
     row ('B' ∷ tab ∷ 54 ∷ tab ∷ 49 ∷ []) (Damaging (Field 6 1)) ∷
     row ('K' ∷ tab ∷ 55 ∷ tab ∷ 50 ∷ tab ∷ '0' ∷ tab ∷ '9' ∷ tab ∷ 53 ∷ []) (Damaging (Worker 7 2 0 9 5)) ∷
     row ('S' ∷ []) (Make Step) ∷
@@ -77,6 +80,9 @@ damages =
     row ('b' ∷ []) Unknown ∷
     row ('a' ∷ tab ∷ 55 ∷ tab ∷ '0' ∷ []) Unknown ∷
     row ('b' ∷ tab ∷ 55 ∷ tab ∷ '0' ∷ []) Unknown ∷
+    -- One number, and three.
+    row ('n' ∷ tab ∷ '0' ∷ []) Unknown ∷
+    row ('W' ∷ tab ∷ '9' ∷ tab ∷ '9' ∷ tab ∷ '9' ∷ []) Unknown ∷
     -- Four numbers, and six.
     row ('K' ∷ tab ∷ 55 ∷ tab ∷ 50 ∷ tab ∷ '0' ∷ tab ∷ '9' ∷ []) Unknown ∷
     row ('K' ∷ tab ∷ 55 ∷ tab ∷ 50 ∷ tab ∷ '0' ∷ tab ∷ '9' ∷ tab ∷ 53 ∷ tab ∷ 53 ∷ []) Unknown ∷
@@ -89,9 +95,9 @@ damages-mean = refl
 -- Neither the drill nor the page program knows any of them.
 abbrev pub undrilled : List (List ℕ)
 undrilled =
-    ('T' ∷ []) ∷ ('p' ∷ tab ∷ '9' ∷ []) ∷ ('a' ∷ tab ∷ 55 ∷ []) ∷ ('b' ∷ tab ∷ '0' ∷ []) ∷ ('f' ∷ tab ∷ 49 ∷ tab ∷ 49 ∷ []) ∷ []
+    ('T' ∷ []) ∷ ('n' ∷ []) ∷ ('p' ∷ tab ∷ '9' ∷ []) ∷ ('a' ∷ tab ∷ 55 ∷ []) ∷ ('b' ∷ tab ∷ '0' ∷ []) ∷ ('f' ∷ tab ∷ 49 ∷ tab ∷ 49 ∷ []) ∷ []
 
-pub damages-unknown : map (meaning Drill) undrilled ++ map (meaning Page) undrilled ≡ replicate 10 Unknown
+pub damages-unknown : map (meaning Drill) undrilled ++ map (meaning Page) undrilled ≡ replicate 12 Unknown
 unfolding fields allDigits valueAfter isNumber allNumbers drilled damaging formed meaning
 damages-unknown = refl
 

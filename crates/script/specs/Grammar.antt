@@ -4,14 +4,18 @@ use mathlib.Core.List.{List, [], _∷_, map}
 use mathlib.Core.Bool.{Bool, true, cond, _&&_}
 use lib.Dec.{leb, ltb, eqb}
 use lib.ListN.{length}
-use Rattle.board.specs.declared.Call.the-variants.{FormatStart, RecoveryStart, Step, Update, RestartPoint, Advance, Request, WriteBack, Read, GoAway, ComeBack}
+use Rattle.board.specs.declared.Call.the-variants.{FormatStart, RecoveryStart, Step, Update, RestartPoint, Advance, Request, WriteBack, Read, GoAway, ComeBack, Count}
 use Rattle.script.specs.declared.Line.{Line}
 use Rattle.script.specs.declared.Line.the-variants.{Format, Make, Show, Cut, Damage as Damaging, Page as Paging, Unknown}
-use Rattle.script.specs.declared.Damage.the-variants.{Lengths, Memory, Cache, Entry, Field, Worker, Checksum}
+use Rattle.script.specs.declared.Damage.the-variants.{Lengths, Memory, Cache, Dirty, Field, Worker, Checksum}
 use Rattle.script.specs.declared.Program.{Program}
 use Rattle.script.specs.declared.Program.the-variants.{Drill, Fault, Page}
 use Rattle.text.specs.Numbers.{allDigits, value}
 use Rattle.text.specs.Ascii.{tab, 'A', 'B', 'C', 'E', 'F', 'G', 'K', 'M', 'N', 'P', 'Q', 'R', 'S', 'T', 'U', 'W', 'X', 'a', 'b', 'f', 'p'}
+
+-- The letter of the count.
+abbrev pub 'n' : ℕ
+'n' = 110
 
 -- A byte put in front of the first field.
 abbrev pub joined : ℕ → List (List ℕ) → List (List ℕ)
@@ -49,16 +53,15 @@ drilled letter (a ∷ b ∷ c ∷ d ∷ more) other = other
 
 -- What a letter of the fault program alone with its numbers asks for.
 unfoldable pub damaging : ℕ → List ℕ → Line
--- "T": the checksum of everything.
-damaging letter [] = cond (eqb letter 'T') (Damaging Checksum) Unknown
+-- "T": the checksum of everything; "n": the count.
+damaging letter [] = cond (eqb letter 'T') (Damaging Checksum) (cond (eqb letter 'n') (Show Count) Unknown)
 -- "p room: a page in a text row of `room` bytes"; "a w, b w: going away, coming back".
 damaging letter (a ∷ []) =
     cond (eqb letter 'p') (Paging a) (cond (eqb letter 'a') (Make (GoAway a)) (cond (eqb letter 'b') (Make (ComeBack a)) Unknown))
--- "f L W: a format's start alone"; "M i v", "N i v", "Q i v", "B k v".
+-- "f L W: a format's start alone"; "W m c: the rows' lengths"; "M i v", "N i v", "Q i v: word i .. of the record's line bits", "B k v".
 damaging letter (a ∷ b ∷ []) =
-    cond (eqb letter 'f') (Make (FormatStart a b)) (cond (eqb letter 'M') (Damaging (Memory a b)) (cond (eqb letter 'N') (Damaging (Cache a b)) (cond (eqb letter 'Q') (Damaging (Entry a b)) (cond (eqb letter 'B') (Damaging (Field a b)) Unknown))))
--- "W m c e: the rows' lengths".
-damaging letter (a ∷ b ∷ c ∷ []) = cond (eqb letter 'W') (Damaging (Lengths a b c)) Unknown
+    cond (eqb letter 'f') (Make (FormatStart a b)) (cond (eqb letter 'W') (Damaging (Lengths a b)) (cond (eqb letter 'M') (Damaging (Memory a b)) (cond (eqb letter 'N') (Damaging (Cache a b)) (cond (eqb letter 'Q') (Damaging (Dirty a b)) (cond (eqb letter 'B') (Damaging (Field a b)) Unknown)))))
+damaging letter (a ∷ b ∷ c ∷ []) = Unknown
 damaging letter (a ∷ b ∷ c ∷ d ∷ []) = Unknown
 -- "K w c n a v".
 damaging letter (a ∷ b ∷ c ∷ d ∷ e ∷ []) = cond (eqb letter 'K') (Damaging (Worker a b c d e)) Unknown

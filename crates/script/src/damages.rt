@@ -8,7 +8,7 @@ use crate::Line;
 use crate::Numbers;
 use board::Call;
 
-// "T".
+// "T", "n".
 fn with_none(letter: u8) -> Line
     ensures { λ r. ⌜ r ≡ damaging letter [] ⌝ }
 {
@@ -16,6 +16,7 @@ fn with_none(letter: u8) -> Line
         b'T' => Line::Damage {
             damage: Damage::Checksum,
         },
+        b'n' => Line::Show { call: Call::Count },
         _ => Line::Unknown,
     }
 }
@@ -36,7 +37,7 @@ fn with_one(letter: u8, a: u64) -> Line
     }
 }
 
-// "f L W", "M i v", "N i v", "Q i v", "B k v".
+// "f L W", "W m c", "M i v", "N i v", "Q i v", "B k v".
 fn with_two(letter: u8, a: u64, b: u64) -> Line
     ensures { λ r. ⌜ r ≡ damaging letter (a ∷ b ∷ []) ⌝ }
 {
@@ -47,6 +48,12 @@ fn with_two(letter: u8, a: u64, b: u64) -> Line
                 workers: b,
             },
         },
+        b'W' => Line::Damage {
+            damage: Damage::Lengths {
+                memory: a,
+                cache: b,
+            },
+        },
         b'M' => Line::Damage {
             damage: Damage::Memory { at: a, word: b },
         },
@@ -54,28 +61,12 @@ fn with_two(letter: u8, a: u64, b: u64) -> Line
             damage: Damage::Cache { at: a, word: b },
         },
         b'Q' => Line::Damage {
-            damage: Damage::Entry { at: a, entry: b },
+            damage: Damage::Dirty { at: a, word: b },
         },
         b'B' => Line::Damage {
             damage: Damage::Field {
                 field: a,
                 number: b,
-            },
-        },
-        _ => Line::Unknown,
-    }
-}
-
-// "W m c e".
-fn with_three(letter: u8, a: u64, b: u64, c: u64) -> Line
-    ensures { λ r. ⌜ r ≡ damaging letter (a ∷ b ∷ c ∷ []) ⌝ }
-{
-    match letter {
-        b'W' => Line::Damage {
-            damage: Damage::Lengths {
-                memory: a,
-                cache: b,
-                list: c,
             },
         },
         _ => Line::Unknown,
@@ -108,7 +99,7 @@ pub fn damaging(letter: u8, got: Numbers) -> Line
         Numbers::Zero => with_none(letter),
         Numbers::One(a) => with_one(letter, a),
         Numbers::Two(a, b) => with_two(letter, a, b),
-        Numbers::Three(a, b, c) => with_three(letter, a, b, c),
+        Numbers::Three(_, _, _) => Line::Unknown,
         Numbers::Four(_, _, _, _) => Line::Unknown,
         Numbers::Five(a, b, c, d, e) => with_five(letter, a, b, c, d, e),
         Numbers::Bad => Line::Unknown,

@@ -31,13 +31,12 @@ pub enum Line {
     Unknown,
 }
 
-// What a line of the fault program puts into the board: the rows' lengths, a word of memory, one of the cache, an entry
-// of the list, a field of the record, a worker; or nothing, with the checksum of everything shown.
+// What a line of the fault program puts into the board: the rows' lengths, a word of memory, one of the cache, one of
+// the dirty lines' bits, a field of the record, a worker; or nothing, with the checksum of everything shown.
 pub enum Damage {
     Lengths {
         memory: u64,
         cache: u64,
-        list: u64,
     },
     Memory {
         at: u64,
@@ -47,9 +46,9 @@ pub enum Damage {
         at: u64,
         word: u64,
     },
-    Entry {
+    Dirty {
         at: u64,
-        entry: u64,
+        word: u64,
     },
     Field {
         field: u64,

@@ -19,31 +19,29 @@ use Rattle.session.specs.Session.{boardOf, Within}
 use Rattle.session.specs.Lines.{Done, done, carriedOut, left, Switched}
 use Rattle.session.proofs.Rows.{part-back, take-replicate}
 
-module _ (i j k : ℕ) (m c e m′ c′ e′ : List ℕ) (im : i ≤ length m) (jc : j ≤ length c) (ke : k ≤ length e) (hm : length m′ ≡ length (take i m)) (hc : length c′ ≡ length (take j c)) (he : length e′ ≡ length (take k e)) where
+module _ (i j : ℕ) (m c m′ c′ : List ℕ) (im : i ≤ length m) (jc : j ≤ length c) (hm : length m′ ≡ length (take i m)) (hc : length c′ ≡ length (take j c)) where
   -- The board once the parts of its rows are back.
-  pub board-back : (state : State) → lent state (take i (m′ ++ drop i m)) (take j (c′ ++ drop j c)) (take k (e′ ++ drop k e)) ≡ lent state m′ c′ e′
+  pub board-back : (state : State) → lent state (take i (m′ ++ drop i m)) (take j (c′ ++ drop j c)) ≡ lent state m′ c′
   board-back state =
-      ap (λ (x : List ℕ). lent state x (take j (c′ ++ drop j c)) (take k (e′ ++ drop k e))) (part-back i m m′ im hm)
-      ∙ ap (λ (x : List ℕ). lent state m′ x (take k (e′ ++ drop k e))) (part-back j c c′ jc hc)
-      ∙ ap (λ (x : List ℕ). lent state m′ c′ x) (part-back k e e′ ke he)
+      ap (λ (x : List ℕ). lent state x (take j (c′ ++ drop j c))) (part-back i m m′ im hm) ∙ ap (lent state m′) (part-back j c c′ jc hc)
 
   -- A call of the board on the parts in use.
-  pub made : (call : Call) (state after : State) (number value : ℕ) → Performed call (lent state (take i m) (take j c) (take k e)) number value (lent after m′ c′ e′) → done (lent after (take i (m′ ++ drop i m)) (take j (c′ ++ drop j c)) (take k (e′ ++ drop k e))) (Number number) (Number value) ≡ carriedOut (line.Show call) (lent state (take i m) (take j c) (take k e))
+  pub made : (call : Call) (state after : State) (number value : ℕ) → Performed call (lent state (take i m) (take j c)) number value (lent after m′ c′) → done (lent after (take i (m′ ++ drop i m)) (take j (c′ ++ drop j c))) (Number number) (Number value) ≡ carriedOut (line.Show call) (lent state (take i m) (take j c))
   made call state after number value p =
       ap (λ (x : Board). done x (Number number) (Number value)) (board-back after)
       ∙ ap (λ (o : Outcome). done (o .board) (Number (o .number)) (Number (o .value))) p
 
 -- A call whose value is not shown.
-pub hidden : (call : Call) (r s : Answered) (m c e : List ℕ) (b : Board) → (r .session ≡ s .session) × (r .answer ≡ s .answer) × (r .value ≡ Nothing) → left s m c e ≡ carriedOut (line.Show call) b → left r m c e ≡ carriedOut (line.Make call) b
-hidden call r s m c e b w did =
-    ap (λ (x : Session). done (boardOf x m c e) (r .answer) (r .value)) (w .0)
-    ∙ ap (λ (x : Shown). done (boardOf (s .session) m c e) x (r .value)) (w .1)
-    ∙ ap (done (boardOf (s .session) m c e) (s .answer)) (w .2)
+pub hidden : (call : Call) (r s : Answered) (m c : List ℕ) (b : Board) → (r .session ≡ s .session) × (r .answer ≡ s .answer) × (r .value ≡ Nothing) → left s m c ≡ carriedOut (line.Show call) b → left r m c ≡ carriedOut (line.Make call) b
+hidden call r s m c b w did =
+    ap (λ (x : Session). done (boardOf x m c) (r .answer) (r .value)) (w .0)
+    ∙ ap (λ (x : Shown). done (boardOf (s .session) m c) x (r .value)) (w .1)
+    ∙ ap (done (boardOf (s .session) m c) (s .answer)) (w .2)
     ∙ ap (λ (d : Done). done (d .board) (d .answer) Nothing) did
 
 -- A cut: the whole cache zeroed zeroes the words in use.
-pub cut-off : (s : Session) (r : Answered) (m c e c′ : List ℕ) → s .cache ≤ length c → Switched s r → c′ ≡ replicate (length c) 0 → left r m c′ e ≡ carriedOut line.Cut (boardOf s m c e)
-cut-off s r m c e c′ fits w z =
+pub cut-off : (s : Session) (r : Answered) (m c c′ : List ℕ) → s .cache ≤ length c → Switched s r → c′ ≡ replicate (length c) 0 → left r m c′ ≡ carriedOut line.Cut (boardOf s m c)
+cut-off s r m c c′ fits w z =
     let zeros : take (s .cache) c′ ≡ replicate (length (take (s .cache) c)) 0 =
     ap (take (s .cache)) z ∙ take-replicate (s .cache) (length c) 0 fits
     ∙ ap (λ (k : ℕ). replicate k 0) (sym (length-take-le (s .cache) c fits)) in cc
@@ -53,7 +51,7 @@ pub acted : {asked : Line} (k : Line) (b : Board) (d : Done) → asked ≡ k →
 acted k b d told did = did ∙ ap (λ (x : Line). carriedOut x b) (sym told)
 
 -- A session that keeps the lengths in use keeps them within its arrays.
-pub same-within : {s r t : Session} → r ≡ t → (t .memory ≡ s .memory) × (t .cache ≡ s .cache) × (t .list ≡ s .list) → Within s → Within r
+pub same-within : {s r t : Session} → r ≡ t → (t .memory ≡ s .memory) × (t .cache ≡ s .cache) → Within s → Within r
 same-within {s} {r} {t} e w h =
-    let fits : Within t = record { memory-within = omega (arith, w .0, h .memory-within); cache-within = omega (arith, w .1, h .cache-within); list-within = omega (arith, w .2, h .list-within) } in
+    let fits : Within t = record { memory-within = omega (arith, w .0, h .memory-within); cache-within = omega (arith, w .1, h .cache-within) } in
     subst Within (sym e) fits

@@ -1,5 +1,5 @@
 -- A format to its end, and what turns one down.
-use Prim.Native.Nat.{ℕ, zero, suc, _+_, _-_, _≤_, _<_}
+use Prim.Native.Nat.{ℕ, zero, suc, _-_, _≤_, _<_}
 use mathlib.Core.Path.{_≡_, refl, sym, ap, _∙_}
 use mathlib.Core.List.{List, _++_}
 use mathlib.Core.Bool.{true, false}
@@ -10,9 +10,9 @@ use lib.Seq.{length-take-le}
 use Rattle.board.specs.declared.State.{State}
 use Rattle.board.specs.declared.Call.{Call}
 use Rattle.board.specs.declared.Call.the-variants.{FormatStart, Step}
-use Rattle.board.specs.Board.{Board, rowWords, listWords, linesOutside, workersOutside, outside}
+use Rattle.board.specs.Board.{Board, rowWords, linesOutside, workersOutside, outside}
 use Rattle.board.specs.Causes.{causes, cause, firstStanding}
-use Rattle.board.specs.Next.{lent, next, Taken, Outcome, outcome}
+use Rattle.board.specs.Next.{lent, Taken, Outcome, outcome}
 use Rattle.board.specs.Statements.{stepsFrom}
 use Rattle.board.proofs.Invariant.{Sizes}
 use Rattle.board.proofs.Laws.Bools.{chosen, passedOver, or-left}
@@ -56,7 +56,6 @@ taken-within-limits l w state o =
       limits = or-left (linesOutside l) (workersOutside l w) o;
       memory = record { size = length-replicate (rowWords l) 0 };
       cache = record { size = length-replicate (rowWords l) 0 };
-      entries = omega (arith, length-replicate {A = ℕ} (listWords l) 0);
     } in
     taken-if (FormatStart l w) (rowsFor l state) (o, (rows-fine l (rowsFor l state) sizes, tt))
 
@@ -65,16 +64,13 @@ pub format-down : (l w : ℕ) (b : Board) → outside l w ≡ true → done b (N
 format-down l w b o = sym (chosen (outside l w) _ _ o)
 
 -- A taken format leaves its last step's board, and rows of its size.
-pub format-up : (l w i k : ℕ) (state after : State) (b : Board) (m c e m′ c′ e′ : List ℕ) → i ≡ rowWords l → k ≡ listWords l → outside l w ≡ false → b .state ≡ state → i ≤ length m → i ≤ length c → k ≤ length e → length m′ ≡ length (take i m) → length c′ ≡ length (take i c) → length e′ ≡ length (take k e) → lent after m′ c′ e′ ≡ formatted l w (lent state (replicate (length (take i m)) 0) (replicate (length (take i c)) 0) (replicate (length (take k e)) 0)) → done (lent after (take i (m′ ++ drop i m)) (take i (c′ ++ drop i c)) (take k (e′ ++ drop k e))) (Number 0) Nothing ≡ carriedOut (line.Format l w) b
-format-up l w i k state after b m c e m′ c′ e′ words list o same im jc ke hm hc he did =
+pub format-up : (l w i : ℕ) (state after : State) (b : Board) (m c m′ c′ : List ℕ) → i ≡ rowWords l → outside l w ≡ false → b .state ≡ state → i ≤ length m → i ≤ length c → length m′ ≡ length (take i m) → length c′ ≡ length (take i c) → lent after m′ c′ ≡ formatted l w (lent state (replicate (length (take i m)) 0) (replicate (length (take i c)) 0)) → done (lent after (take i (m′ ++ drop i m)) (take i (c′ ++ drop i c))) (Number 0) Nothing ≡ carriedOut (line.Format l w) b
+format-up l w i state after b m c m′ c′ words o same im jc hm hc did =
     let sm = length-take-le i m im ∙ words in
     let sc = length-take-le i c jc ∙ words in
-    let se = length-take-le k e ke ∙ list in
-    let zeros : lent state (replicate (length (take i m)) 0) (replicate (length (take i c)) 0) (replicate (length (take k e)) 0) ≡ rowsFor l (b .state) =
-    ap (λ (n : ℕ). lent state (replicate n 0) (replicate (length (take i c)) 0) (replicate (length (take k e)) 0)) sm
-    ∙ ap (λ (n : ℕ). lent state (replicate (rowWords l) 0) (replicate n 0) (replicate (length (take k e)) 0)) sc
-    ∙ ap (λ (n : ℕ). lent state (replicate (rowWords l) 0) (replicate (rowWords l) 0) (replicate n 0)) se
+    let zeros : lent state (replicate (length (take i m)) 0) (replicate (length (take i c)) 0) ≡ rowsFor l (b .state) =
+    ap (λ (n : ℕ). lent state (replicate n 0) (replicate (length (take i c)) 0)) sm
+    ∙ ap (λ (n : ℕ). lent state (replicate (rowWords l) 0) (replicate n 0)) sc
     ∙ ap (rowsFor l) (sym same) in
-    ap (λ (x : Board). done x (Number 0) Nothing)
-    (board-back i i k m c e m′ c′ e′ im jc ke hm hc he after ∙ did ∙ ap (formatted l w) zeros)
+    ap (λ (x : Board). done x (Number 0) Nothing) (board-back i i m c m′ c′ im jc hm hc after ∙ did ∙ ap (formatted l w) zeros)
     ∙ sym (passedOver (outside l w) _ _ o)

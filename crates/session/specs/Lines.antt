@@ -9,7 +9,7 @@ use Rattle.board.specs.declared.State.{State}
 use Rattle.board.specs.declared.Phase.the-variants.{Off}
 use Rattle.board.specs.declared.Call.{Call}
 use Rattle.board.specs.declared.Call.the-variants.{FormatStart}
-use Rattle.board.specs.Board.{Board, rowWords, listWords, outside}
+use Rattle.board.specs.Board.{Board, rowWords, outside}
 use Rattle.board.specs.Causes.{cause}
 use Rattle.board.specs.Next.{lent, next, valueOf}
 use Rattle.board.specs.Next as board
@@ -38,7 +38,7 @@ done board answer value = record { board = board; answer = answer; value = value
 
 -- "Rows are sized by the last taken F": rows made anew for L lines, all 0.
 abbrev pub rowsFor : ℕ → State → Board
-rowsFor l state = lent state (replicate (rowWords l) 0) (replicate (rowWords l) 0) (replicate (listWords l) 0)
+rowsFor l state = lent state (replicate (rowWords l) 0) (replicate (rowWords l) 0)
 
 -- "F L W (format to the end)": the start, and its L+2 steps.
 abbrev pub formatted : ℕ → ℕ → Board → Board
@@ -47,11 +47,11 @@ formatted l w b = stepsFrom (formatSteps l) (next (FormatStart l w) b)
 -- "phase off", all else as it was.
 abbrev pub switchedOff : State → State
 switchedOff s =
-    record { phase = Off; lines = s .lines; workers = s .workers; listed = s .listed; place = s .place; undo = s .undo; requested = s .requested; worker = s .worker }
+    record { phase = Off; lines = s .lines; workers = s .workers; place = s .place; undo = s .undo; requested = s .requested; dirty = s .dirty; worker = s .worker }
 
 -- "X (cut: cache zeroed, phase off, answer 0)".
 abbrev pub cutOff : Board → Board
-cutOff b = lent (switchedOff (b .state)) (b .memory) (replicate (length (b .cache)) 0) (b .entries)
+cutOff b = lent (switchedOff (b .state)) (b .memory) (replicate (length (b .cache)) 0)
 
 -- "p room: a page in a text row of `room` bytes, each 0xAA before".
 abbrev pub textRow : ℕ → List ℕ
@@ -61,7 +61,7 @@ textRow room = replicate room 170
 abbrev pub paged : ℕ → Board → Done
 paged room b = done b (Number (pageCause b (textRow room))) (Number (checksumOf (pageLeft b (textRow room))))
 
--- What a line does. A format is turned down by its limits alone, and then changes nothing. "A G turned down prints value 0".
+-- What a line does. A format is turned down by its limits alone, and then changes nothing. "A G turned down prints value 0", and so does an `n`.
 abbrev pub carriedOut : Line → Board → Done
 carriedOut (line.Format l w) b =
     cond (outside l w) (done b (Number 1) Nothing) (done (formatted l w (rowsFor l (b .state))) (Number 0) Nothing)
@@ -85,11 +85,11 @@ repeated zero call o = o
 repeated (suc n) call o = repeated n call (board.outcome call (o .board))
 
 -- What the code leaves and shows.
-abbrev pub left : Answered → List ℕ → List ℕ → List ℕ → Done
-left r memory cache entries = done (boardOf (r .session) memory cache entries) (r .answer) (r .value)
+abbrev pub left : Answered → List ℕ → List ℕ → Done
+left r memory cache = done (boardOf (r .session) memory cache) (r .answer) (r .value)
 
 -- A cut, but for the cache.
 abbrev pub Switched : Session → Answered → Type 0
 Switched s r =
     (r .session .state ≡ switchedOff (s .state)) × (r .session .memory ≡ s .memory) × (r .session .cache ≡ s .cache) ×
-    (r .session .list ≡ s .list) × (r .answer ≡ Number 0) × (r .value ≡ Nothing)
+    (r .answer ≡ Number 0) × (r .value ≡ Nothing)

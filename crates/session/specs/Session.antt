@@ -1,21 +1,20 @@
--- The board of a session: the state record, and the parts in use of three arrays that have room for the largest board.
+-- The board of a session: the state record, and the parts in use of two arrays that have room for the largest board.
 use Prim.Native.Nat.{ℕ, _≤_}
 use mathlib.Core.List.{List, []}
 use lib.ListN.{length, take}
 use Rattle.board.specs.declared.Phase.the-variants.{Off}
-use Rattle.board.specs.Board.{Board, rowWords, listWords}
+use Rattle.board.specs.Board.{Board, rowWords}
 use Rattle.board.specs.State.{started}
 use Rattle.board.specs.Next.{lent}
 use Rattle.session.specs.declared.Session.{Session}
 
 -- The board of a session.
-abbrev pub boardOf : Session → List ℕ → List ℕ → List ℕ → Board
-boardOf s memory cache entries =
-    lent (s .state) (take (s .memory) memory) (take (s .cache) cache) (take (s .list) entries)
+abbrev pub boardOf : Session → List ℕ → List ℕ → Board
+boardOf s memory cache = lent (s .state) (take (s .memory) memory) (take (s .cache) cache)
 
 -- "before one they are empty and the phase is off"; every other field is 0, all workers are free.
 abbrev pub firstBoard : Board
-firstBoard = lent (started Off 0 0) [] [] []
+firstBoard = lent (started Off 0 0) [] []
 
 -- ---- what only requirements cite
 
@@ -23,16 +22,13 @@ firstBoard = lent (started Off 0 0) [] [] []
 pub record Within (s : Session) : Type 0 where
   pub memory-within : s .memory ≤ 4104
   pub cache-within : s .cache ≤ 4104
-  pub list-within : s .list ≤ 1100
 
 -- The parts in use are within the given rows.
-pub record Fits (s : Session) (memory cache entries : List ℕ) : Type 0 where
+pub record Fits (s : Session) (memory cache : List ℕ) : Type 0 where
   pub memory-fits : s .memory ≤ length memory
   pub cache-fits : s .cache ≤ length cache
-  pub list-fits : s .list ≤ length entries
 
 -- The rows have room for the largest board.
-pub record Room (memory cache entries : List ℕ) : Type 0 where
+pub record Room (memory cache : List ℕ) : Type 0 where
   pub memory-room : rowWords 511 ≤ length memory
   pub cache-room : rowWords 511 ≤ length cache
-  pub list-room : listWords 511 ≤ length entries

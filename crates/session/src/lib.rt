@@ -18,12 +18,11 @@ use script::Damage;
 use script::Line;
 use script::Shown;
 
-// The board's state record, and how many words of the memory and cache arrays and entries of the list array are in use.
+// The board's state record, and how many words of the memory and cache arrays are in use.
 pub struct Session {
     pub state: State,
     pub memory: usize,
     pub cache: usize,
-    pub list: usize,
 }
 
 // The session after a line, with the answer and the value to show.
@@ -35,35 +34,27 @@ pub struct Answered {
 
 // "before one they are empty and the phase is off".
 pub fn new() -> Session
-    ensures { λ r. ⌜ (r .state ≡ started Phase.Off 0 0) × (r .memory ≡ 0) × (r .cache ≡ 0) × (r .list ≡ 0) ⌝ }
+    ensures { λ r. ⌜ (r .state ≡ started Phase.Off 0 0) × (r .memory ≡ 0) × (r .cache ≡ 0) ⌝ }
 {
     Session {
         state: engine::off(),
         memory: 0,
         cache: 0,
-        list: 0,
     }
 }
 
 // A call made again and again; what is given back is the last one's. All calls are made here, so that `perform` stands
 // in one place of the program and its record is taken apart there (docs/BENCH.md).
-fn repeat(
-    call: Call,
-    state: State,
-    memory: &mut [u64],
-    cache: &mut [u64],
-    entries: &mut [u16],
-    times: u64,
-) -> Reading
-    ensures { λ r. ⌜ given (r .number) (r .value) (lent (r .state) (now (memory .exit)) (now (cache .exit)) (now (entries .exit)))
-        ≡ repeated times call (given 0 0 (lent state (now (memory .entry)) (now (cache .entry)) (now (entries .entry)))) ⌝ }
+fn repeat(call: Call, state: State, memory: &mut [u64], cache: &mut [u64], times: u64) -> Reading
+    ensures { λ r. ⌜ given (r .number) (r .value) (lent (r .state) (now (memory .exit)) (now (cache .exit)))
+        ≡ repeated times call (given 0 0 (lent state (now (memory .entry)) (now (cache .entry)))) ⌝ }
 {
     let mut left = times;
     let mut number: u8 = 0;
     let mut value: u64 = 0;
     let mut now = state;
     while left > 0 {
-        let r = engine::perform(call, now, memory, cache, entries);
+        let r = engine::perform(call, now, memory, cache);
         number = r.number;
         value = r.value;
         now = r.state;
@@ -77,27 +68,19 @@ fn repeat(
 }
 
 // One call of the board, with its value shown.
-fn make(
-    session: Session,
-    memory: &mut [u64],
-    cache: &mut [u64],
-    entries: &mut [u16],
-    call: Call,
-) -> Answered
-    requires { ⌜ Fits session (now memory) (now cache) (now entries) ⌝ }
-    ensures { λ r. ⌜ left r (now (memory .exit)) (now (cache .exit)) (now (entries .exit)) ≡ carriedOut (Show call) (boardOf session (now (memory .entry)) (now (cache .entry)) (now (entries .entry))) ⌝ }
-    ensures { λ r. ⌜ (r .session .memory ≡ session .memory) × (r .session .cache ≡ session .cache) × (r .session .list ≡ session .list) ⌝ }
+fn make(session: Session, memory: &mut [u64], cache: &mut [u64], call: Call) -> Answered
+    requires { ⌜ Fits session (now memory) (now cache) ⌝ }
+    ensures { λ r. ⌜ left r (now (memory .exit)) (now (cache .exit)) ≡ carriedOut (Show call) (boardOf session (now (memory .entry)) (now (cache .entry))) ⌝ }
+    ensures { λ r. ⌜ (r .session .memory ≡ session .memory) × (r .session .cache ≡ session .cache) ⌝ }
 {
     let state = session.state;
     let in_memory = session.memory;
     let in_cache = session.cache;
-    let list = session.list;
     let r = repeat(
         call,
         state,
         &mut memory[..in_memory],
         &mut cache[..in_cache],
-        &mut entries[..list],
         1,
     );
     let next = r.state;
@@ -106,7 +89,6 @@ fn make(
             state: next,
             memory: in_memory,
             cache: in_cache,
-            list,
         },
         answer: Shown::Number(r.number as u64),
         value: Shown::Number(r.value),
@@ -128,17 +110,6 @@ fn unshown(answered: Answered) -> Answered
 
 // A row zeroed.
 fn zero(row: &mut [u64])
-    ensures { λ _. ⌜ now (row .exit) ≡ replicate (length (now (row .entry))) 0 ⌝ }
-{
-    let mut i = 0;
-    while i < row.len() {
-        row[i] = 0;
-        i += 1;
-    }
-}
-
-// A list zeroed.
-fn zero_list(row: &mut [u16])
     ensures { λ _. ⌜ now (row .exit) ≡ replicate (length (now (row .entry))) 0 ⌝ }
 {
     let mut i = 0;
@@ -174,20 +145,18 @@ fn format_rows(
     state: State,
     memory: &mut [u64],
     cache: &mut [u64],
-    entries: &mut [u16],
     lines: u64,
     workers: u64,
 ) -> State
     requires { ⌜ lines ≤ 511 ⌝ }
-    ensures { λ r. ⌜ lent r (now (memory .exit)) (now (cache .exit)) (now (entries .exit)) ≡ formatted lines workers (lent state (replicate (length (now (memory .entry))) 0) (replicate (length (now (cache .entry))) 0) (replicate (length (now (entries .entry))) 0)) ⌝ }
+    ensures { λ r. ⌜ lent r (now (memory .exit)) (now (cache .exit)) ≡ formatted lines workers (lent state (replicate (length (now (memory .entry))) 0) (replicate (length (now (cache .entry))) 0)) ⌝ }
 {
     zero(memory);
     zero(cache);
-    zero_list(entries);
     let start = Call::FormatStart { lines, workers };
-    let begun = repeat(start, state, memory, cache, entries, 1);
+    let begun = repeat(start, state, memory, cache, 1);
     let started = begun.state;
-    let ended = repeat(Call::Step, started, memory, cache, entries, lines + 2);
+    let ended = repeat(Call::Step, started, memory, cache, lines + 2);
     ended.state
 }
 
@@ -196,13 +165,12 @@ fn format(
     session: Session,
     memory: &mut [u64],
     cache: &mut [u64],
-    entries: &mut [u16],
     lines: u64,
     workers: u64,
 ) -> Answered
     requires { ⌜ Within session ⌝ }
-    requires { ⌜ Room (now memory) (now cache) (now entries) ⌝ }
-    ensures { λ r. ⌜ left r (now (memory .exit)) (now (cache .exit)) (now (entries .exit)) ≡ carriedOut (Format lines workers) (boardOf session (now (memory .entry)) (now (cache .entry)) (now (entries .entry))) ⌝ }
+    requires { ⌜ Room (now memory) (now cache) ⌝ }
+    ensures { λ r. ⌜ left r (now (memory .exit)) (now (cache .exit)) ≡ carriedOut (Format lines workers) (boardOf session (now (memory .entry)) (now (cache .entry))) ⌝ }
     ensures { λ r. ⌜ Within (r .session) ⌝ }
 {
     if checks::limits::outside(lines, workers) {
@@ -214,12 +182,10 @@ fn format(
     }
     let state = session.state;
     let words = board::row_words(lines as u16);
-    let list = board::list_words(lines as u16);
     let next = format_rows(
         state,
         &mut memory[..words],
         &mut cache[..words],
-        &mut entries[..list],
         lines,
         workers,
     );
@@ -228,7 +194,6 @@ fn format(
             state: next,
             memory: words,
             cache: words,
-            list,
         },
         answer: Shown::Number(0),
         value: Shown::Nothing,
@@ -236,24 +201,17 @@ fn format(
 }
 
 // A damaging line of the fault program.
-fn harm(
-    session: Session,
-    memory: &mut [u64],
-    cache: &mut [u64],
-    entries: &mut [u16],
-    asked: Damage,
-) -> Answered
-    requires { ⌜ Within session × HasRoom (now memory) (now cache) (now entries) ⌝ }
-    ensures { λ r. ⌜ left r (now (memory .exit)) (now (cache .exit)) (now (entries .exit)) ≡ carriedOut (Line.Damage asked) (boardOf session (now (memory .entry)) (now (cache .entry)) (now (entries .entry))) ⌝ }
+fn harm(session: Session, memory: &mut [u64], cache: &mut [u64], asked: Damage) -> Answered
+    requires { ⌜ Within session × HasRoom (now memory) (now cache) ⌝ }
+    ensures { λ r. ⌜ left r (now (memory .exit)) (now (cache .exit)) ≡ carriedOut (Line.Damage asked) (boardOf session (now (memory .entry)) (now (cache .entry))) ⌝ }
     ensures { λ r. ⌜ Within (r .session) ⌝ }
 {
     let state = session.state;
     let sizes = Sizes {
         memory: session.memory,
         cache: session.cache,
-        list: session.list,
     };
-    let r = damage::carry_out(state, sizes, memory, cache, entries, asked);
+    let r = damage::carry_out(state, sizes, memory, cache, asked);
     let next = r.state;
     let used = r.sizes;
     let answer = r.answer;
@@ -263,7 +221,6 @@ fn harm(
             state: next,
             memory: used.memory,
             cache: used.cache,
-            list: used.list,
         },
         answer,
         value,
@@ -271,32 +228,19 @@ fn harm(
 }
 
 // A page of the board into a text row. Gives its number.
-pub fn put_page(
-    session: Session,
-    memory: &[u64],
-    cache: &[u64],
-    entries: &[u16],
-    text: &mut [u8],
-) -> u8
-    requires { ⌜ Fits session (now memory) (now cache) (now entries) ⌝ }
+pub fn put_page(session: Session, memory: &[u64], cache: &[u64], text: &mut [u8]) -> u8
+    requires { ⌜ Fits session (now memory) (now cache) ⌝ }
     ensures { λ r. ⌜ PagePerformed
-        (boardOf session (now (memory .entry)) (now (cache .entry)) (now (entries .entry)))
+        (boardOf session (now (memory .entry)) (now (cache .entry)))
         (now (text .entry))
         r
-        (boardOf session (now (memory .entry)) (now (cache .entry)) (now (entries .entry)))
+        (boardOf session (now (memory .entry)) (now (cache .entry)))
         (now (text .exit)) ⌝ }
 {
     let state = session.state;
     let in_memory = session.memory;
     let in_cache = session.cache;
-    let list = session.list;
-    let r = page::page(
-        state,
-        &memory[..in_memory],
-        &cache[..in_cache],
-        &entries[..list],
-        text,
-    );
+    let r = page::page(state, &memory[..in_memory], &cache[..in_cache], text);
     r.number
 }
 
@@ -308,9 +252,9 @@ fn text_row() -> [u8; 70000]
 }
 
 // "p room": a page in a text row of `room` bytes.
-fn print(session: Session, memory: &[u64], cache: &[u64], entries: &[u16], room: u64) -> Answered
-    requires { ⌜ Fits session (now memory) (now cache) (now entries) ⌝ }
-    ensures { λ r. ⌜ left r (now (memory .entry)) (now (cache .entry)) (now (entries .entry)) ≡ carriedOut (Line.Page room) (boardOf session (now (memory .entry)) (now (cache .entry)) (now (entries .entry))) ⌝ }
+fn print(session: Session, memory: &[u64], cache: &[u64], room: u64) -> Answered
+    requires { ⌜ Fits session (now memory) (now cache) ⌝ }
+    ensures { λ r. ⌜ left r (now (memory .entry)) (now (cache .entry)) ≡ carriedOut (Line.Page room) (boardOf session (now (memory .entry)) (now (cache .entry))) ⌝ }
     ensures { λ r. ⌜ r .session ≡ session ⌝ }
 {
     if room > 70000 {
@@ -322,7 +266,7 @@ fn print(session: Session, memory: &[u64], cache: &[u64], entries: &[u16], room:
     }
     let bytes = room as usize;
     let mut text = text_row();
-    let number = put_page(session, memory, cache, entries, &mut text[..bytes]);
+    let number = put_page(session, memory, cache, &mut text[..bytes]);
     let sum = damage::bytes_checksum(&text[..bytes]);
     Answered {
         session,
@@ -336,20 +280,19 @@ pub fn act(
     session: Session,
     memory: &mut [u64; 4104],
     cache: &mut [u64; 4104],
-    entries: &mut [u16; 1100],
     line: Line,
 ) -> Answered
     requires { ⌜ Within session ⌝ }
-    ensures done { λ r. ⌜ left r (now (memory .exit)) (now (cache .exit)) (now (entries .exit)) ≡ carriedOut line (boardOf session (now (memory .entry)) (now (cache .entry)) (now (entries .entry))) ⌝ }
+    ensures done { λ r. ⌜ left r (now (memory .exit)) (now (cache .exit)) ≡ carriedOut line (boardOf session (now (memory .entry)) (now (cache .entry))) ⌝ }
     ensures within { λ r. ⌜ Within (r .session) ⌝ }
 {
     match line {
-        Line::Format { lines, workers } => format(session, memory, cache, entries, lines, workers),
-        Line::Make { call } => unshown(make(session, memory, cache, entries, call)),
-        Line::Show { call } => make(session, memory, cache, entries, call),
+        Line::Format { lines, workers } => format(session, memory, cache, lines, workers),
+        Line::Make { call } => unshown(make(session, memory, cache, call)),
+        Line::Show { call } => make(session, memory, cache, call),
         Line::Cut => cut(session, cache),
-        Line::Damage { damage } => harm(session, memory, cache, entries, damage),
-        Line::Page { room } => print(session, memory, cache, entries, room),
+        Line::Damage { damage } => harm(session, memory, cache, damage),
+        Line::Page { room } => print(session, memory, cache, room),
         Line::Unknown => Answered {
             session,
             answer: Shown::Unknown,

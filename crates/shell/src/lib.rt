@@ -66,29 +66,19 @@ fn converse(
     progress: Progress,
     memory: &mut [u64; 4104],
     cache: &mut [u64; 4104],
-    entries: &mut [u16; 1100],
     line: &mut [u8; 80],
     piece: &[u8],
     out: &mut [u8; 65536],
 ) -> Reached
     requires { ⌜ Ready progress ⌝ }
-    ensures fed { λ r. ⌜ (r .more ≡ true → carriedBy (r .progress) (now (memory .exit)) (now (cache .exit)) (now (entries .exit)) (now (line .exit)) ≡ fed program (carriedBy progress (now (memory .entry)) (now (cache .entry)) (now (entries .entry)) (now (line .entry))) (now (piece .entry)) .after) ⌝ }
+    ensures fed { λ r. ⌜ (r .more ≡ true → carriedBy (r .progress) (now (memory .exit)) (now (cache .exit)) (now (line .exit)) ≡ fed program (carriedBy progress (now (memory .entry)) (now (cache .entry)) (now (line .entry))) (now (piece .entry)) .after) ⌝ }
     ensures ready { λ r. ⌜ Ready (r .progress) ⌝ }
 {
     let mut reached = progress;
     let mut used = 0;
     let mut more = true;
     while used < piece.len() && more {
-        let r = answers::answer(
-            program,
-            reached,
-            memory,
-            cache,
-            entries,
-            line,
-            &piece[used..],
-            out,
-        );
+        let r = answers::answer(program, reached, memory, cache, line, &piece[used..], out);
         more = show(program, out, r.written);
         used += r.used;
         reached = r.progress;
@@ -118,14 +108,13 @@ fn print_page(
     progress: Progress,
     memory: &mut [u64; 4104],
     cache: &mut [u64; 4104],
-    entries: &mut [u16; 1100],
     line: &mut [u8; 80],
     out: &mut [u8; 65536],
     text: &mut [u8; 69564],
 )
     requires { ⌜ Ready progress ⌝ }
 {
-    let r = printing::last_page(progress, memory, cache, entries, line, out, text);
+    let r = printing::last_page(progress, memory, cache, line, out, text);
     if r.number == 0 {
         write(Program::Page, text, r.bytes);
     } else {
@@ -139,7 +128,6 @@ fn finish(
     progress: Progress,
     memory: &mut [u64; 4104],
     cache: &mut [u64; 4104],
-    entries: &mut [u16; 1100],
     line: &mut [u8; 80],
     out: &mut [u8; 65536],
 )
@@ -147,9 +135,9 @@ fn finish(
 {
     if let Program::Page = program {
         let mut text = page::text_row();
-        print_page(progress, memory, cache, entries, line, out, &mut text);
+        print_page(progress, memory, cache, line, out, &mut text);
     } else {
-        let last = answers::answer_last(program, progress, memory, cache, entries, line, out);
+        let last = answers::answer_last(program, progress, memory, cache, line, out);
         write(program, out, last.end);
     }
 }
@@ -160,7 +148,6 @@ fn turn(
     progress: Progress,
     memory: &mut [u64; 4104],
     cache: &mut [u64; 4104],
-    entries: &mut [u16; 1100],
     line: &mut [u8; 80],
     text: &mut [u8],
     out: &mut [u8; 65536],
@@ -171,21 +158,12 @@ fn turn(
     let got = libc::read(STDIN_FILENO, text);
     let n = io::count(got, text);
     if n > 0 {
-        return converse(
-            program,
-            progress,
-            memory,
-            cache,
-            entries,
-            line,
-            &text[..n],
-            out,
-        );
+        return converse(program, progress, memory, cache, line, &text[..n], out);
     }
     if got < 0 {
         complain(program, b"reading failed\n");
     } else {
-        finish(program, progress, memory, cache, entries, line, out);
+        finish(program, progress, memory, cache, line, out);
     }
     Reached {
         progress,
@@ -198,7 +176,6 @@ fn turn(
 pub fn run(program: Program) {
     let mut memory = [0u64; 4104];
     let mut cache = [0u64; 4104];
-    let mut entries = [0u16; 1100];
     let mut line = [0u8; 80];
     let mut text = io::large_buffer();
     let mut out = io::large_buffer();
@@ -214,7 +191,6 @@ pub fn run(program: Program) {
             reached.progress,
             &mut memory,
             &mut cache,
-            &mut entries,
             &mut line,
             &mut text,
             &mut out,

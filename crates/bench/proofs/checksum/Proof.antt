@@ -12,14 +12,10 @@ slice-aggregate-run c = sym (length-take-le _ _ (omega arith))
 slice-aggregate-run-2 : tie.Need-slice-aggregate-run-2
 slice-aggregate-run-2 c = sym (length-take-le _ _ (omega arith))
 
-slice-aggregate-run-3 : tie.Need-slice-aggregate-run-3
-slice-aggregate-run-3 c = sym (length-take-le _ _ (omega arith))
-
 run-requires : tie.Need-run-requires
-run-requires c κs = (search needs, length-take-le _ _ (omega arith) ∙ c .before .before .before .before .row-words .ensures)
+run-requires c κs = (search needs, length-take-le _ _ (omega arith) ∙ c .before .before .row-words .ensures)
 
 pub checksum-spec : {M : Type 1} → statement M
 checksum-spec =
     tie.close
-    (tie.spec (search needs) (search needs) (search needs) slice-aggregate-run (search needs)
-    slice-aggregate-run-2 (search needs) slice-aggregate-run-3 run-requires (search needs))
+    (tie.spec (search needs) (search needs) slice-aggregate-run (search needs) slice-aggregate-run-2 run-requires (search needs))

@@ -17,10 +17,13 @@ cast-checksum c = omega (arith, ltb-false)
 checksum-requires : tie.Need-checksum-requires
 checksum-requires c κs = omega (arith, ltb-false)
 
+has-lines-requires : tie.Need-has-lines-requires
+has-lines-requires c κs = omega (arith, ltb-false)
+
 pub main-spec : {M : Type 1} → statement M
 main-spec =
     tie.close
     (tie.spec (search needs) (search needs) (search needs) (search needs) (search needs) (search needs)
     (search needs) (search needs) (search needs) (search needs) (search needs) (search needs) (search needs)
-    (search needs) (search needs) cast-t21 rem-print-decimal cast-checksum checksum-requires (search needs)
+    (search needs) (search needs) cast-t21 rem-print-decimal has-lines-requires (search needs) cast-checksum checksum-requires (search needs)
     (search needs) (search needs) (search needs))

@@ -8,11 +8,11 @@ use Rattle.session.proofs.harm.Tie as tie
 
 returns : tie.Need-returns
 returns c =
-    let r = c .before .before .before .before .before .before .before .before .carry-out in
+    let r = c .before .before .before .before .before .before .carry-out in
     let within = r .ensures .1 in (
       ap (λ (o : Outcome). done (o .board) (o .answer) (o .value)) (r .ensures .0),
-      record { memory-within = within .memory-within; cache-within = within .cache-within; list-within = within .list-within },
+      record { memory-within = within .memory-within; cache-within = within .cache-within },
     )
 
 pub harm-spec : {M : Type 1} → statement M
-harm-spec = tie.close (tie.spec (search needs) (search needs) (search needs) (search needs) returns)
+harm-spec = tie.close (tie.spec (search needs) (search needs) (search needs) returns)

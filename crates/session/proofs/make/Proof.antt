@@ -11,19 +11,17 @@ use Rattle.session.proofs.make.Tie as tie
 returns : tie.Need-returns
 unfolding repeated
 returns c =
-    let called = c .before .before .before .before .before .before .before .before in
-    let start = called .before .before .before .before .before .before .before .before in
+    let p = c .before .before .before .before .before .before .repeat in
+    let start = c .before .before .before .before .before .before .before .before .before .before .before .before in
     let a = start .args in
     let s = a .session in
-    let p = called .repeat in
-    let did = made (s .memory) (s .cache) (s .list) (a .memory .now) (a .cache .now) (a .entries .now)
-    (p .last .1 .1 .0) (p .last .1 .1 .1 .0) (p .last .1 .1 .1 .1 .0) (start .pre .memory-fits) (start .pre .cache-fits) (start .pre .list-fits)
-    (p .kept .1 .1 .0) (p .kept .1 .1 .1 .0) (p .kept .1 .1 .1 .1 .0)
+    let did = made (s .memory) (s .cache) (a .memory .now) (a .cache .now) (p .last .1 .1 .0) (p .last .1 .1 .1 .0)
+    (start .pre .memory-fits) (start .pre .cache-fits) (p .kept .1 .1 .0) (p .kept .1 .1 .1 .0)
     (a .call) (s .state) (p .result .state) (p .result .number) (p .result .value) (p .ensures) in
-    (did, (refl, refl, refl))
+    (did, (refl, refl))
 
 pub make-spec : {M : Type 1} → statement M
 make-spec =
     tie.close
     (tie.spec (search needs) (λ c. part-size _ _ (omega arith)) (search needs) (λ c. part-size _ _ (omega arith)) (search needs)
-    (λ c. part-size _ _ (omega arith)) (search needs) (search needs) (search needs) (search needs) (search needs) returns)
+    (search needs) (search needs) (search needs) returns)

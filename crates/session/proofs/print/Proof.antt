@@ -8,27 +8,27 @@ use Rattle.session.proofs.print.Statement.{statement}
 use Rattle.session.proofs.print.Tie as tie
 
 returns : tie.Need-returns
-returns c = (page-off _ (c .before .before .before .before .args .room) (c .if1 .taken), refl)
+returns c = (page-off _ (c .before .before .before .args .room) (c .if1 .taken), refl)
 
 slice-aggregate-put-page : tie.Need-slice-aggregate-put-page
 slice-aggregate-put-page c = part-size _ _ (search needs)
 
 array-share-prefix-text : tie.Need-array-share-prefix-text
 array-share-prefix-text c =
-    let room = c .before .before .before .before .before .before .before .before .args .room in
+    let room = c .before .before .before .before .before .before .before .args .room in
     let row = c .before .before .before .text-row .result in
     let page = c .before .put-page in
-    omega (arith, back-size room row (page .last .1 .1 .1 .1 .0) (search needs) (page .kept .1 .1 .1 .1 .0))
+    omega (arith, back-size room row (page .last .1 .1 .1 .0) (search needs) (page .kept .1 .1 .1 .0))
 
 slice-aggregate-bytes-checksum : tie.Need-slice-aggregate-bytes-checksum
 slice-aggregate-bytes-checksum c = part-size _ _ (array-share-prefix-text (c .before))
 
 returns-2 : tie.Need-returns-2
 returns-2 c =
-    let a = c .before .before .before .before .before .before .before .before .before .before .args in
+    let a = c .before .before .before .before .before .before .before .before .before .args in
     let row = c .before .before .before .before .before .text-row in
     let page = c .before .before .before .put-page in
-    (page-shown _ (a .room) (page .result) (c .bytes-checksum .result) (row .result) (page .last .1 .1 .1 .1 .0) (omega arith) (row .ensures) (search needs) (page .kept .1 .1 .1 .1 .0) (page .ensures) (c .bytes-checksum .ensures), refl)
+    (page-shown _ (a .room) (page .result) (c .bytes-checksum .result) (row .result) (page .last .1 .1 .1 .0) (omega arith) (row .ensures) (search needs) (page .kept .1 .1 .1 .0) (page .ensures) (c .bytes-checksum .ensures), refl)
 
 pub print-spec : {M : Type 1} → statement M
 print-spec =

@@ -10,25 +10,23 @@ use Rattle.session.proofs.repeat.Statement.{statement}
 use Rattle.session.proofs.repeat.Tie as tie
 
 abbrev Inv-loop : tie.InvT-loop
-Inv-loop call memory₀ cache₀ entries₀ times left₀ number₀ value₀ now₀ memory cache entries left number value now =
-    (repeated left call (given number value (lent now memory cache entries)) ≡ repeated left₀ call (given number₀ value₀ (lent now₀ memory₀ cache₀ entries₀)))
-    × (length memory ≡ length memory₀) × (length cache ≡ length cache₀) × (length entries ≡ length entries₀)
+Inv-loop call memory₀ cache₀ times left₀ number₀ value₀ now₀ memory cache left number value now =
+    (repeated left call (given number value (lent now memory cache)) ≡ repeated left₀ call (given number₀ value₀ (lent now₀ memory₀ cache₀)))
+    × (length memory ≡ length memory₀) × (length cache ≡ length cache₀)
 
 abbrev μ-loop : tie.MeasureT-loop
-μ-loop call memory₀ cache₀ entries₀ times left₀ number₀ value₀ now₀ memory cache entries left number value now = left
+μ-loop call memory₀ cache₀ times left₀ number₀ value₀ now₀ memory cache left number value now = left
 
 loop-holds : tie.Need-loop-holds Inv-loop μ-loop
-loop-holds c = (refl, refl, refl, refl)
+loop-holds c = (refl, refl, refl)
 
 loop-again : tie.Need-loop-again Inv-loop μ-loop
 loop-again c =
-    let made = c .before .before .before .before .before .before .before in
-    let p = made .perform in
-    let l = made .before .before .before .before .before .loop in (
-      one-call (l .left) _ (given (l .number) (l .value) (lent (l .now) (l .memory) (l .cache) (l .entries))) _ (search needs) (p .ensures) ∙ l .inv .0,
+    let p = c .before .before .before .before .before .perform in
+    let l = c .before .before .before .before .before .before .before .before .before .loop in (
+      one-call (l .left) _ (given (l .number) (l .value) (lent (l .now) (l .memory) (l .cache))) _ (search needs) (p .ensures) ∙ l .inv .0,
       p .kept .1 .1 .0 ∙ l .inv .1,
       p .kept .1 .1 .1 .0 ∙ l .inv .2,
-      p .kept .1 .1 .1 .1 .0 ∙ l .inv .3,
     )
 
 returns : tie.Need-returns Inv-loop μ-loop
@@ -38,4 +36,4 @@ pub repeat-spec : {M : Type 1} → statement M
 repeat-spec =
     tie.close
     (tie.spec Inv-loop μ-loop loop-holds (search needs) (search needs) (search needs) loop-again (search needs)
-    (search needs) (search needs) returns)
+    (search needs) returns)

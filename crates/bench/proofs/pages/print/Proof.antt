@@ -10,11 +10,11 @@ use Rattle.bench.proofs.pages.print.Statement.{statement}
 use Rattle.bench.proofs.pages.print.Tie as tie
 
 abbrev Inv-loop : tie.InvT-loop
-Inv-loop plan rounds state memory cache₀ entries text₀ drawn₀ sum₀ left₀ cache text drawn sum left =
+Inv-loop plan rounds state memory cache₀ text₀ drawn₀ sum₀ left₀ cache text drawn sum left =
     Allowed plan × (length cache ≡ rowWords (plan .lines)) × (drawn .cell < cells (plan .lines)) × (length cache ≡ length cache₀) × (length text ≡ length text₀)
 
 abbrev μ-loop : tie.MeasureT-loop
-μ-loop plan rounds state memory cache₀ entries text₀ drawn₀ sum₀ left₀ cache text drawn sum left = left
+μ-loop plan rounds state memory cache₀ text₀ drawn₀ sum₀ left₀ cache text drawn sum left = left
 
 put-record-requires : tie.Need-put-record-requires Inv-loop μ-loop
 put-record-requires c κs = omega arith

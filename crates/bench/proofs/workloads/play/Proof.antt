@@ -13,17 +13,17 @@ use Rattle.bench.proofs.workloads.play.Statement.{statement}
 use Rattle.bench.proofs.workloads.play.Tie as tie
 
 abbrev Inv-loop : tie.InvT-loop
-Inv-loop round plan rounds from memory₀ cache₀ entries₀ calls left₀ drawn₀ state₀ sum₀ k₀ memory cache entries left drawn state sum k =
+Inv-loop round plan rounds from memory₀ cache₀ calls left₀ drawn₀ state₀ sum₀ k₀ memory cache left drawn state sum k =
     Allowed plan × (length cache ≡ rowWords (plan .lines)) × (drawn .cell < cells (plan .lines)) × (k + left < 2 ^ 64)
-    × (length memory ≡ length memory₀) × (length cache ≡ length cache₀) × (length entries ≡ length entries₀)
+    × (length memory ≡ length memory₀) × (length cache ≡ length cache₀)
 
 abbrev μ-loop : tie.MeasureT-loop
-μ-loop round plan rounds from memory₀ cache₀ entries₀ calls left₀ drawn₀ state₀ sum₀ k₀ memory cache entries left drawn state sum k =
+μ-loop round plan rounds from memory₀ cache₀ calls left₀ drawn₀ state₀ sum₀ k₀ memory cache left drawn state sum k =
     left
 
 mul-left : tie.Need-mul-left Inv-loop μ-loop
 mul-left c =
-    let rounds = c .before .before .before .before .args .rounds in
+    let rounds = c .before .before .before .args .rounds in
     let most = 2 ^ 32 - 1 in
     omega (arith, mul-le-mul {n₁ = rounds} {m₁ = c .calls-in .result} {n₂ = most} {m₂ = most} (omega arith) (omega arith))
 
@@ -41,7 +41,7 @@ draw-requires-2 c κs = omega arith
 
 loop-again : tie.Need-loop-again Inv-loop μ-loop
 loop-again c =
-    ⊎-elim (λ w. omega (arith, ap length (w .6)))
+    ⊎-elim (λ w. omega (arith, ap length (w .7)))
     (⊎-elim (λ w. omega (arith, ap length (w .1))) (λ w. omega (arith, ap length (w .1))))
     (c .before .match .came)
 
@@ -54,4 +54,4 @@ play-spec =
     (tie.spec Inv-loop μ-loop (search needs) (search needs) mul-left (search needs) loop-holds
     (search needs) (search needs) (search needs) (search needs) add-k (search needs)
     unmark-requires draw-requires-2 (search needs) loop-again (search needs)
-    loop-again-2 (search needs) (search needs) (search needs) (search needs))
+    loop-again-2 (search needs) (search needs) (search needs))

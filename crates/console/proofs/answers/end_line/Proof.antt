@@ -26,30 +26,30 @@ returns c =
     let number = c .before .before .before .before .before .wrapping-add-u64 in
     let next = c .before .before .after-line in
     let text = take 80 (take (p .begun) (a .line .now) ++ a .rest .now) in
-    let b = boardOf (p .session) (a .memory .now) (a .cache .now) (a .entries .now) in
+    let b = boardOf (p .session) (a .memory .now) (a .cache .now) in
     let did = acted line.Unknown b (done b Unknown Nothing) (c .before .before .before .enum-told .given .1) refl in (
       ends-as (line-ends (a .program) b (p .number) text (number .result) _ (asked .result .line) _ (number .ensures) (asked .ensures .means) did refl (c .put-answer .ensures .0) (c .put-answer .ensures .1) (omega arith))
-          (sym (ap (λ (q : Progress). carriedBy q (a .memory .now) (a .cache .now) (a .entries .now) (asked .last .1 .0)) (next .ensures))),
+          (sym (ap (λ (q : Progress). carriedBy q (a .memory .now) (a .cache .now) (asked .last .1 .0)) (next .ensures))),
       ready-after (p .session) (number .result) (next .ensures) (start .pre .0 .session-within),
     )
 
 returns-2 : tie.Need-returns-2
 returns-2 c =
-    let start = c .before .before .before .before .before .before .before .before .before .before .before .before .before .before .before .before .before .before in
+    let start = c .before .before .before .before .before .before .before .before .before .before .before .before .before .before .before .before .before in
     let a = start .args in
     let p = a .progress in
-    let asked = c .before .before .before .before .before .before .before .before .before .before .before .before .before .read-line in
-    let number = c .before .before .before .before .before .before .before .before .before .before .wrapping-add-u64 in
+    let asked = c .before .before .before .before .before .before .before .before .before .before .before .before .read-line in
+    let number = c .before .before .before .before .before .before .before .before .before .wrapping-add-u64 in
     let act = c .before .before .before .before .before .act in
     let letter = c .before .before .before .letter in
     let wrote = c .before .put-answer2 in
     let next = c .after-line2 in
     let text = take 80 (take (p .begun) (a .line .now) ++ a .rest .now) in
-    let b = boardOf (p .session) (a .memory .now) (a .cache .now) (a .entries .now) in
-    let did = left (act .result) (act .last .1 .0) (act .last .1 .1 .0) (act .last .1 .1 .1 .0) in
+    let b = boardOf (p .session) (a .memory .now) (a .cache .now) in
+    let did = left (act .result) (act .last .1 .0) (act .last .1 .1 .0) in
     let heads = letter .ensures ∙ ap (λ (first : ℕ). letterOf first (act .result .answer)) (asked .ensures .begins) in (
       ends-as (line-ends (a .program) b (p .number) text (number .result) (letter .result) (asked .result .line) did (number .ensures) (asked .ensures .means) (act .ensures .0) heads {out = a .out .now} {at = a .at} (wrote .ensures .0) (wrote .ensures .1) (omega (arith, start .pre .2, c .before .before .put-answer-arg2 .given)))
-          (sym (ap (λ (q : Progress). carriedBy q (act .last .1 .0) (act .last .1 .1 .0) (act .last .1 .1 .1 .0) (asked .last .1 .0)) (next .ensures))),
+          (sym (ap (λ (q : Progress). carriedBy q (act .last .1 .0) (act .last .1 .1 .0) (asked .last .1 .0)) (next .ensures))),
       ready-after (act .result .session) (number .result) (next .ensures) (act .ensures .1),
     )
 

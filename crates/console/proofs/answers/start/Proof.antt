@@ -16,11 +16,10 @@ returns : tie.Need-returns
 returns c =
     let s = c .new .result in
     let w = c .new .ensures in (
-      (λ m c e line.
-          ap (λ (x : State). carried (lent x (take (s .memory) m) (take (s .cache) c) (take (s .list) e)) 0 []) (w .0)
-          ∙ ap (λ (k : ℕ). carried (lent (started Off 0 0) (take k m) (take (s .cache) c) (take (s .list) e)) 0 []) (w .1)
-          ∙ ap (λ (k : ℕ). carried (lent (started Off 0 0) [] (take k c) (take (s .list) e)) 0 []) (w .2)
-          ∙ ap (λ (k : ℕ). carried (lent (started Off 0 0) [] [] (take k e)) 0 []) (w .3)),
+      (λ m c line.
+          ap (λ (x : State). carried (lent x (take (s .memory) m) (take (s .cache) c)) 0 []) (w .0)
+          ∙ ap (λ (k : ℕ). carried (lent (started Off 0 0) (take k m) (take (s .cache) c)) 0 []) (w .1)
+          ∙ ap (λ (k : ℕ). carried (lent (started Off 0 0) [] (take k c)) 0 []) (w .2)),
       search needs,
     )
 

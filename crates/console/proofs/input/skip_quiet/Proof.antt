@@ -1,6 +1,6 @@
 -- `console::input::skip_quiet` meets its contract. The invariant: the line that goes on at `from` goes on at `i`.
-use Prim.Native.Nat.{_+_, _-_}
-use mathlib.Core.Path.{_≡_, refl, _∙_}
+use Prim.Native.Nat.{_-_}
+use mathlib.Core.Path.{refl}
 use native.Mathlib.Omega.{arith}
 use lib.ListN.{length}
 use borrow.Author.Needs.{needs}

@@ -7,7 +7,7 @@ use Rattle.console.proofs.printing.last_page.Statement.{statement}
 use Rattle.console.proofs.printing.last_page.Tie as tie
 
 returns : tie.Need-returns
-returns c = (c .print .ensures .0 ∙ ap (λ (f : Fed). printedOf (f .after .board)) (c .before .before .before .before .before .before .before .before .before .before .before .before .answer-last .ensures .0), c .print .ensures .1)
+returns c = (c .print .ensures .0 ∙ ap (λ (f : Fed). printedOf (f .after .board)) (c .before .before .before .before .before .before .before .before .before .before .answer-last .ensures .0), c .print .ensures .1)
 
 pub last-page-spec : {M : Type 1} → statement M
 last-page-spec = tie.close (tie.spec (search needs) (search needs) (search needs) returns)

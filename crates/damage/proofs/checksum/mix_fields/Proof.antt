@@ -6,7 +6,7 @@ use Rattle.damage.proofs.checksum.mix_fields.Tie as tie
 
 returns : tie.Need-returns
 unfolding summed
-returns c = rw (c .mix3 .ensures, c .before .request-number .ensures, c .before .before .mix2 .ensures, c .before .before .before .undo-number .ensures, c .before .before .before .before .mix-four .ensures, c .before .before .before .before .before .before .before .before .before .mix .ensures, c .before .before .before .before .before .before .before .before .before .before .phase-number .ensures)
+returns c = rw (c .mix2 .ensures, c .before .request-number .ensures, c .before .before .mix .ensures, c .before .before .before .undo-number .ensures, c .before .before .before .before .mix-four .ensures, c .before .before .before .before .before .before .before .before .phase-number .ensures)
 
 pub mix-fields-spec : {M : Type 1} → statement M
-mix-fields-spec = tie.close (tie.spec (search needs) (search needs) (search needs) (search needs) (search needs) (search needs) (search needs) (search needs) (search needs) (search needs) (search needs) returns)
+mix-fields-spec = tie.close (tie.spec (search needs) (search needs) (search needs) (search needs) (search needs) (search needs) (search needs) (search needs) (search needs) returns)

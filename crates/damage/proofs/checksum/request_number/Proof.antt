@@ -1,5 +1,4 @@
 -- `damage::checksum::request_number` meets its contract.
-use borrow.Author.Needs.{needs}
 use Rattle.damage.proofs.checksum.request_number.Statement.{statement}
 use Rattle.damage.proofs.checksum.request_number.Tie as tie
 

@@ -18,43 +18,35 @@ cast-t22 c = let s = c .before .before .before in omega (arith, field-bound (s .
 
 cast-t30 : tie.Need-cast-t30
 unfolding fieldFits
-cast-t30 c = let s = c .before .before .before in omega (arith, field-bound (s .args .field) 3 (s .args .number) 65535 (c .match .keys4) (s .pre) refl)
-
-cast-t38 : tie.Need-cast-t38
-unfolding fieldFits
-cast-t38 c = let s = c .before .before .before in omega (arith, field-bound (s .args .field) 4 (s .args .number) 65535 (c .match .keys5) (s .pre) refl)
+cast-t30 c = let s = c .before .before .before in omega (arith, field-bound (s .args .field) 4 (s .args .number) 65535 (c .match .keys4) (s .pre) refl)
 
 returns : tie.Need-returns
 unfolding withField
-returns c = rw (c .before .match .keys1, c .before .before .before .phase-of .ensures)
+returns c = rw (c .before .before .match .keys1, c .before .before .before .before .phase-of .ensures)
 
 returns-2 : tie.Need-returns-2
 unfolding withField
-returns-2 c = rw (c .before .match .keys2)
+returns-2 c = rw (c .before .before .match .keys2)
 
 returns-3 : tie.Need-returns-3
 unfolding withField
-returns-3 c = rw (c .before .match .keys3)
+returns-3 c = rw (c .before .before .match .keys3)
 
 returns-4 : tie.Need-returns-4
 unfolding withField
-returns-4 c = rw (c .before .match .keys4)
+returns-4 c = rw (c .before .before .match .keys4)
 
 returns-5 : tie.Need-returns-5
 unfolding withField
-returns-5 c = rw (c .before .match .keys5)
+returns-5 c = rw (c .before .before .match .keys5, c .before .before .before .undo-of .ensures)
 
 returns-6 : tie.Need-returns-6
 unfolding withField
-returns-6 c = rw (c .before .match .keys6, c .before .before .undo-of .ensures)
+returns-6 c = rw (c .before .before .match .keys6)
 
 returns-7 : tie.Need-returns-7
 unfolding withField
-returns-7 c = rw (c .before .match .keys7)
-
-returns-8 : tie.Need-returns-8
-unfolding withField
-returns-8 c = simp (ne-eqb _ _ (c .match .rest .0 .0 .0 .0 .0 .0 .1), ne-eqb _ _ (c .match .rest .0 .0 .0 .0 .0 .1), ne-eqb _ _ (c .match .rest .0 .0 .0 .0 .1), ne-eqb _ _ (c .match .rest .0 .0 .0 .1), ne-eqb _ _ (c .match .rest .0 .0 .1), ne-eqb _ _ (c .match .rest .0 .1), ne-eqb _ _ (c .match .rest .1))
+returns-7 c = simp (ne-eqb _ _ (c .match .rest .0 .0 .0 .0 .0 .1), ne-eqb _ _ (c .match .rest .0 .0 .0 .0 .1), ne-eqb _ _ (c .match .rest .0 .0 .0 .1), ne-eqb _ _ (c .match .rest .0 .0 .1), ne-eqb _ _ (c .match .rest .0 .1), ne-eqb _ _ (c .match .rest .1))
 
 pub with-field-spec : {M : Type 1} → statement M
-with-field-spec = tie.close (tie.spec (search needs) (search needs) cast-t14 cast-t22 cast-t30 cast-t38 returns returns-2 returns-3 returns-4 returns-5 returns-6 returns-7 returns-8)
+with-field-spec = tie.close (tie.spec (search needs) (search needs) cast-t14 cast-t22 cast-t30 returns returns-2 returns-3 returns-4 returns-5 returns-6 returns-7)

@@ -10,7 +10,11 @@ returns c = rw (c .match .keys1)
 
 returns-2 : tie.Need-returns-2
 unfolding damaging
-returns-2 c = simp (ne-eqb _ _ (c .match .rest .1))
+returns-2 c = rw (c .match .keys2)
+
+returns-3 : tie.Need-returns-3
+unfolding damaging
+returns-3 c = simp (ne-eqb _ _ (c .match .rest .0 .1), ne-eqb _ _ (c .match .rest .1))
 
 pub with-none-spec : {M : Type 1} → statement M
-with-none-spec = tie.close (tie.spec returns returns-2)
+with-none-spec = tie.close (tie.spec returns returns-2 returns-3)
