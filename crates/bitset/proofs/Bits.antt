@@ -1,21 +1,21 @@
 -- Laws of a word's bits.
 use Prim.Native.Nat.{ℕ, zero, suc, _+_, _-_, _*_, _/_, _%_, _^_, _≤_, _<_, max}
 use mathlib.Core.Path.{_≡_, refl, sym, ap, ap₂, subst, _∙_}
-use mathlib.Core.Bool.{Bool, true, false, _&&_}
+use mathlib.Core.Bool.{Bool, true, false}
 use native.Mathlib.Omega.{arith}
 use native.Mathlib.Decide.{decLt}
 use native.Mathlib.Nat.{suc-mul, mul-comm, max-zero, mod-lt, lt-of-lt-of-le, div-one, zero-div, div-self, div-eq-of-lt, mul-div-cancel, mul-mod-left, pow-suc}
 use native.Mathlib.Numerals.{one-add}
-use lib.Dec.{ltb, eqb}
+use lib.Dec.{eqb}
 use lib.Arith.{digits-mod}
 use lib.Pow.{pow-pos, pow-mono, pow-lt, pow-add, shr-shr, shr-lt, split as divided}
 use lib.Bits.{bitOr, or-lt, or-step, or-block, or-shr, or-zero-r}
 use lib.Count.{ones, ones-step, trailingZeros}
-use borrow.Author.Tests.{ltb-true, lt-ltb, eqb-true, eqb-false, eq-eqb}
-use Rattle.text.proofs.Bools.{split, chosen, passedOver, and-off, and-off-right, and-before}
-use Rattle.bitset.specs.Passing.{anyUnder, countUnder, nthUnder}
+use borrow.Author.Tests.{eqb-true, eqb-false, eq-eqb}
+use Rattle.text.proofs.Bools.{split, chosen, passedOver}
+use Rattle.bitset.specs.Passing.{countUnder, nthUnder}
 use Rattle.bitset.specs.Words.{bitOf, withBit, bitsIn}
-use Rattle.bitset.proofs.Passing.{none-under, under-none, oneIf, Nth, one-on, one-off, count-next, count-none, count-split, count-shift, count-mono, nthShifted, nth-shifted, nth-found, nth-unique}
+use Rattle.bitset.proofs.Passing.{oneIf, one-on, one-off, count-none, count-shift, nthShifted, nth-shifted}
 
 -- ---- a word shifted
 
@@ -82,54 +82,8 @@ trailing-shifted (suc k) n =
     (λ t. rw (low-on n t, t))
     (λ t. rw (low-off n t, t) (ap suc (trailing-shifted k (n / 2) ∙ ap (λ (f : ℕ → Bool). nthShifted k f 0) (sym (halved n)))))
 
-trailing : (k n : ℕ) → trailingZeros k n ≡ nthUnder k (bitOf n) 0
+pub trailing : (k n : ℕ) → trailingZeros k n ≡ nthUnder k (bitOf n) 0
 trailing k n = trailing-shifted k n ∙ sym (nth-shifted k (bitOf n) 0)
-
--- Of a word in which bits from `at` on are set, the lowest of them is as far from `at` as there are zeros below it in the word shifted down to it.
-pub next-set : (w at : ℕ) → countUnder at (bitOf w) < countUnder 64 (bitOf w) → Nth 64 (bitOf w) (countUnder at (bitOf w)) (at + trailingZeros 64 (w / 2 ^ at))
-next-set w at h =
-    let t = trailingZeros 64 (w / 2 ^ at) in
-    let from : _≡_ {A = ℕ → Bool} (bitOf (w / 2 ^ at)) (λ i. bitOf w (at + i)) = λ j i. bit-shift w at i j in
-    let shifted = ap (countUnder 64) from in
-    let left : 0 < countUnder 64 (bitOf (w / 2 ^ at)) =
-    omega (arith, count-split at 64 (bitOf w), count-mono 64 (at + 64) (bitOf w) (omega arith)) in
-    let lowest : Nth 64 (bitOf (w / 2 ^ at)) 0 t =
-    subst (Nth 64 (bitOf (w / 2 ^ at)) 0) (sym (trailing 64 (w / 2 ^ at))) (nth-found 64 (bitOf (w / 2 ^ at)) 0 left) in
-    let none : countUnder t (λ i. bitOf w (at + i)) ≡ 0 = ap (countUnder t) (sym from) ∙ lowest .rank in
-    let same : countUnder (at + t) (bitOf w) ≡ countUnder at (bitOf w) = omega (arith, count-split at t (bitOf w)) in
-    let inside : at + t < 64 =
-    elim (decLt (at + t) 64) [ yes b ↦ b | no b ↦ absurd (omega (arith, count-mono 64 (at + t) (bitOf w) (omega arith))) ] in
-    record { passes = sym (bit-shift w at t) ∙ lowest .passes; rank = same; within = inside }
-
--- The search for bit `p` of a word: the word is shifted down to `at`, `left` set bits are to be passed over, and the rest of the `p` stand below `at`.
-pub record Search (w p rest at left : ℕ) : Type 0 where
-  pub shifted : rest ≡ w / 2 ^ at
-  pub passed : countUnder at (bitOf w) + left ≡ p
-
--- The lowest bit of the rest is the next one.
-pub search-next : (w p rest at left : ℕ) → p < countUnder 64 (bitOf w) → Search w p rest at left → Nth 64 (bitOf w) (countUnder at (bitOf w)) (at + trailingZeros 64 rest)
-search-next w p rest at left h s =
-    subst (λ (x : ℕ). Nth 64 (bitOf w) (countUnder at (bitOf w)) (at + trailingZeros 64 x)) (sym (s .shifted)) (next-set w at (omega (arith, s .passed)))
-
--- It is passed over.
-pub search-on : (w p rest at left : ℕ) → p < countUnder 64 (bitOf w) → Search w p rest at left → 0 < left
-    → Search w p (rest / 2 ^ trailingZeros 64 rest / 2) (at + (trailingZeros 64 rest + 1)) (left - 1)
-search-on w p rest at left h s l =
-    let t = trailingZeros 64 rest in
-    let found = search-next w p rest at left h s in
-    let past : countUnder (at + (t + 1)) (bitOf w) ≡ countUnder (at + t) (bitOf w) + oneIf (bitOf w (at + t)) =
-    ap (λ (k : ℕ). countUnder k (bitOf w)) (let e : at + (t + 1) ≡ suc (at + t) = omega arith in e) ∙ count-next (at + t) (bitOf w) in
-    record {
-      shifted = ap (λ (x : ℕ). x / 2 ^ t / 2) (s .shifted) ∙ shr-shr (w / 2 ^ at) t 1 ∙ shr-shr w at (t + 1);
-      passed = omega (arith, past, one-on (bitOf w (at + t)) (found .passes), found .rank, s .passed);
-    }
-
--- None is left to be passed over.
-pub search-end : (w p rest at left : ℕ) → p < countUnder 64 (bitOf w) → Search w p rest at left → left ≡ 0 → at + trailingZeros 64 rest ≡ nthUnder 64 (bitOf w) p
-search-end w p rest at left h s l =
-    nth-unique 64 (bitOf w) p (at + trailingZeros 64 rest)
-    (subst (λ (k : ℕ). Nth 64 (bitOf w) k (at + trailingZeros 64 rest)) (let e : countUnder at (bitOf w) ≡ p = omega (arith, s .passed) in e)
-    (search-next w p rest at left h s))
 
 -- ---- a bit set
 

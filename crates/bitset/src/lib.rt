@@ -1,8 +1,10 @@
 // A set of numbers below 512, a bit each, in eight words (document 02, ticket 5: the dirty lines).
 ghost use mathlib.Core.Path.{_≡_};
-ghost use Prim.Native.Nat.{_+_, _-_, _/_, _^_, _≤_, _<_};
+ghost use mathlib.Core.List.{[], _∷_};
+ghost use Prim.Native.Nat.{_+_, _-_, _*_, _/_, _^_, _≤_, _<_};
+ghost use lib.ListN.{getD};
 ghost use lib.Dec.{ltb};
-ghost use Rattle.bitset.specs.Passing.{countUnder, nthUnder};
+ghost use Rattle.bitset.specs.Passing.{anyUnder, countUnder, nthUnder};
 ghost use Rattle.bitset.specs.Words.{bitOf, withBit, inserted, size, nth, strays};
 
 // How many bits of a word are set.
@@ -27,22 +29,19 @@ pub fn size(words: [u64; 8]) -> u64
         + ones(words[7])
 }
 
-// The p-th set bit of a word, from 0, rising: each round passes over one.
+// The p-th set bit of a word, from 0, rising: each round clears the lowest.
 fn nth_bit(word: u64, p: u64) -> u64
     requires { ⌜ p < countUnder 64 (bitOf word) ⌝ }
     ensures { λ r. ⌜ r ≡ nthUnder 64 (bitOf word) p ⌝ }
     ensures { λ r. ⌜ r < 64 ⌝ }
 {
     let mut rest = word;
-    let mut at: u64 = 0;
     let mut left = p;
     while 0 < left {
-        let zeros = u64::trailing_zeros(rest) as u64;
-        rest = (rest >> zeros) >> 1;
-        at += zeros + 1;
+        rest = rest & (rest - 1);
         left -= 1;
     }
-    at + u64::trailing_zeros(rest) as u64
+    u64::trailing_zeros(rest) as u64
 }
 
 // The p-th number of the set, from 0, rising: the words before its own are passed over by their counts.
@@ -96,28 +95,47 @@ fn lowest(word: u64) -> bool
     word % 2 == 1
 }
 
-// A word whose bits are numbered from `base` on has a number past `last`: shifted down to those, it is not 0.
-fn past(word: u64, base: u64, last: u64) -> bool
-    ensures { λ r. ⌜ r ≡ ltb 0 (word / 2 ^ (last + 1 - base)) ⌝ }
+// A word's bits after bit `bit`, shifted down.
+fn after(word: u64, bit: u64) -> u64
+    requires { ⌜ bit < 64 ⌝ }
+    ensures { λ r. ⌜ r ≡ word / 2 ^ bit / 2 ⌝ }
 {
-    if last < base {
-        return word != 0;
-    }
-    let b = last - base;
-    if b < 64 { 1 < word >> b } else { false }
+    (word >> bit) >> 1
 }
 
-// The set has 0, or a number past `last`. All eight words are read: it is tested in every call, and seldom true.
+// Of eight words one has a number past `last`. Only the word that `last` stands in is shifted, and those after it are
+// tested at once: it is tested in every call.
+fn past(a: u64, b: u64, c: u64, d: u64, e: u64, f: u64, g: u64, h: u64, last: u64) -> bool
+    ensures { λ r. ⌜ r ≡ anyUnder 8 (λ k. ltb 0 (getD (a ∷ b ∷ c ∷ d ∷ e ∷ f ∷ g ∷ h ∷ []) k 0 / 2 ^ (last + 1 - 64 * k))) ⌝ }
+{
+    let bit = last % 64;
+    match last / 64 {
+        0 => (after(a, bit) | b | c | d | e | f | g | h) != 0,
+        1 => (after(b, bit) | c | d | e | f | g | h) != 0,
+        2 => (after(c, bit) | d | e | f | g | h) != 0,
+        3 => (after(d, bit) | e | f | g | h) != 0,
+        4 => (after(e, bit) | f | g | h) != 0,
+        5 => (after(f, bit) | g | h) != 0,
+        6 => (after(g, bit) | h) != 0,
+        7 => after(h, bit) != 0,
+        _ => false,
+    }
+}
+
+// The set has 0, or a number past `last`.
 pub fn strays(words: [u64; 8], last: u64) -> bool
     ensures { λ r. ⌜ r ≡ strays words last ⌝ }
 {
     lowest(words[0])
-        | (past(words[0], 0, last)
-            | past(words[1], 64, last)
-            | past(words[2], 128, last)
-            | past(words[3], 192, last)
-            | past(words[4], 256, last)
-            | past(words[5], 320, last)
-            | past(words[6], 384, last)
-            | past(words[7], 448, last))
+        | past(
+            words[0],
+            words[1],
+            words[2],
+            words[3],
+            words[4],
+            words[5],
+            words[6],
+            words[7],
+            last,
+        )
 }
