@@ -70,13 +70,13 @@ pub fn epoch_spent(cache: &[u64]) -> bool
     line::header_word_or_zero(cache, 0) == LAST_EPOCH
 }
 
-// "or at the epoch's store": the dirty lines are counted only where a checkpoint steps
+// "or at the epoch's store": the dirty lines are counted only where a checkpoint steps in the last epoch
 pub fn stores_spent_epoch(state: State, cache: &[u64]) -> bool
     ensures { λ r. ⌜ ((m : List ℕ) → r ≡ storesSpentEpoch (lent state m (now (cache .entry)))) ⌝ }
 {
     let dirty = state.dirty;
-    if record::checkpointing(state) {
-        (state.place as u64 == bitset::size(dirty)) & epoch_spent(cache)
+    if record::checkpointing(state) & epoch_spent(cache) {
+        state.place as u64 == bitset::size(dirty)
     } else {
         false
     }

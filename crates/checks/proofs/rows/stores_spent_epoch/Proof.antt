@@ -1,17 +1,41 @@
--- Each part is the part of the definition, where a checkpoint steps.
-use mathlib.Core.Path.{sym, _∙_}
+-- Each part is the part of the definition, where a checkpoint steps in the last epoch; elsewhere the count is not asked for.
+use mathlib.Core.Path.{_≡_, refl, sym, ap₂, _∙_}
+use mathlib.Core.Bool.{Bool, true, false, _&&_, false≢true}
 use borrow.Author.Needs.{needs}
 use Rattle.checks.proofs.rows.stores_spent_epoch.Statement.{statement}
 use Rattle.checks.proofs.rows.stores_spent_epoch.Tie as tie
 
+-- Of three tests the first and the last hold, so the one between decides.
+between : {a c : Bool} (p b q : Bool) → a ≡ p → c ≡ q → a && c ≡ true → b ≡ p && b && q
+between {a} {c} p b q e f t = go p b q (ap₂ _&&_ (sym e) (sym f) ∙ t)
+  where
+    go : (p b q : Bool) → p && q ≡ true → b ≡ p && b && q
+    go true true true t = refl
+    go true false true t = refl
+    go true b false t = absurd (false≢true t)
+    go false b q t = absurd (false≢true t)
+
+-- One of the two does not hold, so not all three do.
+not-both : {a c : Bool} (p b q : Bool) → a ≡ p → c ≡ q → a && c ≡ false → false ≡ p && b && q
+not-both {a} {c} p b q e f t = go p b q (ap₂ _&&_ (sym e) (sym f) ∙ t)
+  where
+    go : (p b q : Bool) → p && q ≡ false → false ≡ p && b && q
+    go true true q t = sym t
+    go true false q t = refl
+    go false b q t = refl
+
 returns : tie.Need-returns
 returns c m =
-    let on = c .before .before .before in
-    let checked = on .before in
-    rw (sym (checked .checkpointing .ensures) ∙ on .if1 .taken, c .before .size .ensures, c .epoch-spent .ensures (checked .before .before .before .args .state) m)
+    let on = c .before .before in
+    let spent = on .before in
+    let checked = spent .before in
+    rw (c .size .ensures) (between _ _ _ (checked .checkpointing .ensures) (spent .epoch-spent .ensures (checked .before .before .before .args .state) m) (on .if1 .taken))
 
 returns-2 : tie.Need-returns-2
-returns-2 c m = rw (sym (c .before .checkpointing .ensures) ∙ c .if1 .left)
+returns-2 c m =
+    let spent = c .before in
+    let checked = spent .before in
+    not-both _ _ _ (checked .checkpointing .ensures) (spent .epoch-spent .ensures (checked .before .before .before .args .state) m) (c .if1 .left)
 
 pub stores-spent-epoch-spec : {M : Type 1} → statement M
-stores-spent-epoch-spec = tie.close (tie.spec (λ _ _. tt) (λ c. search needs) (λ _ _. tt) (λ _ _. tt) returns returns-2)
+stores-spent-epoch-spec = tie.close (tie.spec (λ _ _. tt) (λ _ _. tt) (λ c. search needs) (λ _ _. tt) returns returns-2)
