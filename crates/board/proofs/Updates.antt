@@ -3,10 +3,9 @@ use Prim.Native.Nat.{ℕ, suc, _-_, _<_}
 use mathlib.Core.Path.{_≡_, refl, sym, ap, subst, _∙_}
 use mathlib.Core.Bool.{Bool, true, false, cond, _&&_, _||_}
 use native.Mathlib.Omega.{arith}
-use lib.Dec.{ltb, eqb}
+use lib.Dec.{ltb}
 use lib.ListN.{length}
 use borrow.Author.Tests.{lt-leb}
-use Rattle.board.specs.declared.State.{State}
 use Rattle.board.specs.declared.Condition.{Condition}
 use Rattle.board.specs.declared.Condition.the-variants.{Free, Waiting, Updating}
 use Rattle.board.specs.declared.Store.{Store}
@@ -16,13 +15,13 @@ use Rattle.board.specs.declared.Call.{Call}
 use Rattle.board.specs.declared.Call.the-variants.{Update, RestartPoint, Advance, Read}
 use Rattle.board.specs.Board.{Board, cells}
 use Rattle.board.specs.State.{conditionOf, isFree, isWaiting, isUpdating, isRunning}
-use Rattle.board.specs.Causes.{causes, badRecord, badRows}
+use Rattle.board.specs.Causes.{causes, badRows}
 use Rattle.board.specs.Effects.{logged, firstStore, noted, afterLast, advance, advanceOf, effect}
 use Rattle.board.specs.Next.{Taken, next, valueOf, Performed}
 use Rattle.board.specs.Machine.{Machine, Unfinished, update, fewer, advanced, feed}
 use Rattle.board.specs.Sequence.{Run}
 use Rattle.board.specs.Statements.{Starts, updates, restarts, Advances, over, advances}
-use Rattle.board.proofs.Laws.Bools.{on, decide, or-none, and-off, not-on}
+use Rattle.board.proofs.Laws.Bools.{on, decide, and-off, not-on}
 use Rattle.board.proofs.Laws.Taken.{standsAt, passed, Clear, take, taken-next, performed-taken, performing, rows-fine, workers-in, afterTaken}
 use Rattle.board.proofs.Laws.Count.{changed-at}
 use Rattle.board.proofs.Laws.Reading.{running-record, read-taken, read-current}

@@ -1,18 +1,17 @@
 -- Document 01, "Bench cases": K1 to K11 as a table of cases, and the one statement that every case holds.
-use Prim.Native.Nat.{ℕ, zero, suc, _+_, _-_, _*_, _^_}
+use Prim.Native.Nat.{ℕ, zero, suc, _+_, _-_, _^_}
 use mathlib.Core.Path.{_≡_}
 use mathlib.Core.List.{List, [], _∷_, _++_, map}
-use mathlib.Core.Bool.{Bool, true, false, cond, not, _&&_}
+use mathlib.Core.Bool.{Bool, true, false, not, _&&_}
 use lib.Dec.{eqb}
 use lib.ListN.{replicate}
 use Rattle.line.specs.Line.{lineOf}
 use Rattle.board.specs.declared.State.{State}
-use Rattle.board.specs.declared.Phase.{Phase}
-use Rattle.board.specs.declared.Phase.the-variants.{Off, Formatting, Recovering, Running}
+use Rattle.board.specs.declared.Phase.the-variants.{Off, Running}
 use Rattle.board.specs.declared.Call.{Call}
 use Rattle.board.specs.declared.Call.the-variants.{FormatStart, RecoveryStart, Step, Update, RestartPoint, Advance, Request, WriteBack, Read}
 use Rattle.board.specs.Board.{Board, rowWords}
-use Rattle.board.specs.State.{started, opened, requesting, isRunning}
+use Rattle.board.specs.State.{started, requesting, isRunning}
 use Rattle.board.specs.Causes.{cause}
 use Rattle.board.specs.Next.{taken, next, valueRead, valueCounted}
 use Rattle.board.specs.Sequence.{cutBoard}

@@ -1,7 +1,7 @@
 -- Document 01, "Why a call is turned down", and document 02, tickets 2, 4 and 5: the cause table, one test a row, and for each call its rows in the order tested.
 use Prim.Native.Nat.{ℕ, _+_, _-_, _/_, _%_}
 use mathlib.Core.List.{List, [], _∷_}
-use mathlib.Core.Bool.{Bool, true, false, cond, not, _&&_, _||_}
+use mathlib.Core.Bool.{Bool, false, cond, not, _&&_, _||_}
 use lib.Dec.{leb, ltb, eqb}
 use lib.ListN.{length}
 use Rattle.board.specs.declared.State.{State}

@@ -11,7 +11,7 @@ use Rattle.board.specs.declared.Worker.{Worker}
 use Rattle.board.specs.declared.Condition.{Condition}
 use Rattle.board.specs.declared.Condition.the-variants.{Free, Waiting, Updating, Away}
 use Rattle.board.specs.declared.UndoStep.{UndoStep}
-use Rattle.board.specs.declared.UndoStep.the-variants.{Restore, Unmark, WriteLine}
+use Rattle.board.specs.declared.UndoStep.the-variants.{Restore}
 use Rattle.board.specs.declared.Phase.{Phase}
 use Rattle.board.specs.declared.Phase.the-variants.{Off, Formatting, Recovering, Running}
 

@@ -1,16 +1,16 @@
 -- The dirty lines, rising: the p-th of them is the line that a checkpoint writes at place p.
-use Prim.Native.Nat.{ℕ, zero, suc, _+_, _≤_, _<_}
+use Prim.Native.Nat.{ℕ, zero, suc, _+_, _<_}
 use mathlib.Core.Path.{_≡_, refl, sym, ap, subst, _∙_}
 use mathlib.Core.List.{List, [], _∷_, _++_, map}
-use mathlib.Core.Bool.{Bool, true, false, cond}
+use mathlib.Core.Bool.{Bool, true}
 use native.Mathlib.Omega.{arith}
 use native.Mathlib.Decide.{decLt}
-use lib.ListN.{length, getD, drop, length-map, length-append, List·getD-append, List·getD-map}
-use lib.Seq.{drop-cons, getD-append-add}
-use Rattle.bitset.specs.Passing.{countUnder, nthUnder}
+use lib.ListN.{length, getD, length-map, length-append, List·getD-append}
+use lib.Seq.{getD-append-add}
+use Rattle.bitset.specs.Passing.{countUnder}
 use Rattle.bitset.specs.Words.{capacity, contains, nth}
 use Rattle.bitset.proofs.Words.{size-count}
-use Rattle.bitset.proofs.Passing.{oneIf, count-next, one-on, one-off, count-less, Nth, nth-found, nth-one}
+use Rattle.bitset.proofs.Passing.{count-next, one-on, one-off, Nth, nth-found, nth-one}
 use Rattle.board.specs.declared.State.{State}
 use Rattle.board.specs.State.{dirtyCount}
 use Rattle.board.specs.Page.{numbersUnder}

@@ -1,30 +1,29 @@
 -- The calls up to a release, from a board whose workers all wait or are away: each taken step writes what the plan has at its place.
-use Prim.Native.Nat.{ℕ, zero, suc, _+_, _≤_, _<_}
+use Prim.Native.Nat.{ℕ, suc, _+_, _≤_}
 use mathlib.Core.Path.{_≡_, refl, sym, ap, subst, _∙_}
 use mathlib.Core.List.{List, [], _∷_, _++_, map}
-use mathlib.Core.Bool.{Bool, true, false, cond, not, _||_, true≢false, false≢true}
+use mathlib.Core.Bool.{true, false, not, _||_, true≢false, false≢true}
 use native.Mathlib.Omega.{arith}
-use native.Mathlib.Decide.{ℕ-discrete, decLt}
-use lib.Dec.{leb, eqb}
-use lib.ListN.{length, getD, drop, drop-of-length-le}
+use native.Mathlib.Decide.{ℕ-discrete}
+use lib.Dec.{leb}
+use lib.ListN.{getD, drop, drop-of-length-le}
 use lib.Seq.{drop-cons}
 use borrow.Author.Tests.{leb-false}
 use Rattle.bitset.specs.Words.{capacity, contains, size}
 use Rattle.board.specs.declared.State.{State}
 use Rattle.board.specs.declared.Condition.{Condition}
 use Rattle.board.specs.declared.Condition.the-variants.{Free, Waiting, Updating, Away}
-use Rattle.board.specs.declared.Phase.{Phase}
 use Rattle.board.specs.declared.Phase.the-variants.{Running}
 use Rattle.board.specs.declared.Call.{Call}
 use Rattle.board.specs.declared.Call.the-variants.{FormatStart, RecoveryStart, Step, Update, RestartPoint, Advance, Request, WriteBack, Read, GoAway, ComeBack, Count}
 use Rattle.board.specs.Board.{Board}
-use Rattle.board.specs.State.{conditionOf, isFree, isUpdating, quiescent, placed, dirtyCount}
+use Rattle.board.specs.State.{conditionOf, isFree, isUpdating, quiescent, dirtyCount}
 use Rattle.board.specs.Causes.{causes}
-use Rattle.board.specs.Effects.{Act, writeLine, storeEpoch, writeHeader, release, performAct, effect}
-use Rattle.board.specs.Next.{Taken, Performed, kind, isStart, isStep}
+use Rattle.board.specs.Effects.{Act, release, performAct, effect}
+use Rattle.board.specs.Next.{Taken, kind, isStart, isStep}
 use Rattle.board.specs.Page.{numbersUnder}
 use Rattle.board.specs.Foretold.{passing, ToRelease, releases, steps, between, paged, comesBack, Written, line, nothing, Wrote, StepsWrite}
-use Rattle.board.proofs.Laws.Bools.{chosen, passedOver, clash, not-off}
+use Rattle.board.proofs.Laws.Bools.{chosen, passedOver, clash}
 use Rattle.board.proofs.Laws.Taken.{standsAt, passed, performed-taken, performed-refused, page-board, workers-in, record-within}
 use Rattle.board.proofs.Invariant.{AllQuiescent, progress}
 use Rattle.board.proofs.Checkpoint.Acts.{act-cases, effect-acts, step-ready}

@@ -1,39 +1,36 @@
 -- THE THEOREMS about document 02, ticket 5: every statement of `specs/Foretold.antt`, proved.
-use Prim.Native.Nat.{ℕ, suc, _+_, _/_, _≤_, _<_}
-use mathlib.Core.Path.{_≡_, refl, sym, ap, subst, _∙_}
-use mathlib.Core.List.{List, [], _∷_, _++_, map}
-use mathlib.Core.Bool.{true, false, cond, _&&_}
+use Prim.Native.Nat.{ℕ, _+_, _/_, _<_}
+use mathlib.Core.Path.{_≡_, ap, subst, _∙_}
+use mathlib.Core.List.{List}
+use mathlib.Core.Bool.{false}
 use native.Mathlib.Omega.{arith}
 use native.Mathlib.Decide.{decLt}
-use lib.Dec.{leb, ltb}
-use lib.ListN.{length, drop}
-use borrow.Author.Tests.{eq-eqb, leb-false, lt-ltb}
+use lib.Dec.{leb}
+use lib.ListN.{drop}
+use borrow.Author.Tests.{eq-eqb, leb-false}
 use Rattle.bitset.specs.Words.{capacity, contains, inserted}
 use Rattle.bitset.proofs.Words.{contains-inserted, contains-other, past-words, size-count}
 use Rattle.bitset.proofs.Members.{stray-none, none-strays, size-most}
 use Rattle.line.specs.Cell.{cellLine}
-use Rattle.board.specs.declared.State.{State}
 use Rattle.board.specs.declared.Condition.{Condition}
-use Rattle.board.specs.declared.Condition.the-variants.{Updating}
-use Rattle.board.specs.declared.Store.{Store}
 use Rattle.board.specs.declared.Phase.the-variants.{Running}
 use Rattle.board.specs.declared.Call.the-variants.{Advance, Count}
 use Rattle.board.specs.Board.{Board, cells}
-use Rattle.board.specs.State.{conditionOf, updates, anyWorker, dirtyCount}
-use Rattle.board.specs.Causes.{cause, causes, badRecord}
+use Rattle.board.specs.State.{updates}
+use Rattle.board.specs.Causes.{cause, causes}
 use Rattle.board.specs.Effects.{advance, advanceOf, effect}
-use Rattle.board.specs.Next.{Taken, taken, next, stepsOf, valueCounted, valueOf, Performed}
+use Rattle.board.specs.Next.{Taken, taken, next, stepsOf, valueCounted, valueOf}
 use Rattle.board.specs.Sequence.{Run}
-use Rattle.board.specs.Foretold.{LineSet, MarkSets, DirtyLines, StrayBits, CountsBits, CountWithin, CountLeaves, ToRelease, Gathered, Foretold, StepsWrite, EachLineOnce}
+use Rattle.board.specs.Foretold.{MarkSets, DirtyLines, StrayBits, CountsBits, CountWithin, CountLeaves, ToRelease, Gathered, Foretold, StepsWrite, EachLineOnce}
 use Rattle.board.proofs.Laws.Bools.{split, clash, chosen, passedOver}
-use Rattle.board.proofs.Laws.Taken.{Clear, take, standsAt, passed, taken-next, performed-number, performed-value, performed-taken, lines-in, workers-in, record-within, record-cells}
+use Rattle.board.proofs.Laws.Taken.{Clear, take, standsAt, passed, taken-next, performed-number, performed-value, performed-taken, lines-in, record-within, record-cells}
 use Rattle.board.proofs.Laws.Reading.{in-phase, running-passes}
-use Rattle.board.proofs.Invariant.{AllQuiescent, progress}
+use Rattle.board.proofs.Invariant.{progress}
 use Rattle.board.proofs.Checkpoint.Run.{is-running}
 use Rattle.board.proofs.Checkpoint.Ends.{all-quiescent}
 use Rattle.board.proofs.Keeps.Every.{history-inv}
 use Rattle.board.proofs.Foretold.Rising.{plan}
-use Rattle.board.proofs.Foretold.Steps.{Waits, Followed, follow}
+use Rattle.board.proofs.Foretold.Steps.{Waits, follow}
 
 -- ---- 1. which lines are dirty
 

@@ -2,11 +2,11 @@
 use Prim.Native.Nat.{ℕ, _+_, _/_, _≤_, _<_}
 use mathlib.Core.Path.{_≡_, refl, sym, ap, subst, _∙_}
 use mathlib.Core.List.{List}
-use mathlib.Core.Bool.{false, cond, not, _||_}
+use mathlib.Core.Bool.{false, cond, not}
 use native.Mathlib.Omega.{arith}
-use lib.Dec.{leb, ltb, eqb}
+use lib.Dec.{leb, eqb}
 use lib.ListN.{length, getD}
-use borrow.Author.Tests.{eqb-true, ltb-false, le-leb, lt-leb, ne-eqb}
+use borrow.Author.Tests.{eqb-true, le-leb, lt-leb, ne-eqb}
 use Rattle.line.specs.Line.{withLine}
 use Rattle.board.specs.declared.Condition.{Condition}
 use Rattle.board.specs.declared.Condition.the-variants.{Free}
@@ -15,7 +15,7 @@ use Rattle.board.specs.declared.Phase.the-variants.{Formatting, Running}
 use Rattle.board.specs.declared.Call.the-variants.{FormatStart, Step}
 use Rattle.bitset.specs.Words.{empty}
 use Rattle.board.specs.Board.{Board, cells, rowWords, linesOutside, workersOutside, epochOf, workersOf, headerWords, zeroWords}
-use Rattle.board.specs.State.{allFree, conditionOf, placed, opened, dirtyCount}
+use Rattle.board.specs.State.{allFree, conditionOf, placed, opened}
 use Rattle.board.specs.Causes.{causes, badRows}
 use Rattle.board.specs.Effects.{effect, step, formatStep, inBoth}
 use Rattle.board.specs.Machine.{none, beginning}

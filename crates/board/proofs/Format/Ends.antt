@@ -9,7 +9,7 @@ use Rattle.board.specs.declared.Phase.{Phase}
 use Rattle.board.specs.declared.Call.the-variants.{FormatStart, Step}
 use Rattle.bitset.specs.Words.{empty}
 use Rattle.board.specs.Board.{Board}
-use Rattle.board.specs.State.{allFree, isOff, isRunning, dirtyCount}
+use Rattle.board.specs.State.{allFree, isOff, isRunning}
 use Rattle.board.specs.Causes.{placePast}
 use Rattle.board.specs.Effects.{effect}
 use Rattle.board.specs.Machine.{formatSteps}

@@ -1,5 +1,5 @@
 -- Each store of an unfinished update keeps the invariant.
-use Prim.Native.Nat.{ℕ, zero, suc, _+_, _-_, _<_}
+use Prim.Native.Nat.{ℕ, zero, suc, _-_, _<_}
 use mathlib.Core.Path.{_≡_, refl, sym, subst, subst₂, _∙_}
 use mathlib.Core.List.{List}
 use mathlib.Core.Bool.{Bool, true, false, not, _&&_, true≢false}
@@ -16,7 +16,7 @@ use Rattle.board.specs.declared.Store.{Store}
 use Rattle.board.specs.declared.Store.the-variants.{Backup, Mark, Record}
 use Rattle.board.specs.declared.Call.the-variants.{Advance}
 use Rattle.board.specs.Board.{Board, cells, epochOf}
-use Rattle.board.specs.State.{conditionOf, isUpdating, dirtyCount}
+use Rattle.board.specs.State.{conditionOf, isUpdating}
 use Rattle.board.specs.Causes.{causes}
 use Rattle.board.specs.Effects.{recorded, afterLast, advance, advanceOf, effect}
 use Rattle.board.specs.Machine.{Unfinished, none, update, Machine, changed, fewer, advanced, feed}

@@ -16,7 +16,7 @@ use Rattle.board.specs.declared.Condition.{Condition}
 use Rattle.board.specs.declared.Condition.the-variants.{Free, Waiting, Updating, Away}
 use Rattle.board.specs.declared.Phase.the-variants.{Running}
 use Rattle.board.specs.declared.Call.the-variants.{Step}
-use Rattle.board.specs.Board.{Board, cells, epochOf}
+use Rattle.board.specs.Board.{Board, epochOf}
 use Rattle.board.specs.State.{conditionOf, quiescent, afterRelease, placed, released, dirtyCount}
 use Rattle.board.specs.Effects.{writtenBack, cached, stated, Act, writeLine, storeEpoch, writeHeader, release, actAt, performAct}
 use Rattle.board.specs.Machine.{Unfinished, Machine, counted, completed, dropped, checkpointStep}

@@ -1,7 +1,6 @@
 -- Whatever happens keeps the invariant and does to the last checkpoint what is claimed of it.
 use mathlib.Core.Path.{_≡_, refl, sym, ap, subst, _∙_}
 use mathlib.Core.Bool.{Bool, true, false, cond, _&&_, true≢false, false≢true}
-use native.Mathlib.Omega.{arith}
 use lib.Dec.{eqb}
 use borrow.Author.Tests.{eqb-true, eqb-false}
 use Rattle.board.specs.declared.Phase.{Phase}

@@ -10,7 +10,7 @@ use Rattle.board.specs.declared.Worker.{Worker}
 use Rattle.board.specs.declared.Phase.the-variants.{Running}
 use Rattle.board.specs.declared.Call.the-variants.{Read, Count}
 use Rattle.board.specs.Board.{Board}
-use Rattle.board.specs.State.{freeWorker, conditionOf, isRunning, dirtyCount}
+use Rattle.board.specs.State.{freeWorker, conditionOf, isRunning}
 use Rattle.board.specs.Causes.{causes, notRunning}
 use Rattle.board.specs.Effects.{stated, effect}
 use Rattle.board.specs.Next.{Taken}

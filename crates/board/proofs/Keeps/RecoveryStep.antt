@@ -18,7 +18,7 @@ use Rattle.board.specs.declared.Phase.{Phase}
 use Rattle.board.specs.declared.Phase.the-variants.{Recovering}
 use Rattle.board.specs.declared.Call.the-variants.{Step}
 use Rattle.board.specs.Board.{Board, cells, epochOf}
-use Rattle.board.specs.State.{placed, opened, dirtyCount}
+use Rattle.board.specs.State.{placed, opened}
 use Rattle.board.specs.Effects.{writtenBack, logged, restored, unmarked, pastCell, effect}
 use Rattle.board.specs.Machine.{Machine, counted, stepped, feed}
 use Rattle.board.specs.Sequence.{Run, erasedBy}

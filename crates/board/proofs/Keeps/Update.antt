@@ -12,7 +12,7 @@ use Rattle.board.specs.declared.Condition.the-variants.{Free, Waiting, U
 use Rattle.board.specs.declared.Store.the-variants.{Backup, Record}
 use Rattle.board.specs.declared.Call.the-variants.{Update, RestartPoint}
 use Rattle.board.specs.Board.{Board, cells, epochOf}
-use Rattle.board.specs.State.{conditionOf, isFree, updates, othersUpdate, dirtyCount}
+use Rattle.board.specs.State.{conditionOf, isFree, updates, othersUpdate}
 use Rattle.board.specs.Causes.{causes}
 use Rattle.board.specs.Effects.{firstStore, logged, effect}
 use Rattle.board.specs.Machine.{update, Machine, feed}

@@ -2,7 +2,6 @@
 use Prim.Native.Nat.{ℕ, suc}
 use mathlib.Core.Path.{_≡_, sym, ap, subst}
 use mathlib.Core.Bool.{Bool, false, not, _&&_, _||_}
-use native.Mathlib.Omega.{arith}
 use lib.Dec.{leb, eqb}
 use Rattle.bitset.specs.Words.{empty}
 use Rattle.board.specs.declared.Call.the-variants.{Step}

@@ -7,12 +7,10 @@ use lib.Dec.{leb, ltb}
 use borrow.Author.Tests.{eq-eqb, le-ltb, lt-leb}
 use Rattle.line.specs.Cell.{fieldOf}
 use Rattle.line.specs.declared.Field.{Field}
-use Rattle.board.specs.declared.State.{State}
 use Rattle.board.specs.declared.Condition.{Condition}
 use Rattle.board.specs.declared.Condition.the-variants.{Free, Waiting, Updating, Away}
 use Rattle.board.specs.declared.Phase.{Phase}
 use Rattle.board.specs.declared.Phase.the-variants.{Running}
-use Rattle.board.specs.declared.Call.{Call}
 use Rattle.board.specs.declared.Call.the-variants.{Read}
 use Rattle.board.specs.Board.{Board, cells, linesOutside}
 use Rattle.board.specs.State.{conditionOf, updates, isRunning, dirtyCount}

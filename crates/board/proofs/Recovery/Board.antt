@@ -17,7 +17,7 @@ use Rattle.board.specs.declared.Phase.{Phase}
 use Rattle.board.specs.declared.Phase.the-variants.{Recovering}
 use Rattle.board.specs.declared.Call.the-variants.{RecoveryStart, Step}
 use Rattle.board.specs.Board.{Board, cells, rowWords, linesOutside, workersOutside, epochOf, linesOf, workersOf, restNotZero}
-use Rattle.board.specs.State.{allFree, conditionOf, placed, opened, dirtyCount}
+use Rattle.board.specs.State.{allFree, conditionOf, placed, opened}
 use Rattle.board.specs.Effects.{cached, stated, backed, logged, restored, unmarked, pastCell, recoveryStep, step, effect}
 use Rattle.board.specs.Causes.{causes, badRecoveryRows, badHeader}
 use Rattle.board.proofs.Laws.Bools.{on, or-left, or-right, and-left, and-right, not-off}

@@ -12,7 +12,7 @@ use Rattle.board.specs.declared.Phase.{Phase}
 use Rattle.board.specs.declared.Phase.the-variants.{Recovering}
 use Rattle.board.specs.declared.Call.the-variants.{Request, Step}
 use Rattle.board.specs.Board.{Board}
-use Rattle.board.specs.State.{opened, dirtyCount}
+use Rattle.board.specs.State.{opened}
 use Rattle.board.specs.Effects.{pastCell, formatStep, step, effect}
 use Rattle.board.specs.Steps.{Asked, Requests, Opened, FormatOpens, RecoveryOpens}
 use Rattle.board.proofs.Laws.Bools.{passedOver}

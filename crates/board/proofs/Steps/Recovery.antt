@@ -15,7 +15,7 @@ use Rattle.board.specs.declared.UndoStep.the-variants.{Unmark, WriteLine
 use Rattle.board.specs.declared.Call.the-variants.{Step}
 use Rattle.board.specs.Board.{Board, cells}
 use Rattle.board.specs.State.{placed, isRecovering}
-use Rattle.board.specs.Causes.{causes, placePast, badRows}
+use Rattle.board.specs.Causes.{causes, placePast}
 use Rattle.board.specs.Effects.{cached, stated, backed, pastCell}
 use Rattle.board.specs.Steps.{OnlyCell, RecoveryWrites}
 use Rattle.board.proofs.Laws.View.{cell-in}

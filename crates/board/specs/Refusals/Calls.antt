@@ -1,7 +1,7 @@
 -- The table of refusals: the calls that need a board that runs, and write-back.
 use Prim.Native.Nat.{ℕ, _-_, _^_}
 use mathlib.Core.List.{List, [], _∷_, _++_, map}
-use lib.ListN.{set, replicate}
+use lib.ListN.{set}
 use Rattle.board.specs.declared.Condition.the-variants.{Waiting, Updating}
 use Rattle.board.specs.declared.Store.the-variants.{Mark, Record}
 use Rattle.board.specs.declared.Phase.the-variants.{Off, Formatting, Recovering, Running}

@@ -1,5 +1,5 @@
 -- The table of refusals: document 02, ticket 5: the count, and what a line's bit means to every call.
-use Prim.Native.Nat.{ℕ, _-_, _^_}
+use Prim.Native.Nat.{_-_}
 use mathlib.Core.List.{List, [], _∷_, _++_}
 use lib.ListN.{replicate}
 use Rattle.board.specs.declared.Condition.the-variants.{Waiting, Updating}
@@ -9,7 +9,7 @@ use Rattle.board.specs.declared.Call.the-variants.{Step, Advance, Count}
 use Rattle.board.specs.Board.{Board}
 use Rattle.board.specs.Effects.{cached}
 use Rattle.board.specs.Bench.{Case, Seen, counted, dirtyWords, memoryLine, answers, from, fromEvents}
-use Rattle.board.specs.Refusals.Boards.{gives, givesOn, rowFor, sound, inPhase, requested, setting, straying, placedAt, worker, updating, ready, spent, shortCache, quietEdges, requestedEdges, firstThree}
+use Rattle.board.specs.Refusals.Boards.{gives, givesOn, sound, inPhase, setting, straying, placedAt, worker, updating, ready, spent, shortCache, quietEdges, requestedEdges, firstThree}
 
 -- ---- the count
 
