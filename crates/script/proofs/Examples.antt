@@ -9,9 +9,9 @@ use Rattle.script.specs.declared.Line.the-variants.{Format, Make, Show, 
 use Rattle.script.specs.declared.Damage.the-variants.{Lengths, Dirty, Field, Worker, Checksum}
 use Rattle.script.specs.declared.Program.the-variants.{Drill, Fault, Page}
 use Rattle.script.specs.declared.Shown.the-variants as shown
-use Rattle.text.specs.Ascii.{tab, feed, '-', '0', '9', '?', 'A', 'B', 'F', 'G', 'K', 'P', 'Q', 'S', 'T', 'U', 'W', 'X', 'a', 'b', 'f', 'p'}
+use Rattle.text.specs.Ascii.{tab, feed, '-', '0', '9', '?', 'A', 'B', 'F', 'G', 'K', 'P', 'Q', 'S', 'T', 'U', 'W', 'X', 'a', 'b', 'f', 'n', 'p'}
 use Rattle.text.specs.Numbers.{spelled, allDigits, valueAfter}
-use Rattle.script.specs.Grammar.{'n', fields, isNumber, allNumbers, drilled, damaging, formed, meaning}
+use Rattle.script.specs.Grammar.{fields, isNumber, allNumbers, drilled, damaging, formed, meaning}
 use Rattle.script.specs.Answers.{answerText}
 
 -- A line of the script, and what it means.

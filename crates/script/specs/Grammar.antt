@@ -11,11 +11,7 @@ use Rattle.script.specs.declared.Damage.the-variants.{Lengths, Memory, C
 use Rattle.script.specs.declared.Program.{Program}
 use Rattle.script.specs.declared.Program.the-variants.{Drill, Fault, Page}
 use Rattle.text.specs.Numbers.{allDigits, value}
-use Rattle.text.specs.Ascii.{tab, 'A', 'B', 'C', 'E', 'F', 'G', 'K', 'M', 'N', 'P', 'Q', 'R', 'S', 'T', 'U', 'W', 'X', 'a', 'b', 'f', 'p'}
-
--- The letter of the count.
-abbrev pub 'n' : ℕ
-'n' = 110
+use Rattle.text.specs.Ascii.{tab, 'A', 'B', 'C', 'E', 'F', 'G', 'K', 'M', 'N', 'P', 'Q', 'R', 'S', 'T', 'U', 'W', 'X', 'a', 'b', 'f', 'n', 'p'}
 
 -- A byte put in front of the first field.
 abbrev pub joined : ℕ → List (List ℕ) → List (List ℕ)

@@ -82,5 +82,8 @@ abbrev pub 'b' : ℕ
 abbrev pub 'f' : ℕ
 'f' = 102
 
+abbrev pub 'n' : ℕ
+'n' = 110
+
 abbrev pub 'p' : ℕ
 'p' = 112
