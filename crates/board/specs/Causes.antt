@@ -1,4 +1,4 @@
--- Document 01, "Why a call is turned down", and document 02, tickets 2, 4 and 5: the cause table, one test a row, and for each call its rows in the order tested.
+-- Document 01, "Why a call is turned down", and document 02, tickets 2, 4, 5 and 6: the cause table, one test a row, and for each call its rows in the order tested.
 use Prim.Native.Nat.{ℕ, _+_, _-_, _/_, _%_}
 use mathlib.Core.List.{List, [], _∷_}
 use mathlib.Core.Bool.{Bool, false, cond, not, _&&_, _||_}
@@ -8,14 +8,15 @@ use Rattle.board.specs.declared.State.{State}
 use Rattle.board.specs.declared.Phase.{Phase}
 use Rattle.board.specs.declared.Phase.the-variants.{Off, Formatting, Recovering, Running}
 use Rattle.board.specs.declared.Call.{Call}
-use Rattle.board.specs.declared.Call.the-variants.{FormatStart, RecoveryStart, Step, Update, RestartPoint, Advance, Request, WriteBack, Read, GoAway, ComeBack, Count}
+use Rattle.board.specs.declared.Call.the-variants.{FormatStart, RecoveryStart, Step, Update, RestartPoint, Advance, Request, WriteBack, Read, GoAway, ComeBack, Count, TakeLock, GiveBackLock}
 use Rattle.line.specs.declared.Field.{Field}
 use Rattle.bitset.specs.Passing.{anyUnder}
 use Rattle.bitset.specs.Words.{strays}
+use Rattle.locks.specs.Holders.{lockCount, unheld, holds, holdsAny, heldFrom}
 use Rattle.line.specs.Cell.{fieldOf}
 use Rattle.board.specs.Board
 use Rattle.board.specs.Board.{Board, cells, rowWords, outside, workersOutside, epochOf, linesOf, workersOf, restNotZero, lastEpoch}
-use Rattle.board.specs.State.{conditionOf, isFree, isUpdating, isAway, quiescent, updates, anyWorker, othersUpdate, isOff, isFormatting, isRunning, dirtyCount}
+use Rattle.board.specs.State.{conditionOf, isFree, isUpdating, isAway, quiescent, updates, anyWorker, othersUpdate, isOff, isFormatting, isRunning, lockOf, updatesUnder, dirtyCount}
 
 -- A row of the table: the cause's number, and whether it stands.
 pub record Cause : Type 0 where
@@ -45,11 +46,12 @@ placePast Formatting s = ltb (s .lines + 1) (s .place)
 placePast Recovering s = leb (cells (s .lines)) (s .place)
 placePast Running s = s .requested && ltb (dirtyCount s + 2) (s .place)
 
--- "L or W outside the limits; place ..; cell 2L or more in an update of a worker under W"; 02: "A bit set for line 0 or past L".
+-- "L or W outside the limits; place ..; cell 2L or more in an update of a worker under W"; 02: "A bit set for line 0 or past L"; "each lock's holder, a worker under W or none".
 unfoldable pub badRecord : State → Bool
 badRecord s =
     outside (s .lines) (s .workers)
     || strays (s .dirty) (s .lines)
+    || heldFrom (s .holders) (s .workers)
     || placePast (s .phase) s
     || anyWorker s (updates (leb (cells (s .lines))))
 
@@ -83,7 +85,7 @@ badHeader row =
 abbrev pub laterMark : ℕ → List ℕ → Bool
 laterMark epoch row = anyUnder (cells (linesOf row)) (λ c. ltb epoch (fieldOf row c Field.Mark))
 
--- ---- causes 6 to 8
+-- ---- causes 6 and 7
 
 -- "worker W or more".
 abbrev pub noWorker : State → ℕ → Bool
@@ -101,7 +103,15 @@ noCell s c = leb (cells (s .lines)) c
 abbrev pub noLine : State → ℕ → Bool
 noLine s l = ltb (s .lines) l
 
--- "update or restart point by a worker not free"; 02: "going away when not free".
+-- ---- cause 15, "after 7"
+
+-- 02, ticket 6: "a lock number of 16 or more".
+abbrev pub noLock : ℕ → Bool
+noLock k = leb lockCount k
+
+-- ---- cause 8
+
+-- "update or restart point by a worker not free"; 02: "going away when not free"; "A free worker, else 8, takes a free lock".
 abbrev pub busy : State → ℕ → Bool
 busy s w = not (isFree (conditionOf s w))
 
@@ -118,6 +128,20 @@ notAway s w = not (isAway (conditionOf s w))
 -- 02: "coming back after a checkpoint's first step and before its release".
 abbrev pub checkpointBegun : State → Bool
 checkpointBegun s = s .requested && ltb 0 (s .place)
+
+-- ---- cause 16, "after 8"
+
+-- 02, ticket 6: a lock "taken and not free", one's own too.
+abbrev pub lockHeld : State → ℕ → Bool
+lockHeld s k = not (unheld (s .holders) k)
+
+-- "needed or given back and not held": not by this worker.
+abbrev pub notHolder : State → ℕ → ℕ → Bool
+notHolder s w k = not (holds (s .holders) w k)
+
+-- "or held at a restart point or on going away": any lock.
+abbrev pub holder : State → ℕ → Bool
+holder s w = holdsAny (s .holders) w
 
 -- ---- causes 10 and 11
 
@@ -143,7 +167,7 @@ storesSpentEpoch b = checkpointing (b .state) && eqb (b .state .place) (dirtyCou
 abbrev pub row : ℕ → Bool → Cause
 row number stands = record { number = number; stands = stands }
 
--- "Checked in rising order of number", and 02's 13 "after 8" and 14 "after 5": what can turn each call down.
+-- "Checked in rising order of number", and 02's 13 "after 8", 14 "after 5", 15 "after 7" and 16 "after 8": what can turn each call down.
 unfoldable pub causes : Call → Board → List Cause
 causes (FormatStart l w) b =
     row 1 (outside l w)
@@ -168,6 +192,7 @@ causes (Update w c v) b =
     ∷ row 6 (noWorker (b .state) w)
     ∷ row 7 (noDataCell (b .state) c)
     ∷ row 8 (busy (b .state) w)
+    ∷ row 16 (notHolder (b .state) w (lockOf c))
     ∷ row 9 (othersUpdate (b .state) w c)
     ∷ []
 causes (RestartPoint w v) b =
@@ -176,6 +201,7 @@ causes (RestartPoint w v) b =
     ∷ row 4 (badRows (b .state .lines) b)
     ∷ row 6 (noWorker (b .state) w)
     ∷ row 8 (busy (b .state) w)
+    ∷ row 16 (holder (b .state) w)
     ∷ row 9 (othersUpdate (b .state) w w)
     ∷ []
 causes (Advance w) b =
@@ -210,6 +236,7 @@ causes (GoAway w) b =
     ∷ row 4 (badRows (b .state .lines) b)
     ∷ row 6 (noWorker (b .state) w)
     ∷ row 8 (busy (b .state) w)
+    ∷ row 16 (holder (b .state) w)
     ∷ []
 causes (ComeBack w) b =
     row 2 (notRunning b)
@@ -223,6 +250,24 @@ causes Count b =
     row 2 (notRunning b)
     ∷ row 3 (badRecord (b .state))
     ∷ row 4 (badRows (b .state .lines) b)
+    ∷ []
+causes (TakeLock w k) b =
+    row 2 (notRunning b)
+    ∷ row 3 (badRecord (b .state))
+    ∷ row 4 (badRows (b .state .lines) b)
+    ∷ row 6 (noWorker (b .state) w)
+    ∷ row 15 (noLock k)
+    ∷ row 8 (busy (b .state) w)
+    ∷ row 16 (lockHeld (b .state) k)
+    ∷ []
+causes (GiveBackLock w k) b =
+    row 2 (notRunning b)
+    ∷ row 3 (badRecord (b .state))
+    ∷ row 4 (badRows (b .state .lines) b)
+    ∷ row 6 (noWorker (b .state) w)
+    ∷ row 15 (noLock k)
+    ∷ row 8 (updatesUnder (b .state) w k)
+    ∷ row 16 (notHolder (b .state) w k)
     ∷ []
 
 -- The number of the first cause that stands, 0 where none does.

@@ -1,4 +1,4 @@
--- Document 01, "Steps", and document 02, tickets 2, 4 and 5: what a taken call does, store by store.
+-- Document 01, "Steps", and document 02, tickets 2, 4, 5 and 6: what a taken call does, store by store.
 use Prim.Native.Nat.{ℕ, _+_}
 use mathlib.Core.List.{List}
 use mathlib.Core.Bool.{Bool, cond, _&&_}
@@ -14,13 +14,14 @@ use Rattle.board.specs.declared.UndoStep.the-variants.{Restore, Unmark, 
 use Rattle.board.specs.declared.Phase.{Phase}
 use Rattle.board.specs.declared.Phase.the-variants.{Off, Formatting, Recovering, Running}
 use Rattle.board.specs.declared.Call.{Call}
-use Rattle.board.specs.declared.Call.the-variants.{FormatStart, RecoveryStart, Step, Update, RestartPoint, Advance, Request, WriteBack, Read, GoAway, ComeBack, Count}
+use Rattle.board.specs.declared.Call.the-variants.{FormatStart, RecoveryStart, Step, Update, RestartPoint, Advance, Request, WriteBack, Read, GoAway, ComeBack, Count, TakeLock, GiveBackLock}
 use Rattle.bitset.specs.Words.{empty, nth}
+use Rattle.locks.specs.Holders.{heldBy, givenBack}
 use Rattle.line.specs.declared.Field.{Field}
 use Rattle.line.specs.Line.{lineOf, withLine}
 use Rattle.line.specs.Cell.{cellLine, fieldOf, withField}
 use Rattle.board.specs.Board.{Board, cells, epochOf, linesOf, workersOf, headerWords, zeroWords}
-use Rattle.board.specs.State.{conditionOf, started, placed, opened, requesting, released, conditioned, dirtied, dirtyCount}
+use Rattle.board.specs.State.{conditionOf, started, placed, opened, requesting, released, conditioned, dirtied, locked, dirtyCount}
 
 -- ---- what a step does to the rows
 
@@ -157,7 +158,7 @@ advanceOf Away w s b = b
 
 -- ---- every call
 
--- What each call does where no cause stands: "Each of the two starts sets every field"; "Recovery. The start copies memory to cache"; 02: "A free worker may go away and come back free".
+-- What each call does where no cause stands: "Each of the two starts sets every field"; "Recovery. The start copies memory to cache"; 02: "A free worker may go away and come back free"; "takes a free lock", "gives it back".
 unfoldable pub effect : Call → Board → Board
 effect (FormatStart l w) b = stated (started Formatting l w) b
 effect RecoveryStart b = cached (b .memory) (started Recovering (linesOf (b .memory)) (workersOf (b .memory))) b
@@ -171,3 +172,5 @@ effect (Read c) b = b
 effect (GoAway w) b = stated (conditioned (b .state) w Away) b
 effect (ComeBack w) b = stated (conditioned (b .state) w Free) b
 effect Count b = b
+effect (TakeLock w k) b = stated (locked (b .state) (heldBy (b .state .holders) k w)) b
+effect (GiveBackLock w k) b = stated (locked (b .state) (givenBack (b .state .holders) k)) b

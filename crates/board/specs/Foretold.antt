@@ -9,7 +9,7 @@ use Rattle.bitset.specs.Passing.{countUnder}
 use Rattle.bitset.specs.Words.{capacity, contains, size, strays}
 use Rattle.board.specs.declared.State.{State}
 use Rattle.board.specs.declared.Call.{Call}
-use Rattle.board.specs.declared.Call.the-variants.{FormatStart, RecoveryStart, Step, Update, RestartPoint, Advance, Request, WriteBack, Read, GoAway, ComeBack, Count}
+use Rattle.board.specs.declared.Call.the-variants.{FormatStart, RecoveryStart, Step, Update, RestartPoint, Advance, Request, WriteBack, Read, GoAway, ComeBack, Count, TakeLock, GiveBackLock}
 use Rattle.board.specs.declared.Condition.the-variants.{Updating}
 use Rattle.board.specs.declared.Store.{Store}
 use Rattle.board.specs.Board.{Board}
@@ -77,6 +77,8 @@ comesBack (Read c) = false
 comesBack (GoAway w) = false
 comesBack (ComeBack w) = true
 comesBack Count = false
+comesBack (TakeLock w k) = false
+comesBack (GiveBackLock w k) = false
 
 -- `ToRelease n b b′`: calls and pages lead from board `b` to board `b′`. `n` steps among them returned 0, the last call being the last of them and a release: it alone leaves no request. No start and no coming back returned 0.
 pub data ToRelease : ℕ → Board → Board → Type 0 where

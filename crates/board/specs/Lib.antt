@@ -10,6 +10,7 @@ pub mod Sequence
 pub mod Statements
 pub mod Steps
 pub mod Foretold
+pub mod Locks
 pub mod LaterMark
 pub mod Bench
 pub mod Refusals

@@ -3,7 +3,7 @@ use Prim.Native.Nat.{ℕ, zero, suc, _+_, _-_, _*_}
 use mathlib.Core.Bool.{Bool, true, false, cond, not, _&&_, _||_}
 use lib.Dec.{leb, eqb}
 use Rattle.board.specs.declared.Call.{Call}
-use Rattle.board.specs.declared.Call.the-variants.{FormatStart, RecoveryStart, Step, Update, RestartPoint, Advance, Request, WriteBack, Read, GoAway, ComeBack, Count}
+use Rattle.board.specs.declared.Call.the-variants.{FormatStart, RecoveryStart, Step, Update, RestartPoint, Advance, Request, WriteBack, Read, GoAway, ComeBack, Count, TakeLock, GiveBackLock}
 unfoldable pub use Rattle.bitset.specs.Passing.{countUnder}
 
 -- "for each worker an unfinished update (cell, value, stores left)".
@@ -126,7 +126,7 @@ stepped m = cond (m .requested) (checkpointStep m) (cond (finishesFormat m) (beg
 unfoldable pub writeBackSeen : ℕ → Machine → Machine
 writeBackSeen l m = cond (eqb l 0 && m .requested && leb (markedCount m + 1) (m .steps)) (completed m) m
 
--- What a taken call does to the machine; going away and coming back it does not see, since it holds no conditions, nor the count.
+-- What a taken call does to the machine; going away and coming back it does not see, since it holds no conditions, nor the count; nor who holds a lock.
 unfoldable pub feed : Call → Machine → Machine
 feed (FormatStart l w) m = startedFormat l m
 feed RecoveryStart m = startedRecovery m
@@ -140,3 +140,5 @@ feed (Read c) m = m
 feed (GoAway w) m = m
 feed (ComeBack w) m = m
 feed Count m = m
+feed (TakeLock w k) m = m
+feed (GiveBackLock w k) m = m

@@ -1,4 +1,4 @@
--- Document 01, "Why a call is turned down", and document 02, ticket 5: every call as one function, taken or refused.
+-- Document 01, "Why a call is turned down", and document 02, tickets 5 and 6: every call as one function, taken or refused.
 use Prim.Native.Nat.{ℕ, _+_}
 use mathlib.Core.Path.{_≡_}
 use mathlib.Core.Bool.{Bool, true, false, cond}
@@ -6,7 +6,7 @@ use lib.Dec.{eqb}
 use mathlib.Core.List.{List}
 use Rattle.board.specs.declared.State.{State}
 use Rattle.board.specs.declared.Call.{Call}
-use Rattle.board.specs.declared.Call.the-variants.{FormatStart, RecoveryStart, Step, Update, RestartPoint, Advance, Request, WriteBack, Read, GoAway, ComeBack, Count}
+use Rattle.board.specs.declared.Call.the-variants.{FormatStart, RecoveryStart, Step, Update, RestartPoint, Advance, Request, WriteBack, Read, GoAway, ComeBack, Count, TakeLock, GiveBackLock}
 use Rattle.line.specs.declared.Field.{Field}
 use Rattle.line.specs.Cell.{fieldOf}
 use Rattle.board.specs.Board.{Board}
@@ -57,6 +57,8 @@ kind (Read c) = reading c
 kind (GoAway w) = other
 kind (ComeBack w) = other
 kind Count = counting
+kind (TakeLock w k) = other
+kind (GiveBackLock w k) = other
 
 -- A start of format or recovery.
 abbrev pub isStart : Kind → Bool

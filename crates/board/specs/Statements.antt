@@ -13,6 +13,7 @@ use Rattle.board.specs.declared.Condition.the-variants.{Free, Waiting, A
 use Rattle.board.specs.declared.Call.the-variants.{FormatStart, RecoveryStart, Step, Update, RestartPoint, Advance, Request, Read, GoAway, ComeBack}
 use Rattle.board.specs.declared.Phase.{Phase}
 use Rattle.board.specs.Board.{Board, cells, epochOf, linesOf, workersOf, lastEpoch}
+use Rattle.locks.specs.Holders.{holds}
 use Rattle.board.specs.State.{conditionOf, isFree, isWaiting, isFormatting, isRunning, dirtyCount}
 use Rattle.board.specs.Effects.{undo, writtenBack}
 use Rattle.board.specs.Next.{Taken, next, Kind, startsFormat, startsRecovery, stepping, writing, counting, other, reading, kind, isStep, Performed}
@@ -195,11 +196,15 @@ AwayHoldsUpNone =
     AllWaitOrAway (r .board .state) →
     (left : ℕ) → r .board .state .place + left ≡ dirtyCount (r .board .state) + 3 → EndsIn left (r .board) × KeepsAway (r .board .state) (stepsFrom left (r .board) .state)
 
--- 02, ticket 2: a running board lets worker `w` go away exactly where it is free, and come back exactly where it is away and no step of a requested checkpoint was taken; nothing else turns them down.
+-- Worker `w` holds none of the 16 locks.
+abbrev pub HoldsNone : State → ℕ → Type 0
+HoldsNone s w = (k : ℕ) → k < 16 → holds (s .holders) w k ≡ false
+
+-- 02, ticket 2: a running board lets worker `w` go away exactly where it is free and (ticket 6) holds no lock, and come back exactly where it is away and no step of a requested checkpoint was taken; nothing else turns them down.
 abbrev pub GoesAndComes : Type 0
 GoesAndComes =
     (r : Run) → History r → r .crashed ≡ false → isRunning (r .board .state .phase) ≡ true → (w : ℕ) →
-    (Taken (GoAway w) (r .board) ↔ ((w < r .board .state .workers) × (conditionOf (r .board .state) w ≡ Free)))
+    (Taken (GoAway w) (r .board) ↔ ((w < r .board .state .workers) × (conditionOf (r .board .state) w ≡ Free) × HoldsNone (r .board .state) w))
     × (Taken (ComeBack w) (r .board) ↔ ((w < r .board .state .workers) × (conditionOf (r .board .state) w ≡ Away) × (r .board .state .requested ≡ true → r .board .state .place ≡ 0)))
 
 -- After any history a recovery can be started, unless a format took its first step and none has finished since.

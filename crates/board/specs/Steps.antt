@@ -16,7 +16,7 @@ use Rattle.board.specs.declared.Phase.{Phase}
 use Rattle.board.specs.declared.Phase.the-variants.{Formatting, Recovering, Running}
 use Rattle.board.specs.declared.UndoStep.the-variants.{Restore}
 use Rattle.board.specs.declared.Call.{Call}
-use Rattle.board.specs.declared.Call.the-variants.{FormatStart, RecoveryStart, Step, Update, RestartPoint, Advance, Request, WriteBack, Read, GoAway, ComeBack, Count}
+use Rattle.board.specs.declared.Call.the-variants.{FormatStart, RecoveryStart, Step, Update, RestartPoint, Advance, Request, WriteBack, Read, GoAway, ComeBack, Count, TakeLock, GiveBackLock}
 use Rattle.board.specs.Board.{Board}
 use Rattle.board.specs.State.{conditionOf, dirtyCount}
 use Rattle.board.specs.Causes.{Cause, causes, cause}
@@ -63,11 +63,12 @@ RecoveryWrites = (b : Board) → b .state .phase ≡ Recovering → Taken Step b
 
 -- ---- 3. release
 
--- Of the eight workers those that were away are away and the others free, no line is dirty, no request stands, the place is 0 with a recovery's first step; phase, L, W and the rows are as they were.
+-- Of the eight workers those that were away are away and the others free, no line is dirty, no request stands, the place is 0 with a recovery's first step; phase, L, W, the locks' holders and the rows are as they were.
 pub record Released (b b′ : Board) : Type 0 where
   pub eight : length (b′ .state .worker) ≡ 8
   pub workersAfter : KeepsAway (b .state) (b′ .state)
   pub clean : b′ .state .dirty ≡ replicate 8 0
+  pub holders : b′ .state .holders ≡ b .state .holders
   pub request : b′ .state .requested ≡ false
   pub place : b′ .state .place ≡ 0
   pub undo : b′ .state .undo ≡ Restore
@@ -130,11 +131,12 @@ FormatStarts =
 
 -- ---- 6. the two starts
 
--- "Each of the two starts sets every field of the state record": the phase, L and W given, no line dirty; memory is as it was, and the cache is the one given.
+-- "Each of the two starts sets every field of the state record": the phase, L and W given, no lock held, no line dirty; memory is as it was, and the cache is the one given.
 pub record Begun (phase : Phase) (l w : ℕ) (cache : List ℕ) (b b′ : Board) : Type 0 where
   pub inPhase : b′ .state .phase ≡ phase
   pub lines : b′ .state .lines ≡ l
   pub workers : b′ .state .workers ≡ w
+  pub unheld : b′ .state .holders ≡ 0
   pub clean : b′ .state .dirty ≡ replicate 8 0
   pub place : b′ .state .place ≡ 0
   pub undo : b′ .state .undo ≡ Restore
@@ -184,6 +186,7 @@ pub record Asked (b b′ : Board) : Type 0 where
   pub phase : b′ .state .phase ≡ b .state .phase
   pub lines : b′ .state .lines ≡ b .state .lines
   pub workers : b′ .state .workers ≡ b .state .workers
+  pub holders : b′ .state .holders ≡ b .state .holders
   pub dirty : b′ .state .dirty ≡ b .state .dirty
   pub worker : b′ .state .worker ≡ b .state .worker
   pub memory : b′ .memory ≡ b .memory
@@ -193,11 +196,12 @@ pub record Asked (b b′ : Board) : Type 0 where
 abbrev pub Requests : Type 0
 Requests = (b : Board) → Taken Request b → Asked b (next Request b)
 
--- The board runs, all eight workers free, at place 0, with the given dirty lines; L, W and the request are as they were.
+-- The board runs, all eight workers free, at place 0, with the given dirty lines; L, W, the locks' holders and the request are as they were.
 pub record Opened (dirty : List ℕ) (b b′ : Board) : Type 0 where
   pub phase : b′ .state .phase ≡ Running
   pub lines : b′ .state .lines ≡ b .state .lines
   pub workers : b′ .state .workers ≡ b .state .workers
+  pub holders : b′ .state .holders ≡ b .state .holders
   pub lineBits : b′ .state .dirty ≡ dirty
   pub place : b′ .state .place ≡ 0
   pub undo : b′ .state .undo ≡ Restore
@@ -224,6 +228,7 @@ pub record OnlyWorker (w : ℕ) (condition : Condition) (b b′ : Board) : Type 
   pub phase : b′ .state .phase ≡ b .state .phase
   pub lines : b′ .state .lines ≡ b .state .lines
   pub workers : b′ .state .workers ≡ b .state .workers
+  pub holders : b′ .state .holders ≡ b .state .holders
   pub dirty : b′ .state .dirty ≡ b .state .dirty
   pub place : b′ .state .place ≡ b .state .place
   pub undo : b′ .state .undo ≡ b .state .undo
@@ -253,6 +258,8 @@ names (Read c) i = false
 names (GoAway w) i = eqb i w
 names (ComeBack w) i = eqb i w
 names Count i = false
+names (TakeLock w k) i = eqb i w
+names (GiveBackLock w k) i = eqb i w
 
 -- A taken call of a running board leaves every worker that it does not name in its condition, so one that is away stays away until it comes back; but for the two starts (6) and the release (3).
 abbrev pub OthersStay : Type 0

@@ -41,8 +41,9 @@ pub struct Worker {
 }
 
 // The state record: phase, L, W, the place reached (with a recovery's step), whether a checkpoint was requested,
-// the dirty lines, which the next checkpoint writes back, a bit a line (crate `bitset`), and the eight workers. The
-// order of the small fields leaves no gap before the dirty lines (docs/BENCH.md).
+// the holders of the locks, four bits a lock (crate `locks`), the dirty lines, which the next checkpoint writes back, a
+// bit a line (crate `bitset`), and the eight workers. The order of the small fields leaves no gap after them
+// (docs/BENCH.md).
 pub struct State {
     pub phase: Phase,
     pub workers: u8,
@@ -50,11 +51,12 @@ pub struct State {
     pub requested: bool,
     pub lines: u16,
     pub place: u16,
+    pub holders: u64,
     pub dirty: [u64; 8],
     pub worker: [Worker; 8],
 }
 
-// The twelve calls with their arguments, any numbers a host may pass: nine of document 01, three of document 02.
+// The fourteen calls with their arguments, any numbers a host may pass: nine of document 01, five of document 02.
 pub enum Call {
     FormatStart { lines: u64, workers: u64 },
     RecoveryStart,
@@ -68,6 +70,8 @@ pub enum Call {
     GoAway { worker: u64 },
     ComeBack { worker: u64 },
     Count,
+    TakeLock { worker: u64, lock: u64 },
+    GiveBackLock { worker: u64, lock: u64 },
 }
 
 // "Lines 1 to L hold two cells each": the number of cells.

@@ -10,8 +10,9 @@ use Rattle.board.specs.declared.Phase.{Phase}
 use Rattle.board.specs.declared.Phase.the-variants.{Off, Formatting, Recovering, Running}
 use Rattle.board.specs.declared.Call.{Call}
 use Rattle.bitset.specs.Words.{empty}
+use Rattle.locks.specs.Holders.{allUnheld, heldBy}
 use Rattle.board.specs.Board.{Board, headerWords}
-use Rattle.board.specs.State.{freeWorker, started, placed, conditioned, dirtied}
+use Rattle.board.specs.State.{freeWorker, started, placed, conditioned, dirtied, locked}
 use Rattle.board.specs.Effects.{cached, stated}
 use Rattle.board.specs.Bench.{Case, answers, fromEvents}
 
@@ -41,19 +42,19 @@ sound phase l w = record { state = started phase l w; memory = rowFor l w; cache
 abbrev pub inPhase : Phase → Board → Board
 inPhase p b =
     let s = b .state in
-    stated (record { phase = p; lines = s .lines; workers = s .workers; place = s .place; undo = s .undo; requested = s .requested; dirty = s .dirty; worker = s .worker }) b
+    stated (record { phase = p; lines = s .lines; workers = s .workers; place = s .place; undo = s .undo; requested = s .requested; holders = s .holders; dirty = s .dirty; worker = s .worker }) b
 
 -- Another L and W.
 abbrev pub limits : ℕ → ℕ → Board → Board
 limits l w b =
     let s = b .state in
-    stated (record { phase = s .phase; lines = l; workers = w; place = s .place; undo = s .undo; requested = s .requested; dirty = s .dirty; worker = s .worker }) b
+    stated (record { phase = s .phase; lines = l; workers = w; place = s .place; undo = s .undo; requested = s .requested; holders = s .holders; dirty = s .dirty; worker = s .worker }) b
 
 -- A request stands.
 abbrev pub requested : Board → Board
 requested b =
     let s = b .state in
-    stated (record { phase = s .phase; lines = s .lines; workers = s .workers; place = s .place; undo = s .undo; requested = true; dirty = s .dirty; worker = s .worker }) b
+    stated (record { phase = s .phase; lines = s .lines; workers = s .workers; place = s .place; undo = s .undo; requested = true; holders = s .holders; dirty = s .dirty; worker = s .worker }) b
 
 -- The bit of line `l` set.
 abbrev pub setting : ℕ → Board → Board
@@ -62,6 +63,10 @@ setting l b = stated (dirtied (b .state) l) b
 -- A bit that no board has: of line 0.
 abbrev pub straying : Board → Board
 straying b = setting 0 b
+
+-- Lock `k` held by worker `w`.
+abbrev pub locking : ℕ → ℕ → Board → Board
+locking k w b = stated (locked (b .state) (heldBy (b .state .holders) k w)) b
 
 -- Another place.
 abbrev pub placedAt : ℕ → Board → Board
@@ -79,7 +84,7 @@ updating w c b = worker w (Updating Backup c 5) b
 abbrev pub ready : ℕ → ℕ → Board
 ready l w =
     record {
-      state = record { phase = Running; lines = l; workers = w; place = 0; undo = started Running l w .undo; requested = true; dirty = empty; worker = replicate w (record { condition = Waiting }) ++ replicate (8 - w) freeWorker };
+      state = record { phase = Running; lines = l; workers = w; place = 0; undo = started Running l w .undo; requested = true; holders = allUnheld; dirty = empty; worker = replicate w (record { condition = Waiting }) ++ replicate (8 - w) freeWorker };
       memory = rowFor l w;
       cache = rowFor l w;
     }
