@@ -22,7 +22,7 @@ use Rattle.board.specs.Statements.{HoldsNone}
 
 -- `FromStart b`: a start of format or recovery returned 0, on any board whatever its record and rows were; from there calls and pages, taken or refused, led to board `b`, with no cut between.
 pub data FromStart : Board → Type 0 where
-  starts : (k : Call) {value : ℕ} {b b′ : Board} → isStart (kind k) ≡ true → Performed k b 0 value b′ → FromStart b′
+  starts : (k : Call) {value : ℕ} (b : Board) {b′ : Board} → isStart (kind k) ≡ true → Performed k b 0 value b′ → FromStart b′
   performs : (k : Call) {number value : ℕ} {b b′ : Board} → FromStart b → Performed k b number value b′ → FromStart b′
   pages : (text left : List ℕ) {number : ℕ} {b b′ : Board} → FromStart b → PagePerformed b text number b′ left → FromStart b′
 

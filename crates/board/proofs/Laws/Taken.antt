@@ -8,12 +8,13 @@ use lib.Dec.{leb, ltb, eqb}
 use lib.ListN.{length}
 use borrow.Author.Tests.{ltb-true, ltb-false, leb-true, eq-eqb, ne-eqb, le-leb, lt-ltb, le-ltb}
 use Rattle.bitset.specs.Words.{strays}
+use Rattle.locks.specs.Holders.{heldFrom}
 use Rattle.line.specs.declared.Field.the-variants.{Mark}
 use Rattle.line.specs.Cell.{fieldOf}
 use Rattle.board.specs.declared.State.{State}
 use Rattle.board.specs.declared.Condition.{Condition}
 use Rattle.board.specs.declared.Call.{Call}
-use Rattle.board.specs.declared.Call.the-variants.{FormatStart, RecoveryStart, Step, Update, RestartPoint, Advance, Request, WriteBack, Read, GoAway, ComeBack, Count}
+use Rattle.board.specs.declared.Call.the-variants.{FormatStart, RecoveryStart, Step, Update, RestartPoint, Advance, Request, WriteBack, Read, GoAway, ComeBack, Count, TakeLock, GiveBackLock}
 use Rattle.board.specs.Board.{Board, cells, rowWords, linesOf, linesOutside, workersOutside, outside}
 use Rattle.board.specs.State.{conditionOf, updates, anyWorker}
 use Rattle.board.specs.Causes.{Cause, causes, firstStanding, cause, badRecord, badRows, laterMark, placePast, notOn, notRecoveringOrRunning, notRunning}
@@ -111,6 +112,8 @@ entered (Read c) = record { numbers = λ b. refl; phase = λ b. refl; named = re
 entered (GoAway w) = record { numbers = λ b. refl; phase = λ b. refl; named = tt }
 entered (ComeBack w) = record { numbers = λ b. refl; phase = λ b. refl; named = tt }
 entered Count = record { numbers = λ b. refl; phase = λ b. refl; named = refl }
+entered (TakeLock w k) = record { numbers = λ b. refl; phase = λ b. refl; named = tt }
+entered (GiveBackLock w k) = record { numbers = λ b. refl; phase = λ b. refl; named = tt }
 
 -- Every row of every call has a number other than 0.
 pub table-numbered : (k : Call) (b : Board) → numbered (causes k b) ≡ true
@@ -225,34 +228,39 @@ none-worker s test f =
     under-none 8 (λ i. ltb i (s .workers) && test (conditionOf s i)) (λ i h. and-if (ltb i (s .workers)) (test (conditionOf s i)) (λ t. f i (ltb-true i (s .workers) t)))
 
 -- A state record within its bounds passes.
-pub record-fine : (l : ℕ) (s : State) → s .lines ≡ l → linesOutside l ≡ false → workersOutside l (s .workers) ≡ false → strays (s .dirty) l ≡ false → placePast (s .phase) s ≡ false → ((w : ℕ) → w < s .workers → updates (leb (cells l)) (conditionOf s w) ≡ false) → badRecord s ≡ false
+pub record-fine : (l : ℕ) (s : State) → s .lines ≡ l → linesOutside l ≡ false → workersOutside l (s .workers) ≡ false → strays (s .dirty) l ≡ false → heldFrom (s .holders) (s .workers) ≡ false → placePast (s .phase) s ≡ false → ((w : ℕ) → w < s .workers → updates (leb (cells l)) (conditionOf s w) ≡ false) → badRecord s ≡ false
 unfolding badRecord
-record-fine l s e lo wo n p u =
+record-fine l s e lo wo n h p u =
     or-none _ (anyWorker s (updates (leb (cells (s .lines)))))
     (or-none _ (placePast (s .phase) s)
+    (or-none (outside (s .lines) (s .workers) || strays (s .dirty) (s .lines)) (heldFrom (s .holders) (s .workers))
     (or-none (outside (s .lines) (s .workers)) (strays (s .dirty) (s .lines))
     (subst (λ (k : ℕ). outside k (s .workers) ≡ false) (sym e) (or-none (linesOutside l) (workersOutside l (s .workers)) lo wo))
     (subst (λ (k : ℕ). strays (s .dirty) k ≡ false) (sym e) n))
+    h)
     p)
     (subst (λ (k : ℕ). anyWorker s (updates (leb (cells k))) ≡ false) (sym e) (none-worker s (updates (leb (cells l))) u))
 
--- A state record that passes its test has L and W within the limits, its place within bounds, and no bit but cell lines'.
-pub record-within : (s : State) → badRecord s ≡ false → (linesOutside (s .lines) ≡ false) × (workersOutside (s .lines) (s .workers) ≡ false) × (placePast (s .phase) s ≡ false) × (strays (s .dirty) (s .lines) ≡ false)
+-- A state record that passes its test has L and W within the limits, its place within bounds, no bit but cell lines', and no lock's holder past W.
+pub record-within : (s : State) → badRecord s ≡ false → (linesOutside (s .lines) ≡ false) × (workersOutside (s .lines) (s .workers) ≡ false) × (placePast (s .phase) s ≡ false) × (strays (s .dirty) (s .lines) ≡ false) × (heldFrom (s .holders) (s .workers) ≡ false)
 unfolding badRecord
 record-within s e =
     let limits = outside (s .lines) (s .workers) in
     let long = strays (s .dirty) (s .lines) in
+    let held = heldFrom (s .holders) (s .workers) in
     let past = placePast (s .phase) s in
-    let three : limits || long || past ≡ false = or-left (limits || long || past) (anyWorker s (updates (leb (cells (s .lines))))) e in
-    let sizes : limits ≡ false = or-left limits long (or-left (limits || long) past three) in
-    (or-left (linesOutside (s .lines)) (workersOutside (s .lines) (s .workers)) sizes, or-right (linesOutside (s .lines)) (workersOutside (s .lines) (s .workers)) sizes, or-right (limits || long) past three, or-right limits long (or-left (limits || long) past three))
+    let four : limits || long || held || past ≡ false = or-left (limits || long || held || past) (anyWorker s (updates (leb (cells (s .lines))))) e in
+    let three : limits || long || held ≡ false = or-left (limits || long || held) past four in
+    let two : limits || long ≡ false = or-left (limits || long) held three in
+    let sizes : limits ≡ false = or-left limits long two in
+    (or-left (linesOutside (s .lines)) (workersOutside (s .lines) (s .workers)) sizes, or-right (linesOutside (s .lines)) (workersOutside (s .lines) (s .workers)) sizes, or-right (limits || long || held) past four, or-right limits long two, or-right (limits || long) held three)
 
 -- Nor has a worker under W an update of a cell that is not there.
 pub record-cells : (s : State) → badRecord s ≡ false → (w : ℕ) → w < s .workers → updates (leb (cells (s .lines))) (conditionOf s w) ≡ false
 unfolding badRecord
 record-cells s e w h =
     let test = updates (leb (cells (s .lines))) in
-    let none : anyWorker s test ≡ false = or-right (outside (s .lines) (s .workers) || strays (s .dirty) (s .lines) || placePast (s .phase) s) (anyWorker s test) e in
+    let none : anyWorker s test ≡ false = or-right (outside (s .lines) (s .workers) || strays (s .dirty) (s .lines) || heldFrom (s .holders) (s .workers) || placePast (s .phase) s) (anyWorker s test) e in
     and-not (ltb w (s .workers)) (test (conditionOf s w))
     (none-under 8 (λ i. ltb i (s .workers) && test (conditionOf s i)) none w (omega (arith, workers-in (s .lines) (s .workers) (record-within s e .1) .1)))
     (lt-ltb w (s .workers) h)
