@@ -7,11 +7,12 @@ use native.Mathlib.Omega.{arith}
 use lib.ListN.{replicate}
 use Rattle.bitset.specs.Passing.{anyUnder, countUnder, nthFrom, nthUnder}
 use Rattle.bitset.specs.Words.{bitsIn, bitOf, withBit, contains, inserted as added, size, nth, strays}
+use Rattle.locks.specs.Holders.{digitOf, unheld, holds as held, holdsAny, heldFrom, withDigit}
 use Rattle.line.specs.Line.{lineOf, withLine}
 use Rattle.line.specs.Cell.{fieldIndex, fieldOf, withField}
 use Rattle.board.specs.declared.Condition.the-variants.{Away}
 use Rattle.board.specs.declared.Call.{Call}
-use Rattle.board.specs.declared.Call.the-variants.{FormatStart, Step, Update, RestartPoint, Advance, Request, Read, GoAway, ComeBack}
+use Rattle.board.specs.declared.Call.the-variants.{FormatStart, Step, Update, RestartPoint, Advance, Request, Read, GoAway, ComeBack, TakeLock, GiveBackLock}
 use Rattle.board.specs.Board.{Board, linesOf}
 use Rattle.board.specs.State.{conditionOf}
 use Rattle.board.specs.Causes.{badRecord, causes, firstStanding, cause}
@@ -31,12 +32,12 @@ fresh = afterCalls (FormatStart 2 2 ∷ Step ∷ Step ∷ Step ∷ Step ∷ []) 
 -- Worker 1 goes away. Worker 0 puts 7 into cell 2 and makes a restart point, and the checkpoint of their two lines ends in five steps without worker 1.
 first : List Call
 first =
-    GoAway 1 ∷ Update 0 2 7 ∷ Advance 0 ∷ Advance 0 ∷ Advance 0 ∷ Request ∷ RestartPoint 0 3 ∷ Advance 0 ∷ Advance 0 ∷ Advance 0
+    GoAway 1 ∷ TakeLock 0 2 ∷ Update 0 2 7 ∷ Advance 0 ∷ Advance 0 ∷ Advance 0 ∷ GiveBackLock 0 2 ∷ Request ∷ RestartPoint 0 3 ∷ Advance 0 ∷ Advance 0 ∷ Advance 0
     ∷ Step ∷ Step ∷ Step ∷ Step ∷ Step ∷ []
 
--- Worker 1, away still, comes back and puts 9 into cell 2. Both go away; a second checkpoint writes the cell's line, and worker 1 is not let back.
+-- Worker 1, away still, comes back and puts 9 into cell 2; while it holds the lock it is not let go. Both go away; a second checkpoint writes the cell's line, and worker 1 is not let back.
 second : List Call
-second = ComeBack 1 ∷ Update 1 2 9 ∷ Advance 1 ∷ Advance 1 ∷ Advance 1 ∷ GoAway 1 ∷ Request ∷ GoAway 0 ∷ Step ∷ ComeBack 1 ∷ []
+second = ComeBack 1 ∷ TakeLock 1 2 ∷ Update 1 2 9 ∷ Advance 1 ∷ Advance 1 ∷ Advance 1 ∷ GoAway 1 ∷ GiveBackLock 1 2 ∷ GoAway 1 ∷ Request ∷ GoAway 0 ∷ Step ∷ ComeBack 1 ∷ []
 
 -- The run after the first checkpoint, and the run that the history leads to.
 midway : Run
@@ -57,7 +58,7 @@ pub recoveredBoard : Board
 recoveredBoard = cutAndPlayed run garbage cutCache recoveryCalls
 
 begins-fresh : Begins fresh (beginning 2)
-unfolding fresh afterCalls takesTest byKind next cause causes firstStanding badRecord anyUnder effect step formatStep withLine countUnder nthFrom nthUnder bitsIn bitOf withBit contains added size nth strays
+unfolding fresh afterCalls takesTest byKind next cause causes firstStanding badRecord anyUnder effect step formatStep withLine countUnder nthFrom nthUnder bitsIn bitOf withBit contains added size nth strays digitOf unheld held holdsAny heldFrom withDigit
 begins-fresh =
     formatted 2 2 _ (blankFor 2) _ fresh (performing (FormatStart 2 2) (blankFor 2) refl refl refl) (tested 4 (Step ∷ Step ∷ Step ∷ Step ∷ []) (next (FormatStart 2 2) (blankFor 2)) refl)
 
@@ -68,7 +69,7 @@ midway-history = calls-history first (opening fresh (beginning 2)) refl (begun b
 
 -- After the first checkpoint worker 1 is away and no cut has fallen.
 midway-seen : (midway .crashed ≡ false) × (conditionOf (midway .board .state) 1 ≡ Away)
-unfolding midway first fresh made madeAll afterCalls next cause causes firstStanding badRecord anyUnder effect step formatStep actAt performAct advance advanceOf lineOf withLine fieldIndex fieldOf withField feed changed countUnder fewer advanced checkpointStep stepped nthFrom nthUnder bitsIn bitOf withBit contains added size nth strays
+unfolding midway first fresh made madeAll afterCalls next cause causes firstStanding badRecord anyUnder effect step formatStep actAt performAct advance advanceOf lineOf withLine fieldIndex fieldOf withField feed changed countUnder fewer advanced checkpointStep stepped nthFrom nthUnder bitsIn bitOf withBit contains added size nth strays digitOf unheld held holdsAny heldFrom withDigit
 midway-seen = (refl, refl)
 
 pub run-history : History run
@@ -77,17 +78,17 @@ run-history = calls-history second midway (midway-seen .0) midway-history
 
 -- In the middle of the second checkpoint both workers are away, and worker 1 may not come back: cause 13.
 pub run-seen : (conditionOf (run .board .state) 0 ≡ Away) × (conditionOf (run .board .state) 1 ≡ Away) × (cause (ComeBack 1) (run .board) ≡ 13)
-unfolding run midway first second fresh made madeAll afterCalls next cause causes firstStanding badRecord anyUnder effect step formatStep actAt performAct advance advanceOf lineOf withLine fieldIndex fieldOf withField feed changed countUnder fewer advanced checkpointStep stepped nthFrom nthUnder bitsIn bitOf withBit contains added size nth strays
+unfolding run midway first second fresh made madeAll afterCalls next cause causes firstStanding badRecord anyUnder effect step formatStep actAt performAct advance advanceOf lineOf withLine fieldIndex fieldOf withField feed changed countUnder fewer advanced checkpointStep stepped nthFrom nthUnder bitsIn bitOf withBit contains added size nth strays digitOf unheld held holdsAny heldFrom withDigit
 run-seen = (refl, refl, refl)
 
 -- The recovery's start is taken, and then six steps.
 run-takes : PlayedRecovery run garbage cutCache recoveryCalls 6
-unfolding takesTest byKind undoSteps recoveryCalls run midway first second cutCache fresh made madeAll afterCalls next cause causes firstStanding badRecord anyUnder effect step formatStep recoveryStep actAt performAct advance advanceOf lineOf withLine fieldIndex fieldOf withField feed changed countUnder fewer advanced checkpointStep stepped nthFrom nthUnder bitsIn bitOf withBit contains added size nth strays
+unfolding takesTest byKind undoSteps recoveryCalls run midway first second cutCache fresh made madeAll afterCalls next cause causes firstStanding badRecord anyUnder effect step formatStep recoveryStep actAt performAct advance advanceOf lineOf withLine fieldIndex fieldOf withField feed changed countUnder fewer advanced checkpointStep stepped nthFrom nthUnder bitsIn bitOf withBit contains added size nth strays digitOf unheld held holdsAny heldFrom withDigit
 run-takes = record { sameLength = refl; test = refl; count = refl }
 
 -- What the machine held at the last completed checkpoint: 7 in cell 2.
 run-values : (linesOf (run .board .memory) ≡ 2) × (run .machine .checkpointed 2 ≡ 7)
-unfolding run midway first second fresh made madeAll afterCalls next cause causes firstStanding badRecord anyUnder effect step formatStep actAt performAct advance advanceOf lineOf withLine fieldIndex fieldOf withField feed changed countUnder fewer advanced checkpointStep stepped nthFrom nthUnder bitsIn bitOf withBit contains added size nth strays
+unfolding run midway first second fresh made madeAll afterCalls next cause causes firstStanding badRecord anyUnder effect step formatStep actAt performAct advance advanceOf lineOf withLine fieldIndex fieldOf withField feed changed countUnder fewer advanced checkpointStep stepped nthFrom nthUnder bitsIn bitOf withBit contains added size nth strays digitOf unheld held holdsAny heldFrom withDigit
 run-values = (refl, refl)
 
 -- "What a cut brings back is still the last checkpoint, whoever was away": a read of cell 2 returns 0 and gives 7.

@@ -6,10 +6,11 @@ use native.Mathlib.Omega.{arith}
 use lib.ListN.{replicate}
 use Rattle.bitset.specs.Passing.{anyUnder, countUnder, nthFrom, nthUnder}
 use Rattle.bitset.specs.Words.{bitsIn, bitOf, withBit, contains, inserted as added, size, nth, strays}
+use Rattle.locks.specs.Holders.{digitOf, unheld, holds as held, holdsAny, heldFrom, withDigit}
 use Rattle.line.specs.Line.{lineOf, withLine}
 use Rattle.line.specs.Cell.{fieldIndex, fieldOf, withField}
 use Rattle.board.specs.declared.Call.{Call}
-use Rattle.board.specs.declared.Call.the-variants.{FormatStart, Step, Update, RestartPoint, Advance, Request, WriteBack, Read}
+use Rattle.board.specs.declared.Call.the-variants.{FormatStart, Step, Update, RestartPoint, Advance, Request, WriteBack, Read, TakeLock, GiveBackLock}
 use Rattle.board.specs.Board.{Board, linesOf}
 use Rattle.board.specs.Causes.{badRecord, causes, firstStanding, cause}
 use Rattle.board.specs.Effects.{formatStep, recoveryStep, actAt, performAct, step, advance, advanceOf, effect}
@@ -31,9 +32,9 @@ fresh = afterCalls (FormatStart 1 1 ∷ Step ∷ Step ∷ Step ∷ []) (blankFor
 -- A checkpoint with 7 in cell 1 and restart point 3, and then a second one with 9 and 4 that has stored its epoch in the cache.
 calls : List Call
 calls =
-    Update 0 1 7 ∷ Advance 0 ∷ Advance 0 ∷ Advance 0 ∷ Request ∷ RestartPoint 0 3 ∷ Advance 0 ∷ Advance 0 ∷ Advance 0
+    TakeLock 0 1 ∷ Update 0 1 7 ∷ Advance 0 ∷ Advance 0 ∷ Advance 0 ∷ GiveBackLock 0 1 ∷ Request ∷ RestartPoint 0 3 ∷ Advance 0 ∷ Advance 0 ∷ Advance 0
     ∷ Step ∷ Step ∷ Step ∷ Step
-    ∷ Update 0 1 9 ∷ Advance 0 ∷ Advance 0 ∷ WriteBack 1 ∷ Advance 0 ∷ Request ∷ RestartPoint 0 4 ∷ Advance 0 ∷ Advance 0 ∷ Advance 0
+    ∷ TakeLock 0 1 ∷ Update 0 1 9 ∷ Advance 0 ∷ Advance 0 ∷ WriteBack 1 ∷ Advance 0 ∷ GiveBackLock 0 1 ∷ Request ∷ RestartPoint 0 4 ∷ Advance 0 ∷ Advance 0 ∷ Advance 0
     ∷ Step ∷ Step ∷ []
 
 -- The run that the history leads to.
@@ -55,7 +56,7 @@ recoveredBoard = cutAndPlayed run garbage cutCache recoveryCalls
 -- ---- the history is one, and the recovery is finished
 
 begins-fresh : Begins fresh (beginning 1)
-unfolding fresh afterCalls takesTest byKind next cause causes firstStanding badRecord anyUnder effect step formatStep withLine countUnder nthFrom nthUnder bitsIn bitOf withBit contains added size nth strays
+unfolding fresh afterCalls takesTest byKind next cause causes firstStanding badRecord anyUnder effect step formatStep withLine countUnder nthFrom nthUnder bitsIn bitOf withBit contains added size nth strays digitOf unheld held holdsAny heldFrom withDigit
 begins-fresh =
     formatted 1 1 _ (blankFor 1) _ fresh (performing (FormatStart 1 1) (blankFor 1) refl refl refl) (tested 3 (Step ∷ Step ∷ Step ∷ []) (next (FormatStart 1 1) (blankFor 1)) refl)
 
@@ -70,17 +71,17 @@ paged-history text = further run-history (pages text (pageLeft (run .board) text
 
 -- With 204 bytes the page is taken, with one fewer it is refused.
 pub paged : (pageCause (run .board) (replicate 204 170) ≡ 0) × (pageCause (run .board) (replicate 203 170) ≡ 12)
-unfolding run calls fresh made madeAll afterCalls next cause causes firstStanding badRecord anyUnder effect step formatStep recoveryStep actAt performAct advance advanceOf lineOf withLine fieldIndex fieldOf withField feed changed countUnder fewer advanced checkpointStep stepped writeBackSeen pageCause pageCauses nthFrom nthUnder bitsIn bitOf withBit contains added size nth strays
+unfolding run calls fresh made madeAll afterCalls next cause causes firstStanding badRecord anyUnder effect step formatStep recoveryStep actAt performAct advance advanceOf lineOf withLine fieldIndex fieldOf withField feed changed countUnder fewer advanced checkpointStep stepped writeBackSeen pageCause pageCauses nthFrom nthUnder bitsIn bitOf withBit contains added size nth strays digitOf unheld held holdsAny heldFrom withDigit
 paged = (refl, refl)
 
 -- The recovery's start is taken, and then six steps, with two taken write-backs and a refused read among them.
 run-takes : PlayedRecovery run garbage cutCache recoveryCalls 6
-unfolding takesTest byKind undoSteps recoveryCalls run calls cutCache fresh made madeAll afterCalls next cause causes firstStanding badRecord anyUnder effect step formatStep recoveryStep actAt performAct advance advanceOf lineOf withLine fieldIndex fieldOf withField feed changed countUnder fewer advanced checkpointStep stepped writeBackSeen nthFrom nthUnder bitsIn bitOf withBit contains added size nth strays
+unfolding takesTest byKind undoSteps recoveryCalls run calls cutCache fresh made madeAll afterCalls next cause causes firstStanding badRecord anyUnder effect step formatStep recoveryStep actAt performAct advance advanceOf lineOf withLine fieldIndex fieldOf withField feed changed countUnder fewer advanced checkpointStep stepped writeBackSeen nthFrom nthUnder bitsIn bitOf withBit contains added size nth strays digitOf unheld held holdsAny heldFrom withDigit
 run-takes = record { sameLength = refl; test = refl; count = refl }
 
 -- What the machine held at the last completed checkpoint: 7 in cell 1, on a board of one line.
 run-values : (linesOf (run .board .memory) ≡ 1) × (run .machine .checkpointed 1 ≡ 7)
-unfolding run calls fresh made madeAll afterCalls next cause causes firstStanding badRecord anyUnder effect step formatStep actAt performAct advance advanceOf lineOf withLine fieldIndex fieldOf withField feed changed countUnder fewer advanced checkpointStep stepped writeBackSeen nthFrom nthUnder bitsIn bitOf withBit contains added size nth strays
+unfolding run calls fresh made madeAll afterCalls next cause causes firstStanding badRecord anyUnder effect step formatStep actAt performAct advance advanceOf lineOf withLine fieldIndex fieldOf withField feed changed countUnder fewer advanced checkpointStep stepped writeBackSeen nthFrom nthUnder bitsIn bitOf withBit contains added size nth strays digitOf unheld held holdsAny heldFrom withDigit
 run-values = (refl, refl)
 
 -- A read of cell 1 then returns 0 and gives 7.

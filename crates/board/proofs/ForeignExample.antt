@@ -6,10 +6,11 @@ use native.Mathlib.Omega.{arith}
 use lib.ListN.{getD, replicate}
 use Rattle.bitset.specs.Passing.{anyUnder, countUnder, nthFrom, nthUnder}
 use Rattle.bitset.specs.Words.{bitsIn, bitOf, withBit, contains, inserted as added, size, nth, strays}
+use Rattle.locks.specs.Holders.{digitOf, unheld, holds as held, holdsAny, heldFrom, withDigit}
 use Rattle.line.specs.Line.{lineOf, withLine}
 use Rattle.line.specs.Cell.{fieldIndex, fieldOf, withField}
 use Rattle.board.specs.declared.Call.{Call}
-use Rattle.board.specs.declared.Call.the-variants.{RecoveryStart, Step, Update, RestartPoint, Advance, Request, WriteBack, Read}
+use Rattle.board.specs.declared.Call.the-variants.{RecoveryStart, Step, Update, RestartPoint, Advance, Request, WriteBack, Read, TakeLock, GiveBackLock}
 use Rattle.board.specs.Board.{Board, linesOf}
 use Rattle.board.specs.Causes.{badRecord, causes, firstStanding, cause}
 use Rattle.board.specs.Effects.{undo, recoveryStep, actAt, performAct, step, advance, advanceOf, effect}
@@ -38,7 +39,7 @@ machine : Machine
 machine = recoveryBeginning (linesOf (foreign .memory)) (undo (foreign .memory))
 
 begins : Begins start machine
-unfolding foreign start machine anyCache cause causes firstStanding anyUnder fieldIndex fieldOf countUnder nthFrom nthUnder bitsIn bitOf withBit contains added size nth strays
+unfolding foreign start machine anyCache cause causes firstStanding anyUnder fieldIndex fieldOf countUnder nthFrom nthUnder bitsIn bitOf withBit contains added size nth strays digitOf unheld held holdsAny heldFrom withDigit
 begins = recoveryStarted _ foreign start (performing RecoveryStart foreign refl refl refl)
 
 -- ---- a cut in the first recovery
@@ -56,11 +57,11 @@ unfolding cutShort
 cut-history = calls-history (Step ∷ Step ∷ WriteBack 1 ∷ []) (opening start machine) refl (begun begins)
 
 cut-takes : PlayedRecovery cutShort garbage anyCache (replicate 4 Step) 4
-unfolding cutShort start machine foreign anyCache made madeAll takesTest byKind undoSteps next cause causes firstStanding badRecord anyUnder effect step recoveryStep lineOf withLine fieldIndex fieldOf withField feed stepped writeBackSeen countUnder nthFrom nthUnder bitsIn bitOf withBit contains added size nth strays
+unfolding cutShort start machine foreign anyCache made madeAll takesTest byKind undoSteps next cause causes firstStanding badRecord anyUnder effect step recoveryStep lineOf withLine fieldIndex fieldOf withField feed stepped writeBackSeen countUnder nthFrom nthUnder bitsIn bitOf withBit contains added size nth strays digitOf unheld held holdsAny heldFrom withDigit
 cut-takes = record { sameLength = refl; test = refl; count = refl }
 
 cut-values : (linesOf (cutShort .board .memory) ≡ 1) × (cutShort .machine .checkpointed 1 ≡ 6)
-unfolding cutShort start machine foreign anyCache made madeAll next cause causes firstStanding badRecord anyUnder effect step recoveryStep lineOf withLine fieldIndex fieldOf withField feed stepped writeBackSeen countUnder nthFrom nthUnder bitsIn bitOf withBit contains added size nth strays
+unfolding cutShort start machine foreign anyCache made madeAll next cause causes firstStanding badRecord anyUnder effect step recoveryStep lineOf withLine fieldIndex fieldOf withField feed stepped writeBackSeen countUnder nthFrom nthUnder bitsIn bitOf withBit contains added size nth strays digitOf unheld held holdsAny heldFrom withDigit
 cut-values = (refl, refl)
 
 -- A read of cell 1 then returns 0 and gives 6, what undoing the module gives.
@@ -73,8 +74,8 @@ reads-undo = played-reads cutShort cut-history garbage anyCache (replicate 4 Ste
 -- The recovery ends; a checkpoint with 9 in cell 1 and restart point 3 goes to epoch 42; 12 in cell 1 goes out after it.
 calls : List Call
 calls =
-    Step ∷ Step ∷ Step ∷ Step ∷ Update 0 1 9 ∷ Advance 0 ∷ Advance 0 ∷ Advance 0 ∷ Request ∷ RestartPoint 0 3 ∷ Advance 0 ∷ Advance 0 ∷ Advance 0
-    ∷ Step ∷ Step ∷ Step ∷ Step ∷ Update 0 1 12 ∷ Advance 0 ∷ Advance 0 ∷ Advance 0 ∷ WriteBack 1 ∷ []
+    Step ∷ Step ∷ Step ∷ Step ∷ TakeLock 0 1 ∷ Update 0 1 9 ∷ Advance 0 ∷ Advance 0 ∷ Advance 0 ∷ GiveBackLock 0 1 ∷ Request ∷ RestartPoint 0 3 ∷ Advance 0 ∷ Advance 0 ∷ Advance 0
+    ∷ Step ∷ Step ∷ Step ∷ Step ∷ TakeLock 0 1 ∷ Update 0 1 12 ∷ Advance 0 ∷ Advance 0 ∷ Advance 0 ∷ GiveBackLock 0 1 ∷ WriteBack 1 ∷ []
 
 pub worked : Run
 worked = madeAll calls (opening start machine)
@@ -88,12 +89,12 @@ unfolding worked
 worked-history = calls-history calls (opening start machine) refl (begun begins)
 
 worked-takes : PlayedRecovery worked garbage anyCache (replicate 4 Step) 4
-unfolding worked calls start machine foreign anyCache made madeAll takesTest byKind undoSteps next cause causes firstStanding badRecord anyUnder effect step recoveryStep actAt performAct advance advanceOf lineOf withLine fieldIndex fieldOf withField feed changed countUnder fewer advanced checkpointStep stepped writeBackSeen nthFrom nthUnder bitsIn bitOf withBit contains added size nth strays
+unfolding worked calls start machine foreign anyCache made madeAll takesTest byKind undoSteps next cause causes firstStanding badRecord anyUnder effect step recoveryStep actAt performAct advance advanceOf lineOf withLine fieldIndex fieldOf withField feed changed countUnder fewer advanced checkpointStep stepped writeBackSeen nthFrom nthUnder bitsIn bitOf withBit contains added size nth strays digitOf unheld held holdsAny heldFrom withDigit
 worked-takes = record { sameLength = refl; test = refl; count = refl }
 
 -- At the cut 9 is checkpointed in cell 1, and words 6 and 7 of the module are still 77 and 88.
 pub worked-values : (linesOf (worked .board .memory) ≡ 1) × (worked .machine .checkpointed 1 ≡ 9) × (getD (worked .board .memory) 14 0 ≡ 77) × (getD (worked .board .memory) 15 0 ≡ 88)
-unfolding worked calls start machine foreign anyCache made madeAll next cause causes firstStanding badRecord anyUnder effect step recoveryStep actAt performAct advance advanceOf lineOf withLine fieldIndex fieldOf withField feed changed countUnder fewer advanced checkpointStep stepped writeBackSeen nthFrom nthUnder bitsIn bitOf withBit contains added size nth strays
+unfolding worked calls start machine foreign anyCache made madeAll next cause causes firstStanding badRecord anyUnder effect step recoveryStep actAt performAct advance advanceOf lineOf withLine fieldIndex fieldOf withField feed changed countUnder fewer advanced checkpointStep stepped writeBackSeen nthFrom nthUnder bitsIn bitOf withBit contains added size nth strays digitOf unheld held holdsAny heldFrom withDigit
 worked-values = (refl, refl, refl, refl)
 
 -- A read of cell 1 then returns 0 and gives 9, the value of the last checkpoint.

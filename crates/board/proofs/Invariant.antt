@@ -8,6 +8,7 @@ use lib.ListN.{length, getD}
 use Rattle.bitset.specs.Passing.{countUnder}
 use Rattle.bitset.specs.Words.{empty, contains}
 use Rattle.bitset.proofs.Members.{Small}
+use Rattle.locks.specs.Holders.{heldFrom}
 use Rattle.line.specs.Line.{lineStart}
 use Rattle.line.specs.Cell.{cellLine}
 use Rattle.board.specs.declared.State.{State}
@@ -79,6 +80,12 @@ pub record Sizes (l : ℕ) (b : Board) : Type 0 where
   -- so has the cache
   pub cache : Sized l (b .cache)
 
+-- ---- locks
+
+-- No lock is held by a worker from W on.
+abbrev pub HeldUnder : State → Type 0
+HeldUnder s = heldFrom (s .holders) (s .workers) ≡ false
+
 -- ---- formatting
 
 -- The cell lines before `place` are zeros.
@@ -94,6 +101,8 @@ pub record FormatInv (l : ℕ) (b : Board) : Type 0 where
   pub lines : b .state .lines ≡ l
   -- its W is within the limits
   pub workers : workersOutside l (b .state .workers) ≡ false
+  -- a lock's holder is under W
+  pub holders : HeldUnder (b .state)
   -- no checkpoint is requested
   pub request : b .state .requested ≡ false
   -- the place is at most L+1
@@ -130,6 +139,8 @@ pub record RecoveryInv (l : ℕ) (xs : ℕ → ℕ) (b : Board) : Type 0 where
   pub lines : b .state .lines ≡ l
   -- its W is within the limits
   pub workers : workersOutside l (b .state .workers) ≡ false
+  -- a lock's holder is under W
+  pub holders : HeldUnder (b .state)
   -- no line is dirty
   pub clean : b .state .dirty ≡ empty
   -- no checkpoint is requested
@@ -286,6 +297,8 @@ pub record RunningInv (l : ℕ) (b : Board) (m : Machine) : Type 0 where
   pub lines : b .state .lines ≡ l
   -- its W is within the limits
   pub workers : workersOutside l (b .state .workers) ≡ false
+  -- a lock's holder is under W
+  pub holders : HeldUnder (b .state)
   -- record and machine agree whether a request stands
   pub request : m .requested ≡ b .state .requested
   -- there are eight workers

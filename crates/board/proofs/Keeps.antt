@@ -11,4 +11,5 @@ pub mod WriteBack
 pub mod CheckpointStep
 pub mod Quiet
 pub mod Away
+pub mod Locks
 pub mod Every

@@ -7,12 +7,13 @@ use native.Mathlib.Omega.{arith}
 use lib.ListN.{replicate}
 use Rattle.bitset.specs.Passing.{anyUnder, countUnder, nthFrom, nthUnder}
 use Rattle.bitset.specs.Words.{bitsIn, bitOf, withBit, contains, inserted as added, size, nth, strays}
+use Rattle.locks.specs.Holders.{digitOf, unheld, holds as held, holdsAny, heldFrom, withDigit}
 use Rattle.line.specs.Line.{lineOf, withLine}
 use Rattle.line.specs.Cell.{fieldIndex, fieldOf, withField}
 use Rattle.board.specs.declared.Condition.the-variants.{Updating}
 use Rattle.board.specs.declared.Store.the-variants.{Record}
 use Rattle.board.specs.declared.Call.{Call}
-use Rattle.board.specs.declared.Call.the-variants.{RecoveryStart, Step, Update, RestartPoint, Advance, Request, WriteBack, Read}
+use Rattle.board.specs.declared.Call.the-variants.{RecoveryStart, Step, Update, RestartPoint, Advance, Request, WriteBack, Read, TakeLock}
 use Rattle.board.specs.Board.{Board, cells, epochOf}
 use Rattle.board.specs.State.{conditionOf}
 use Rattle.board.specs.Causes.{badRecord, causes, firstStanding, cause}
@@ -31,9 +32,9 @@ use Rattle.board.proofs.Laws.Playing.{made, madeAll, calls-carry, byKin
 swapped : Board
 swapped = remembered (5 ∷ 1 ∷ 1 ∷ 0 ∷ 0 ∷ 0 ∷ 0 ∷ 0 ∷ 0 ∷ 0 ∷ 0 ∷ 7 ∷ 3 ∷ 6 ∷ 0 ∷ 0 ∷ []) (blank 16)
 
--- Recovery passes over both cells; a checkpoint with restart point 4 then goes to epoch 6.
+-- Recovery passes over both cells; a checkpoint with restart point 4 then goes to epoch 6, and worker 0 takes cell 1's lock.
 toCheckpoint : List Call
-toCheckpoint = Step ∷ Step ∷ Request ∷ RestartPoint 0 4 ∷ Advance 0 ∷ Advance 0 ∷ Advance 0 ∷ Step ∷ Step ∷ Step ∷ Step ∷ []
+toCheckpoint = Step ∷ Step ∷ Request ∷ RestartPoint 0 4 ∷ Advance 0 ∷ Advance 0 ∷ Advance 0 ∷ Step ∷ Step ∷ Step ∷ Step ∷ TakeLock 0 1 ∷ []
 
 later : Run
 later = madeAll toCheckpoint (unguarded swapped)
@@ -53,19 +54,19 @@ leads : (r : Run) (ks : List Call) → r .crashed ≡ false → Leads r (madeAll
 leads r ks d = calls-carry (Leads r) (λ q q′ h e. onward h e) ks r d nothing
 
 seen-later : (epochOf (later .board .memory) ≡ 6) × Taken (Update 0 1 9) (later .board) × (feed (Update 0 1 9) (later .machine) .unfinished 0 ≡ update 1 9 3) × (conditionOf (next (Update 0 1 9) (later .board) .state) 0 ≡ Updating Record 1 9)
-unfolding later toCheckpoint swapped made madeAll next cause causes firstStanding badRecord anyUnder effect step recoveryStep actAt performAct advance advanceOf lineOf withLine fieldIndex fieldOf withField feed changed countUnder fewer advanced checkpointStep stepped nthFrom nthUnder bitsIn bitOf withBit contains added size nth strays
+unfolding later toCheckpoint swapped made madeAll next cause causes firstStanding badRecord anyUnder effect step recoveryStep actAt performAct advance advanceOf lineOf withLine fieldIndex fieldOf withField feed changed countUnder fewer advanced checkpointStep stepped nthFrom nthUnder bitsIn bitOf withBit contains added size nth strays digitOf unheld held holdsAny heldFrom withDigit
 seen-later = (refl, refl, refl, refl)
 
 seen-run : (started .crashed ≡ false) × (taken RecoveryStart (run .board) && takesTest 4 (replicate 4 Step) (next RecoveryStart (run .board)) ≡ true) × (recoverySteps (run .board .memory) ≡ 4) × (run .machine .checkpointed 1 ≡ 7)
-unfolding run started later toCheckpoint swapped made madeAll takesTest byKind undoSteps next cause causes firstStanding badRecord anyUnder effect step recoveryStep actAt performAct advance advanceOf lineOf withLine fieldIndex fieldOf withField feed changed countUnder fewer advanced checkpointStep stepped writeBackSeen nthFrom nthUnder bitsIn bitOf withBit contains added size nth strays
+unfolding run started later toCheckpoint swapped made madeAll takesTest byKind undoSteps next cause causes firstStanding badRecord anyUnder effect step recoveryStep actAt performAct advance advanceOf lineOf withLine fieldIndex fieldOf withField feed changed countUnder fewer advanced checkpointStep stepped writeBackSeen nthFrom nthUnder bitsIn bitOf withBit contains added size nth strays digitOf unheld held holdsAny heldFrom withDigit
 seen-run = (refl, refl, refl, refl)
 
 seen-left : (left .state .lines ≡ 1) × (cause (Read 1) left ≡ 0) × (valueOf (Read 1) left ≡ 3)
-unfolding left run started later toCheckpoint swapped made madeAll afterCalls valueOf valueRead next cause causes firstStanding badRecord anyUnder effect step recoveryStep actAt performAct advance advanceOf lineOf withLine fieldIndex fieldOf withField feed changed countUnder fewer advanced checkpointStep stepped writeBackSeen nthFrom nthUnder bitsIn bitOf withBit contains added size nth strays
+unfolding left run started later toCheckpoint swapped made madeAll afterCalls valueOf valueRead next cause causes firstStanding badRecord anyUnder effect step recoveryStep actAt performAct advance advanceOf lineOf withLine fieldIndex fieldOf withField feed changed countUnder fewer advanced checkpointStep stepped writeBackSeen nthFrom nthUnder bitsIn bitOf withBit contains added size nth strays digitOf unheld held holdsAny heldFrom withDigit
 seen-left = (refl, refl, refl)
 
 refused : cause RecoveryStart swapped ≡ 14
-unfolding swapped cause causes firstStanding anyUnder fieldIndex fieldOf countUnder nthFrom nthUnder bitsIn bitOf withBit contains added size nth strays
+unfolding swapped cause causes firstStanding anyUnder fieldIndex fieldOf countUnder nthFrom nthUnder bitsIn bitOf withBit contains added size nth strays digitOf unheld held holdsAny heldFrom withDigit
 refused = refl
 
 -- The checkpoint held 7 in cell 1; the recovery reads 3.

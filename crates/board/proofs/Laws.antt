@@ -6,6 +6,7 @@ pub mod View
 pub mod Rows
 pub mod Taken
 pub mod Workers
+pub mod Locks
 pub mod Idle
 pub mod Takes
 pub mod Reading

@@ -13,6 +13,7 @@ pub mod Spare
 pub mod Updates
 pub mod Steps
 pub mod Foretold
+pub mod Locks
 pub mod Theorems
 pub mod PlayedReads
 pub mod Example

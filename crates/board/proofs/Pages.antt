@@ -3,6 +3,7 @@ use mathlib.Core.Path.{refl}
 use mathlib.Core.List.{flatten}
 use Rattle.bitset.specs.Passing.{anyUnder, countUnder, nthFrom, nthUnder}
 use Rattle.bitset.specs.Words.{bitsIn, bitOf, withBit, contains, inserted as added, size, nth, strays}
+use Rattle.locks.specs.Holders.{digitOf, unheld, holds as held, holdsAny, heldFrom, withDigit}
 use Rattle.text.specs.Numbers.{spelled}
 use Rattle.line.specs.Cell.{fieldIndex, fieldOf}
 use Rattle.board.specs.Causes.{badRecord, firstStanding}
@@ -11,5 +12,5 @@ use Rattle.board.specs.Bench.{same}
 use Rattle.board.specs.Pages.{pageTable, pageGives, allPages, PagesHold}
 
 pub pages-hold : PagesHold
-unfolding flatten same spelled lineText before inserted ordered numbersUnder pageText pageCauses pageCause pageLeft firstStanding badRecord anyUnder fieldIndex fieldOf pageTable pageGives allPages countUnder nthFrom nthUnder bitsIn bitOf withBit contains added size nth strays
+unfolding flatten same spelled lineText before inserted ordered numbersUnder pageText pageCauses pageCause pageLeft firstStanding badRecord anyUnder fieldIndex fieldOf pageTable pageGives allPages countUnder nthFrom nthUnder bitsIn bitOf withBit contains added size nth strays digitOf unheld held holdsAny heldFrom withDigit
 pages-hold = record { worked = refl; past = refl; refused = refl; table = refl }

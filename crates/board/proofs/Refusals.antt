@@ -4,6 +4,7 @@ use mathlib.Core.List.{flatten}
 use mathlib.Core.Bool.{true}
 use Rattle.bitset.specs.Passing.{anyUnder, countUnder, nthFrom, nthUnder}
 use Rattle.bitset.specs.Words.{bitsIn, bitOf, withBit, contains, inserted as added, size, nth, strays}
+use Rattle.locks.specs.Holders.{digitOf, unheld, holds as held, holdsAny, heldFrom, withDigit}
 use Rattle.line.specs.Line.{lineOf, withLine}
 use Rattle.line.specs.Cell.{fieldIndex, fieldOf, withField}
 use Rattle.board.specs.Causes.{badRecord, causes, firstStanding, cause}
@@ -14,7 +15,7 @@ use Rattle.board.specs.Refusals.{refusals, RefusalsHold}
 use Rattle.board.proofs.Bench.{allHold, each}
 
 tested : allHold refusals ≡ true
-unfolding flatten allHold refusals holds allTakenIn afterEvents sees allSeen next valueRead cause causes firstStanding badRecord anyUnder effect step formatStep recoveryStep actAt performAct advance advanceOf lineOf withLine fieldIndex fieldOf withField same countUnder nthFrom nthUnder bitsIn bitOf withBit contains added size nth strays valueCounted
+unfolding flatten allHold refusals holds allTakenIn afterEvents sees allSeen next valueRead cause causes firstStanding badRecord anyUnder effect step formatStep recoveryStep actAt performAct advance advanceOf lineOf withLine fieldIndex fieldOf withField same countUnder nthFrom nthUnder bitsIn bitOf withBit contains added size nth strays valueCounted digitOf unheld held holdsAny heldFrom withDigit
 tested = refl
 
 -- Every call is turned down and taken as the table of refusals says.

@@ -15,7 +15,7 @@ use Rattle.board.specs.declared.UndoStep.the-variants.{Restore, Unmark, 
 use Rattle.board.specs.declared.Phase.{Phase}
 use Rattle.board.specs.declared.Phase.the-variants.{Off, Formatting, Recovering, Running}
 use Rattle.board.specs.declared.Call.{Call}
-use Rattle.board.specs.declared.Call.the-variants.{FormatStart, RecoveryStart, Step, Update, RestartPoint, Advance, Request, WriteBack, Read, GoAway, ComeBack, Count}
+use Rattle.board.specs.declared.Call.the-variants.{FormatStart, RecoveryStart, Step, Update, RestartPoint, Advance, Request, WriteBack, Read, GoAway, ComeBack, Count, TakeLock, GiveBackLock}
 use Rattle.board.specs.Board.{Board, epochOf}
 use Rattle.board.specs.State.{placed, conditionOf, isFormatting, dirtyCount}
 use Rattle.board.specs.Next.{kind}
@@ -85,6 +85,8 @@ effect-stores (Read c) b e = noStore refl refl
 effect-stores (GoAway w) b e = noStore refl refl
 effect-stores (ComeBack w) b e = noStore refl refl
 effect-stores Count b e = noStore refl refl
+effect-stores (TakeLock w k) b e = noStore refl refl
+effect-stores (GiveBackLock w k) b e = noStore refl refl
 
 -- A taken call stores one word of the cache, writes one line back, or does neither.
 pub single-stores : SingleStores

@@ -9,7 +9,7 @@ use Rattle.line.specs.Line.{lineOf}
 use Rattle.board.specs.declared.State.{State}
 use Rattle.board.specs.declared.Phase.the-variants.{Off, Running}
 use Rattle.board.specs.declared.Call.{Call}
-use Rattle.board.specs.declared.Call.the-variants.{FormatStart, RecoveryStart, Step, Update, RestartPoint, Advance, Request, WriteBack, Read}
+use Rattle.board.specs.declared.Call.the-variants.{FormatStart, RecoveryStart, Step, Update, RestartPoint, Advance, Request, WriteBack, Read, TakeLock, GiveBackLock}
 use Rattle.board.specs.Board.{Board, rowWords}
 use Rattle.board.specs.State.{started, requesting, isRunning}
 use Rattle.board.specs.Causes.{cause}
@@ -29,6 +29,7 @@ pub data Seen : Type 0 where
   memoryLine : ℕ → List ℕ → Seen
   cacheLine : ℕ → List ℕ → Seen
   dirtyWords : List ℕ → Seen
+  holders : ℕ → Seen
   reads : ℕ → ℕ → Seen
   valued : ℕ → ℕ → Seen
   counted : ℕ → Seen
@@ -78,6 +79,7 @@ sees (answers k n) b = eqb (cause k b) n
 sees (memoryLine l words) b = same (lineOf (b .memory) l) words
 sees (cacheLine l words) b = same (lineOf (b .cache) l) words
 sees (dirtyWords words) b = same (b .state .dirty) words
+sees (holders n) b = eqb (b .state .holders) n
 sees (reads c v) b = taken (Read c) b && eqb (valueRead c b) v
 sees (valued c v) b = eqb (valueRead c b) v
 sees (counted n) b = eqb (valueCounted b) n
@@ -113,13 +115,13 @@ runningAt epoch =
 abbrev pub format : ℕ → ℕ → List Call
 format l w = FormatStart l w ∷ replicate (l + 2) Step
 
--- "From a fresh format (1, 1) .. update worker 0, cell 1, value 7, two advances".
+-- "From a fresh format (1, 1) .. update worker 0, cell 1, value 7, two advances"; 02, ticket 6: "take the lock before each update".
 abbrev pub calls4 : List Call
-calls4 = format 1 1 ++ (Update 0 1 7 ∷ Advance 0 ∷ Advance 0 ∷ [])
+calls4 = format 1 1 ++ (TakeLock 0 1 ∷ Update 0 1 7 ∷ Advance 0 ∷ Advance 0 ∷ [])
 
--- "third advance".
+-- "third advance"; 02: "and give it back after".
 abbrev pub calls5 : List Call
-calls5 = calls4 ++ (Advance 0 ∷ [])
+calls5 = calls4 ++ (Advance 0 ∷ GiveBackLock 0 1 ∷ [])
 
 -- "then write-back of line 1".
 abbrev pub calls6 : List Call
@@ -127,7 +129,7 @@ calls6 = calls5 ++ (WriteBack 1 ∷ [])
 
 -- "value 9 to cell 1: one advance".
 abbrev pub calls7 : List Call
-calls7 = calls5 ++ (Update 0 1 9 ∷ Advance 0 ∷ [])
+calls7 = calls5 ++ (TakeLock 0 1 ∷ Update 0 1 9 ∷ Advance 0 ∷ GiveBackLock 0 1 ∷ [])
 
 -- "request, restart point 3, three advances", and the first `n` of the checkpoint's steps.
 abbrev pub calls8 : ℕ → List Call
@@ -151,7 +153,7 @@ fromEvents name board events seen = record { name = name; board = board; events 
 abbrev pub from : ℕ → Board → List Call → List Seen → Case
 from name board calls seen = fromEvents name board (map call calls) seen
 
--- K1 to K11, each part of each.
+-- K1 to K11, each part of each; in K4 worker 0 holds lock 1, which is a 1 in the second four bits.
 unfoldable pub table : List Case
 table =
     from 1 (blankFor 1) [] (endsIn (FormatStart 1 1) 3 ∷ [])
@@ -160,8 +162,8 @@ table =
     ∷ from 2 (blank 4096) [] (answers (FormatStart 511 8) 0 ∷ [])
     ∷ from 3 (blank 15) [] (answers RecoveryStart 4 ∷ [])
     ∷ from 3 (blank 16) [] (answers RecoveryStart 5 ∷ [])
-    ∷ from 4 (blankFor 1) calls4 (cacheLine 1 (0 ∷ 0 ∷ 0 ∷ 0 ∷ 0 ∷ 1 ∷ 0 ∷ 0 ∷ []) ∷ dirtyWords (2 ∷ replicate 7 0) ∷ [])
-    ∷ from 5 (blankFor 1) calls5 (cacheLine 1 (0 ∷ 0 ∷ 0 ∷ 7 ∷ 0 ∷ 1 ∷ 0 ∷ 0 ∷ []) ∷ memoryLine 1 (replicate 8 0) ∷ [])
+    ∷ from 4 (blankFor 1) calls4 (cacheLine 1 (0 ∷ 0 ∷ 0 ∷ 0 ∷ 0 ∷ 1 ∷ 0 ∷ 0 ∷ []) ∷ dirtyWords (2 ∷ replicate 7 0) ∷ holders 16 ∷ [])
+    ∷ from 5 (blankFor 1) calls5 (cacheLine 1 (0 ∷ 0 ∷ 0 ∷ 7 ∷ 0 ∷ 1 ∷ 0 ∷ 0 ∷ []) ∷ memoryLine 1 (replicate 8 0) ∷ holders 0 ∷ [])
     ∷ from 6 (blankFor 1) calls6 (endsIn RecoveryStart 4 ∷ [])
     ∷ from 6 (blankFor 1) (calls6 ++ recovery 4) (memoryLine 1 (replicate 8 0) ∷ [])
     ∷ from 7 (blankFor 1) calls7 (cacheLine 1 (0 ∷ 0 ∷ 0 ∷ 9 ∷ 0 ∷ 1 ∷ 0 ∷ 0 ∷ []) ∷ answers (Advance 0) 8 ∷ [])

@@ -9,7 +9,11 @@ fn digit(holders: u64, lock: u64) -> u64
     ensures { λ r. ⌜ r ≡ digitOf holders lock ⌝ }
     ensures { λ r. ⌜ r < 16 ⌝ }
 {
-    if lock < 16 { (holders >> (4 * lock)) % 16 } else { 0 }
+    if lock < 16 {
+        (holders >> (4 * lock)) % 16
+    } else {
+        0
+    }
 }
 
 // Nobody holds the lock.
@@ -23,7 +27,11 @@ pub fn unheld(holders: u64, lock: u64) -> bool
 pub fn holds(holders: u64, worker: u64, lock: u64) -> bool
     ensures { λ r. ⌜ r ≡ holds holders worker lock ⌝ }
 {
-    if worker < 15 { digit(holders, lock) == worker + 1 } else { false }
+    if worker < 15 {
+        digit(holders, lock) == worker + 1
+    } else {
+        false
+    }
 }
 
 // The worker holds a lock; locks from the last held one on are not looked at.
@@ -53,12 +61,12 @@ pub fn held_from(holders: u64, workers: u64) -> bool
 }
 
 // The word with other bits for a lock.
-fn with_digit(holders: u64, lock: u64, digit_after: u64) -> u64
+fn with_digit(holders: u64, lock: u64, bits: u64) -> u64
     requires { ⌜ lock < 16 ⌝ }
-    requires { ⌜ digit_after < 16 ⌝ }
-    ensures { λ r. ⌜ r ≡ withDigit holders lock digit_after ⌝ }
+    requires { ⌜ bits < 16 ⌝ }
+    ensures { λ r. ⌜ r ≡ withDigit holders lock bits ⌝ }
 {
-    holders - (digit(holders, lock) << (4 * lock)) + (digit_after << (4 * lock))
+    holders - (digit(holders, lock) << (4 * lock)) + (bits << (4 * lock))
 }
 
 // The lock held by the worker.

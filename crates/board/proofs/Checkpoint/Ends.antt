@@ -28,7 +28,7 @@ use Rattle.board.specs.Sequence.{Run}
 use Rattle.board.specs.Statements.{AllWaitOrAway, KeepsAway, stepsFrom, AllTaken, EndsIn}
 use Rattle.board.proofs.Laws.Bools.{or-none, and-right, and-off-right, and-if, not-on}
 use Rattle.board.proofs.Laws.View.{Sized, sized-back}
-use Rattle.board.proofs.Invariant.{AllQuiescent, Sizes, Stage, early, gap, late, Inv}
+use Rattle.board.proofs.Invariant.{AllQuiescent, HeldUnder, Sizes, Stage, early, gap, late, Inv}
 use Rattle.board.proofs.Laws.Rows.{sized-set}
 use Rattle.board.proofs.Laws.Taken.{Clear, take, taken-next, rows-fine, record-fine, none-worker}
 use Rattle.board.proofs.Laws.Dirty.{dirty-fine}
@@ -46,6 +46,7 @@ record Ready (l : ℕ) (b : Board) : Type 0 where
   lines : b .state .lines ≡ l
   workers : workersOutside l (b .state .workers) ≡ false
   dirty : strays (b .state .dirty) l ≡ false
+  holders : HeldUnder (b .state)
   place : b .state .place ≤ dirtyCount (b .state) + 2
   epoch : b .state .place ≤ dirtyCount (b .state) → epochOf (b .cache) ≡ lastEpoch → ⊥
   waiting : AllQuiescent (b .state)
@@ -68,7 +69,7 @@ ready-taken {l} b y =
     take Step b (
       subst (λ (p : Phase). isOff p ≡ false) (sym (y .phase)) refl,
       (
-        record-fine l s (y .lines) (y .sizes .limits) (y .workers) (y .dirty)
+        record-fine l s (y .lines) (y .sizes .limits) (y .workers) (y .dirty) (y .holders)
             (subst (λ (p : Phase). placePast p s ≡ false) (sym (y .phase)) (and-off-right (s .requested) (ltb (n + 2) (s .place)) (le-ltb (n + 2) (s .place) (y .place))))
             (λ w h. quiescent-updates (leb (cells l)) (conditionOf s w) (y .waiting w h)),
         (
@@ -108,6 +109,7 @@ goes-on b y h memory cache zm zc room =
             lines = y .lines;
             workers = y .workers;
             dirty = y .dirty;
+            holders = y .holders;
             place = omega arith;
             epoch = room;
             waiting = y .waiting;
@@ -149,7 +151,7 @@ unfolding stepsFrom
 ends-after n b d t e same rest = (
   ends-more n b d t e (rest .0),
   subst (λ (x : Board). KeepsAway (b .state) (stepsFrom n x .state)) (sym e)
-      (subst (λ (ws : List Worker). KeepsAway (record { phase = b .state .phase; lines = b .state .lines; workers = b .state .workers; place = b .state .place; undo = b .state .undo; requested = b .state .requested; dirty = b .state .dirty; worker = ws }) (stepsFrom n d .state)) same (rest .1)),
+      (subst (λ (ws : List Worker). KeepsAway (record { phase = b .state .phase; lines = b .state .lines; workers = b .state .workers; place = b .state .place; undo = b .state .undo; requested = b .state .requested; holders = b .state .holders; dirty = b .state .dirty; worker = ws }) (stepsFrom n d .state)) same (rest .1)),
 )
 
 -- The steps from a ready board to the release.
@@ -216,6 +218,7 @@ checkpoint-ends r inv d e on wait left h =
       lines = v .lines;
       workers = v .workers;
       dirty = dirty-fine (b .state .dirty) (m .marked) (v .dirty);
+      holders = v .holders;
       place = place-in (m .lines) b m (v .stage) on;
       epoch = room b m on (v .stage);
       waiting = all-quiescent (b .state) wait;

@@ -41,6 +41,7 @@ running-moved {b = b} v memory place xs steps sizes spare agree undoes stage =
     record {
       lines = v .lines;
       workers = v .workers;
+      holders = v .holders;
       request = v .request;
       eight = v .eight;
       own = own-same b (moved b memory place) refl sizes (sizes-same (b .cache)) (v .own);

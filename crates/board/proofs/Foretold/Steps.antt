@@ -10,14 +10,15 @@ use lib.ListN.{getD, drop, drop-of-length-le}
 use lib.Seq.{drop-cons}
 use borrow.Author.Tests.{leb-false}
 use Rattle.bitset.specs.Words.{capacity, contains, size}
+use Rattle.locks.specs.Holders.{givenBack}
 use Rattle.board.specs.declared.State.{State}
 use Rattle.board.specs.declared.Condition.{Condition}
 use Rattle.board.specs.declared.Condition.the-variants.{Free, Waiting, Updating, Away}
 use Rattle.board.specs.declared.Phase.the-variants.{Running}
 use Rattle.board.specs.declared.Call.{Call}
-use Rattle.board.specs.declared.Call.the-variants.{FormatStart, RecoveryStart, Step, Update, RestartPoint, Advance, Request, WriteBack, Read, GoAway, ComeBack, Count}
+use Rattle.board.specs.declared.Call.the-variants.{FormatStart, RecoveryStart, Step, Update, RestartPoint, Advance, Request, WriteBack, Read, GoAway, ComeBack, Count, TakeLock, GiveBackLock}
 use Rattle.board.specs.Board.{Board}
-use Rattle.board.specs.State.{conditionOf, isFree, isUpdating, quiescent, dirtyCount}
+use Rattle.board.specs.State.{conditionOf, isFree, isUpdating, quiescent, locked, dirtyCount}
 use Rattle.board.specs.Causes.{causes}
 use Rattle.board.specs.Effects.{Act, release, performAct, effect}
 use Rattle.board.specs.Next.{Taken, kind, isStart, isStep}
@@ -64,9 +65,9 @@ module _ (b : Board) (y : Waits b) where
   not-updating : (w : ℕ) → leb (b .state .workers) w ≡ false → not (isUpdating (conditionOf (b .state) w)) ≡ false → ⊥
   not-updating w u e = none-updates (conditionOf (b .state) w) (y .workers w (leb-false (b .state .workers) w u)) e
 
-  -- A call that leaves the record leaves all of it.
-  stays-same : (memory : List ℕ) → Stays b (record { state = b .state; memory = memory; cache = b .cache })
-  stays-same memory = record { waits = record { phase = y .phase; workers = y .workers }; place = refl; dirty = refl }
+  -- A call that leaves the record, but for the locks' holders, leaves all of it.
+  stays-same : (memory : List ℕ) (holders : ℕ) → Stays b (record { state = locked (b .state) holders; memory = memory; cache = b .cache })
+  stays-same memory holders = record { waits = record { phase = y .phase; workers = y .workers }; place = refl; dirty = refl }
 
   -- A taken call other than a start, a step or a coming back.
   call-stays : (k : Call) → Taken k b → isStart (kind k) || isStep (kind k) || comesBack k ≡ false → Stays b (effect k b)
@@ -83,11 +84,13 @@ module _ (b : Board) (y : Waits b) where
         place = sym (passedOver (b .state .requested) (b .state .place) 0 (passed Request b t 10));
         dirty = refl;
       }
-  call-stays (WriteBack l) t o = stays-same _
-  call-stays (Read c) t o = stays-same (b .memory)
+  call-stays (WriteBack l) t o = stays-same _ (b .state .holders)
+  call-stays (Read c) t o = stays-same (b .memory) (b .state .holders)
   call-stays (GoAway w) t o = absurd (not-free w (passed (GoAway w) b t 6) (passed (GoAway w) b t 8))
   call-stays (ComeBack w) t o = absurd (true≢false o)
-  call-stays Count t o = stays-same (b .memory)
+  call-stays Count t o = stays-same (b .memory) (b .state .holders)
+  call-stays (TakeLock w k) t o = absurd (not-free w (passed (TakeLock w k) b t 6) (passed (TakeLock w k) b t 8))
+  call-stays (GiveBackLock w k) t o = stays-same (b .memory) (givenBack (b .state .holders) k)
 
 -- ---- a step
 

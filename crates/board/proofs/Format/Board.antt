@@ -22,7 +22,8 @@ use Rattle.board.specs.Machine.{none, beginning}
 use Rattle.board.specs.Statements.{Spare, SameSpare}
 use Rattle.board.proofs.Laws.Bools.{chosen, passedOver, or-left, or-right, not-off, clash}
 use Rattle.board.proofs.Laws.View.{View, view, Sized}
-use Rattle.board.proofs.Invariant.{Header, SameSizes, Kept, Zeroed, Sizes, Undoes, FormatInv, WorkerInv, Touches, progress, Dirty, early, RunningInv}
+use Rattle.board.proofs.Invariant.{Header, SameSizes, Kept, HeldUnder, Zeroed, Sizes, Undoes, FormatInv, WorkerInv, Touches, progress, Dirty, early, RunningInv}
+use Rattle.board.proofs.Laws.Locks.{unheld-under}
 use Rattle.board.proofs.Laws.Taken.{standsAt, passed}
 use Rattle.board.proofs.Laws.Workers.{free-condition}
 use Rattle.board.proofs.Laws.Dirty.{dirty-none}
@@ -65,6 +66,7 @@ format-begins l w b t =
             record {
               lines = refl;
               workers = or-right (linesOutside l) (workersOutside l w) (passed (FormatStart l w) b t 1);
+              holders = unheld-under w;
               request = refl;
               within = omega arith;
               epoch = λ h. absurd (omega arith);
@@ -125,6 +127,7 @@ format-erases l b f h =
                 record {
                   lines = f .format .lines;
                   workers = f .format .workers;
+                  holders = f .format .holders;
                   request = f .format .request;
                   within = omega arith;
                   epoch = λ u. erased;
@@ -166,11 +169,12 @@ pub record Opened (l : ℕ) (memory cache : List ℕ) : Type 0 where
   pub cacheZeros : (c : ℕ) → c < cells l → view cache c ≡ zeros
 
 -- A board so opened, with no request and no worker at work, runs as the machine begins.
-pub opened-running : (l : ℕ) (b : Board) → Opened l (b .memory) (b .cache) → b .state .lines ≡ l → workersOutside l (b .state .workers) ≡ false → b .state .workers ≡ workersOf (b .memory) → b .state .requested ≡ false → b .state .worker ≡ allFree → b .state .dirty ≡ empty → RunningInv l b (beginning l)
-opened-running l b o lines workers own quiet free clean =
+pub opened-running : (l : ℕ) (b : Board) → Opened l (b .memory) (b .cache) → b .state .lines ≡ l → workersOutside l (b .state .workers) ≡ false → HeldUnder (b .state) → b .state .workers ≡ workersOf (b .memory) → b .state .requested ≡ false → b .state .worker ≡ allFree → b .state .dirty ≡ empty → RunningInv l b (beginning l)
+opened-running l b o lines workers held own quiet free clean =
     record {
       lines = lines;
       workers = workers;
+      holders = held;
       request = sym quiet;
       eight = ap length free;
       own = record { header = o .sizes; workers = own };
@@ -235,7 +239,7 @@ own-finishes b f e =
       spare = spare-fresh (b .memory) w zm fm;
       kept = kept-fresh (b .memory) w zm fm (f .format .workers);
       epoch = epoch-fresh (b .memory) w zm;
-      running = opened-running l (finishing b) (opened-rows l w (b .memory) (b .cache) zm zc fm fc (f .format .workers)) refl (f .format .workers) (sym (word-header (b .memory) w zm 2 (omega arith))) (f .format .request) refl refl;
+      running = opened-running l (finishing b) (opened-rows l w (b .memory) (b .cache) zm zc fm fc (f .format .workers)) refl (f .format .workers) (f .format .holders) (sym (word-header (b .memory) w zm 2 (omega arith))) (f .format .request) refl refl;
       phase = refl;
     }
 

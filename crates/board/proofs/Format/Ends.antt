@@ -39,7 +39,7 @@ alone-taken : (l : ℕ) (b : Board) → Alone l b → Taken Step b
 alone-taken l b a =
     let f = a .formats .format in
     let p = a .formats .phase in
-    idle-step-taken l b (a .formats .sizes) (f .lines) (f .workers) (a .clean) (a .free) (ap isOff p) (ap isRunning p)
+    idle-step-taken l b (a .formats .sizes) (f .lines) (f .workers) (a .clean) (f .holders) (a .free) (ap isOff p) (ap isRunning p)
     (subst (λ (k : Phase). placePast k (b .state) ≡ false) (sym p) (le-ltb (b .state .lines + 1) (b .state .place) (omega arith)))
 
 -- A format so left ends in the steps left to it.

@@ -8,6 +8,7 @@ use native.Mathlib.Omega.{arith}
 use lib.Dec.{ltb}
 use lib.ListN.{length-set}
 use borrow.Author.Tests.{leb-false, ltb-false, lt-leb, le-ltb}
+use Rattle.locks.proofs.Holders.{any-none, none-any}
 use Rattle.board.specs.declared.State.{State}
 use Rattle.board.specs.declared.Condition.{Condition}
 use Rattle.board.specs.declared.Condition.the-variants.{Free, Away}
@@ -19,6 +20,7 @@ use Rattle.board.specs.Effects.{stated, effect}
 use Rattle.board.specs.Next.{Taken}
 use Rattle.board.specs.Machine.{Unfinished, none, feed}
 use Rattle.board.specs.Sequence.{Run}
+use Rattle.board.specs.Statements.{HoldsNone}
 use Rattle.board.proofs.Laws.Bools.{split, chosen, passedOver, and-not, and-off, and-off-right, not-off, not-on}
 use Rattle.board.proofs.Invariant.{AllQuiescent, WorkerInv, Touches, progress, Inv}
 use Rattle.board.proofs.Laws.Taken.{Clear, take, standsAt, passed, afterTaken, workers-in}
@@ -76,7 +78,7 @@ module _ (r : Run) (w : ℕ) (k k′ : Condition) (inv : Inv r) (d : r .crashed 
   kept = condition-other s w k′
 
   -- The unfinished updates are the same.
-  alike : (0 < progress s → AllQuiescent s → AllQuiescent s′) → Alike s (s′ .worker)
+  alike : (0 < progress s → AllQuiescent s → AllQuiescent s′) → Alike s (s .holders) (s′ .worker)
   alike waits =
       record {
         eight = length-set (s .worker) w (record { condition = k′ });
@@ -90,11 +92,12 @@ module _ (r : Run) (w : ℕ) (k k′ : Condition) (inv : Inv r) (d : r .crashed 
             (λ h t. absurd (new .no-cell n (subst (λ (c : Condition). Touches c n) put t)))
             (λ j o h t. subst (λ (c : Condition). Touches c n) (kept j o) t) i;
         waits = waits;
+        held = λ h. h;
       }
 
   -- The invariant is kept where no checkpoint that has taken a step is held up.
   moved : (crashed : Bool) → (0 < progress s → AllQuiescent s → AllQuiescent s′) → Carried false r (record { board = stated s′ (r .board); machine = r .machine; crashed = crashed; erased = r .erased })
-  moved crashed waits = carried-workers r (s′ .worker) crashed inv d on (alike waits)
+  moved crashed waits = carried-workers r (s .holders) (s′ .worker) crashed inv d on (alike waits)
 
 -- A taken going away: one more is away, so as many hold a checkpoint up as before, or fewer.
 pub carried-go-away : (r : Run) (w : ℕ) → Inv r → r .crashed ≡ false → Taken (GoAway w) (r .board) → Carried false r (afterTaken (GoAway w) r)
@@ -125,7 +128,7 @@ carried-come-back r w inv d t =
 
 -- A running board lets a worker go and come exactly as 02 says.
 pub goes-and-comes : (r : Run) → Inv r → r .crashed ≡ false → isRunning (r .board .state .phase) ≡ true → (w : ℕ) →
-    (Taken (GoAway w) (r .board) ↔ ((w < r .board .state .workers) × (conditionOf (r .board .state) w ≡ Free)))
+    (Taken (GoAway w) (r .board) ↔ ((w < r .board .state .workers) × (conditionOf (r .board .state) w ≡ Free) × HoldsNone (r .board .state) w))
     × (Taken (ComeBack w) (r .board) ↔ ((w < r .board .state .workers) × (conditionOf (r .board .state) w ≡ Away) × (r .board .state .requested ≡ true → r .board .state .place ≡ 0)))
 unfolding Clear standsAt causes
 goes-and-comes r inv d e w =
@@ -134,8 +137,8 @@ goes-and-comes r inv d e w =
     let k = conditionOf s w in
     let y = running-passes r inv d (is-running (s .phase) e) in (
       (
-        λ t. (leb-false (s .workers) w (passed (GoAway w) b t 6), is-free k (not-off (isFree k) (passed (GoAway w) b t 8))),
-        λ h. take (GoAway w) b (y .phase, (y .state, (y .rows, (lt-leb (s .workers) w (h .0), (not-on (isFree k) (ap isFree (h .1)), tt))))),
+        λ t. (leb-false (s .workers) w (passed (GoAway w) b t 6), is-free k (not-off (isFree k) (passed (GoAway w) b t 8)), any-none (s .holders) w (passed (GoAway w) b t 16)),
+        λ h. take (GoAway w) b (y .phase, (y .state, (y .rows, (lt-leb (s .workers) w (h .0), (not-on (isFree k) (ap isFree (h .1)), (none-any (s .holders) w (h .2), tt)))))),
       ),
       (
         λ t. (leb-false (s .workers) w (passed (ComeBack w) b t 6), is-away k (not-off (isAway k) (passed (ComeBack w) b t 8)), unbegun (s .requested) (s .place) (passed (ComeBack w) b t 13)),

@@ -69,6 +69,7 @@ running-epoch {l} b m most z on end wait e v =
     record {
       lines = v .lines;
       workers = v .workers;
+      holders = v .holders;
       request = v .request;
       eight = v .eight;
       own = own-same b (cached (set (b .cache) 0 (epochOf (b .cache) + 1)) (placed (b .state) (b .state .place + 1) (b .state .undo)) b) refl (sizes-same (b .memory)) (sizes-set (b .cache) (epochOf (b .cache) + 1)) (v .own);
@@ -101,6 +102,7 @@ running-release {l} b m e v =
     record {
       lines = v .lines;
       workers = v .workers;
+      holders = v .holders;
       request = refl;
       eight = refl;
       own = own-same b (stated (released (b .state)) b) refl (sizes-same (b .memory)) (sizes-same (b .cache)) (v .own);

@@ -6,7 +6,7 @@ use borrow.Author.Tests.{eqb-true, eqb-false}
 use Rattle.board.specs.declared.Phase.{Phase}
 use Rattle.board.specs.declared.Phase.the-variants.{Off, Formatting, Recovering, Running}
 use Rattle.board.specs.declared.Call.{Call}
-use Rattle.board.specs.declared.Call.the-variants.{FormatStart, RecoveryStart, Step, Update, RestartPoint, Advance, Request, WriteBack, Read, GoAway, ComeBack, Count}
+use Rattle.board.specs.declared.Call.the-variants.{FormatStart, RecoveryStart, Step, Update, RestartPoint, Advance, Request, WriteBack, Read, GoAway, ComeBack, Count, TakeLock, GiveBackLock}
 use Rattle.board.specs.Board.{Board}
 use Rattle.board.specs.State.{isOff, isFormatting}
 use Rattle.board.specs.Effects.{effect}
@@ -31,6 +31,7 @@ use Rattle.board.proofs.Keeps.Request.{keeps-request}
 use Rattle.board.proofs.Keeps.WriteBack.{carried-write-back}
 use Rattle.board.proofs.Keeps.Quiet.{carried-read, carried-count}
 use Rattle.board.proofs.Keeps.Away.{carried-go-away, carried-come-back}
+use Rattle.board.proofs.Keeps.Locks.{carried-take-lock, carried-give-back-lock}
 
 -- A call other than a start that is allowed after no cut alone was made after none.
 uncut : (r : Run) → (r .crashed ≡ true → false ≡ true) → r .crashed ≡ false
@@ -68,6 +69,8 @@ carried-call (Read c) r i a t = carried-read r c i (uncut r a) t
 carried-call (GoAway w) r i a t = carried-go-away r w i (uncut r a) t
 carried-call (ComeBack w) r i a t = carried-come-back r w i (uncut r a) t
 carried-call Count r i a t = carried-count r i (uncut r a) t
+carried-call (TakeLock w k) r i a t = carried-take-lock r w k i (uncut r a) t
+carried-call (GiveBackLock w k) r i a t = carried-give-back-lock r w k i (uncut r a) t
 
 -- Whatever happens.
 pub carried : {r r′ : Run} → Inv r → (e : Happens r r′) → Carried (formatStepIn e) r r′

@@ -81,7 +81,7 @@ pub record Change : Type 0 where
 abbrev pub changedBoard : Change → Board → Board
 changedBoard ch b =
     let s = conditioned (b .state) (ch .worker) (ch .condition) in
-    let state : State = record { phase = s .phase; lines = s .lines; workers = s .workers; place = s .place; undo = s .undo; requested = s .requested; dirty = ch .dirty; worker = s .worker } in
+    let state : State = record { phase = s .phase; lines = s .lines; workers = s .workers; place = s .place; undo = s .undo; requested = s .requested; holders = s .holders; dirty = ch .dirty; worker = s .worker } in
     record { state = state; memory = b .memory; cache = ch .cache }
 
 -- The machine after a change.
@@ -241,6 +241,7 @@ module _ (b : Board) (m : Machine) (ch : Change) (run : RunningInv (m .lines) b 
       record {
         lines = run .lines;
         workers = run .workers;
+        holders = run .holders;
         request = run .request;
         eight = length-set (b .state .worker) (ch .worker) (record { condition = ch .condition }) ∙ run .eight;
         own = own-same b (changedBoard ch b) refl (sizes-same (b .memory)) (λ k p q. fits .only .header k q) (run .own);

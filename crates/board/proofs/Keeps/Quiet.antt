@@ -1,4 +1,4 @@
--- A call that changes neither rows nor what the machine knows, and of the state record at most the workers' conditions: one law for all of them.
+-- A call that changes neither rows nor what the machine knows, and of the state record at most the workers' conditions and the locks' holders: one law for all of them.
 use Prim.Native.Nat.{ℕ, _<_}
 use mathlib.Core.Path.{_≡_, refl, _∙_}
 use mathlib.Core.List.{List}
@@ -10,7 +10,7 @@ use Rattle.board.specs.declared.Worker.{Worker}
 use Rattle.board.specs.declared.Phase.the-variants.{Running}
 use Rattle.board.specs.declared.Call.the-variants.{Read, Count}
 use Rattle.board.specs.Board.{Board}
-use Rattle.board.specs.State.{freeWorker, conditionOf, isRunning}
+use Rattle.board.specs.State.{freeWorker, conditionOf, isRunning, locked}
 use Rattle.board.specs.Causes.{causes, notRunning}
 use Rattle.board.specs.Effects.{stated, effect}
 use Rattle.board.specs.Next.{Taken}
@@ -18,24 +18,25 @@ use Rattle.board.specs.Machine.{Machine, Unfinished, feed}
 use Rattle.board.specs.Sequence.{Run}
 use Rattle.board.proofs.Laws.Bools.{chosen, not-off}
 use Rattle.board.proofs.Laws.Taken.{standsAt, passed, afterTaken}
-use Rattle.board.proofs.Invariant.{AllQuiescent, WorkerInv, Touches, progress, Stage, early, gap, late, RunningInv, Inv}
+use Rattle.board.proofs.Invariant.{HeldUnder, AllQuiescent, WorkerInv, Touches, progress, Stage, early, gap, late, RunningInv, Inv}
 use Rattle.board.proofs.Checkpoint.Run.{Carried, quietly, is-running, running-run, inv-running}
 
--- The record with other workers.
-abbrev pub manned : State → List Worker → State
-manned s workers =
-    record { phase = s .phase; lines = s .lines; workers = s .workers; place = s .place; undo = s .undo; requested = s .requested; dirty = s .dirty; worker = workers }
+-- The record with other holders and other workers.
+abbrev pub manned : State → ℕ → List Worker → State
+manned s holders workers =
+    record { phase = s .phase; lines = s .lines; workers = s .workers; place = s .place; undo = s .undo; requested = s .requested; holders = holders; dirty = s .dirty; worker = workers }
 
--- The workers `ws` have the unfinished updates of the record's own, and no fewer of them wait once a checkpoint has taken a step.
-pub record Alike (s : State) (ws : List Worker) : Type 0 where
+-- The workers `ws` have the unfinished updates of the record's own, and no fewer of them wait once a checkpoint has taken a step; the holders `holders` are under W.
+pub record Alike (s : State) (holders : ℕ) (ws : List Worker) : Type 0 where
   pub eight : length ws ≡ length (s .worker)
   pub work : (w : ℕ) → w < s .workers → (l : ℕ) (cache : List ℕ) (u : Unfinished) → WorkerInv l cache (conditionOf s w) u → WorkerInv l cache (getD ws w freeWorker .condition) u
   pub touches : (w d : ℕ) → w < s .workers → Touches (getD ws w freeWorker .condition) d → Touches (conditionOf s w) d
-  pub waits : 0 < progress s → AllQuiescent s → AllQuiescent (manned s ws)
+  pub waits : 0 < progress s → AllQuiescent s → AllQuiescent (manned s holders ws)
+  pub held : HeldUnder s → HeldUnder (manned s holders ws)
 
-module _ {l : ℕ} (b : Board) (m : Machine) (ws : List Worker) (alike : Alike (b .state) ws) where
+module _ {l : ℕ} (b : Board) (m : Machine) (holders : ℕ) (ws : List Worker) (alike : Alike (b .state) holders ws) where
   -- The stage of a checkpoint stays.
-  stage-manned : Stage l b m → Stage l (stated (manned (b .state) ws) b) m
+  stage-manned : Stage l b m → Stage l (stated (manned (b .state) holders ws) b) m
   stage-manned (early e) =
       early (record { epochs = e .epochs; marks = e .marks; clean = e .clean; written = e .written; within = e .within; waiting = λ h. alike .waits h (e .waiting h); room = e .room })
   stage-manned (gap g) =
@@ -59,11 +60,12 @@ module _ {l : ℕ} (b : Board) (m : Machine) (ws : List Worker) (alike : Alike (
       })
 
   -- A running board stays one.
-  running-manned : RunningInv l b m → RunningInv l (stated (manned (b .state) ws) b) m
+  running-manned : RunningInv l b m → RunningInv l (stated (manned (b .state) holders ws) b) m
   running-manned v =
       record {
         lines = v .lines;
         workers = v .workers;
+        holders = alike .held (v .holders);
         request = v .request;
         eight = alike .eight ∙ v .eight;
         own = record { header = v .own .header; workers = v .own .workers };
@@ -78,22 +80,28 @@ module _ {l : ℕ} (b : Board) (m : Machine) (ws : List Worker) (alike : Alike (
         apart = λ w w′ d h h′ t t′. v .apart w w′ d h h′ (alike .touches w d h t) (alike .touches w′ d h′ t′);
       }
 
--- A running board with other workers that have the same unfinished updates.
-pub carried-workers : (r : Run) (ws : List Worker) (crashed : Bool) → Inv r → r .crashed ≡ false → r .board .state .phase ≡ Running → Alike (r .board .state) ws →
-    Carried false r (record { board = stated (manned (r .board .state) ws) (r .board); machine = r .machine; crashed = crashed; erased = r .erased })
-carried-workers r ws crashed inv d p alike =
+-- A running board with other holders, and other workers that have the same unfinished updates.
+pub carried-workers : (r : Run) (holders : ℕ) (ws : List Worker) (crashed : Bool) → Inv r → r .crashed ≡ false → r .board .state .phase ≡ Running → Alike (r .board .state) holders ws →
+    Carried false r (record { board = stated (manned (r .board .state) holders ws) (r .board); machine = r .machine; crashed = crashed; erased = r .erased })
+carried-workers r holders ws crashed inv d p alike =
     let s = running-run r inv d p in
     let z = inv .sizes in
     quietly
     (inv-running _ (s .on) p (record { limits = z .limits; memory = z .memory; cache = z .cache }) (inv .kept (s .on))
-    (running-manned (r .board) (r .machine) ws alike (s .running)))
+    (running-manned (r .board) (r .machine) holders ws alike (s .running)))
     refl refl (λ c. refl)
+
+-- What leaves a running board and the machine as they were, but for the locks' holders.
+pub carried-holders : (r : Run) (holders : ℕ) (crashed : Bool) → Inv r → r .crashed ≡ false → notRunning (r .board) ≡ false → (HeldUnder (r .board .state) → HeldUnder (locked (r .board .state) holders)) →
+    Carried false r (record { board = stated (locked (r .board .state) holders) (r .board); machine = r .machine; crashed = crashed; erased = r .erased })
+carried-holders r holders crashed inv d on held =
+    carried-workers r holders (r .board .state .worker) crashed inv d (is-running (r .board .state .phase) (not-off (isRunning (r .board .state .phase)) on))
+    (record { eight = refl; work = λ w h l cache u i. i; touches = λ w n h t. t; waits = λ h a. a; held = held })
 
 -- What leaves a running board and the machine as they were.
 carried-same : (r : Run) (crashed : Bool) → Inv r → r .crashed ≡ false → notRunning (r .board) ≡ false → Carried false r (record { board = r .board; machine = r .machine; crashed = crashed; erased = r .erased })
 carried-same r crashed inv d on =
-    carried-workers r (r .board .state .worker) crashed inv d (is-running (r .board .state .phase) (not-off (isRunning (r .board .state .phase)) on))
-    (record { eight = refl; work = λ w h l cache u i. i; touches = λ w n h t. t; waits = λ h a. a })
+    carried-holders r (r .board .state .holders) crashed inv d on (λ h. h)
 
 -- A taken read.
 pub carried-read : (r : Run) (c : ℕ) → Inv r → r .crashed ≡ false → Taken (Read c) (r .board) → Carried false r (afterTaken (Read c) r)

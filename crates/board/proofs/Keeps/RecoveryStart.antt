@@ -8,7 +8,7 @@ use borrow.Author.Tests.{eq-eqb, ne-eqb}
 use Rattle.line.specs.declared.Field.the-variants.{Mark}
 use Rattle.line.specs.Cell.{fieldOf}
 use Rattle.board.specs.declared.Call.the-variants.{RecoveryStart}
-use Rattle.board.specs.Board.{Board, cells, epochOf, linesOf, linesOutside}
+use Rattle.board.specs.Board.{Board, cells, epochOf, linesOf, workersOf, linesOutside}
 use Rattle.board.specs.Causes.{causes}
 use Rattle.board.specs.Effects.{logged, undo, effect}
 use Rattle.board.specs.Machine.{Machine, recoveryBeginning, feed}
@@ -17,6 +17,7 @@ use Rattle.board.proofs.Laws.Bools.{split, chosen, passedOver}
 use Rattle.board.proofs.Laws.View.{view, view-value, view-backup, view-mark}
 use Rattle.board.proofs.Invariant.{Undo, Kept, Sizes, RecoveryInv, RecoveryMachine, Inv}
 use Rattle.board.proofs.Laws.Taken.{standsAt, passed, later-bounds, afterTaken}
+use Rattle.board.proofs.Laws.Locks.{unheld-under}
 use Rattle.board.proofs.Recovery.Board.{some-cell, started-header, started-sizes}
 use Rattle.board.specs.Next.{Taken}
 
@@ -29,6 +30,7 @@ started-recovery l xs b lim k =
     record {
       lines = k .header .lines;
       workers = k .header .workers;
+      holders = unheld-under (workersOf (b .memory));
       clean = refl;
       request = refl;
       free = refl;

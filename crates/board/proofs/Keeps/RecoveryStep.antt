@@ -65,6 +65,7 @@ recovering b u own k here =
     record {
       lines = u .lines;
       workers = u .workers;
+      holders = u .holders;
       clean = u .clean;
       request = u .request;
       free = u .free;
@@ -102,6 +103,7 @@ running {l} b m v u own k =
     record {
       lines = u .lines;
       workers = u .workers;
+      holders = u .holders;
       request = v .request ∙ sym (u .request);
       eight = ap length (u .free);
       own = own;
@@ -224,7 +226,7 @@ keeps-recovery-step r inv lit phase =
     let i = p .0 in
     let h = i .within in
     let k = rows-of r inv (p .2) i in
-    let u : Underway (r .machine .lines) s = record { lines = i .lines; workers = i .workers; clean = i .clean; request = i .request; free = i .free; within = h } in
+    let u : Underway (r .machine .lines) s = record { lines = i .lines; workers = i .workers; holders = i .holders; clean = i .clean; request = i .request; free = i .free; within = h } in
     subst Inv (after-step r (p .1))
     (recovery-cases (λ (b : Board). Inv (stepRun r b)) (r .board) phase
     (λ q y.

@@ -33,6 +33,7 @@ running-request b m off room v =
     record {
       lines = v .lines;
       workers = v .workers;
+      holders = v .holders;
       request = refl;
       eight = v .eight;
       own = record { header = v .own .header; workers = v .own .workers };

@@ -43,6 +43,7 @@ recovery-back {l} {xs} b z i h v =
     record {
       lines = v .lines;
       workers = v .workers;
+      holders = v .holders;
       clean = v .clean;
       request = v .request;
       free = v .free;

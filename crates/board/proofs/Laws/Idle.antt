@@ -11,7 +11,7 @@ use Rattle.board.specs.Causes.{causes, placePast, checkpointing, epochSp
 use Rattle.board.specs.Next.{next, Taken}
 use Rattle.board.specs.Statements.{stepsFrom, AllTaken, EndsIn}
 use Rattle.board.proofs.Laws.Bools.{and-off}
-use Rattle.board.proofs.Invariant.{Sizes}
+use Rattle.board.proofs.Invariant.{Sizes, HeldUnder}
 use Rattle.board.proofs.Laws.Taken.{Clear, take, rows-fine, record-fine}
 use Rattle.board.proofs.Laws.Dirty.{empty-fine}
 use Rattle.board.proofs.Laws.Workers.{free-condition}
@@ -20,16 +20,16 @@ use Rattle.board.proofs.Laws.Workers.{free-condition}
 three-off : (a b c : Bool) → a ≡ false → a && b && c ≡ false
 three-off a b c e = and-off (a && b) c (and-off a b e)
 
--- On a board that is on and not running, with no line dirty and all workers free, a step is taken while its place is within bounds.
-pub idle-step-taken : (l : ℕ) (b : Board) → Sizes l b → b .state .lines ≡ l → workersOutside l (b .state .workers) ≡ false → b .state .dirty ≡ empty → b .state .worker ≡ allFree → isOff (b .state .phase) ≡ false → isRunning (b .state .phase) ≡ false → placePast (b .state .phase) (b .state) ≡ false → Taken Step b
+-- On a board that is on and not running, with no line dirty, no lock held by a worker from W on and all workers free, a step is taken while its place is within bounds.
+pub idle-step-taken : (l : ℕ) (b : Board) → Sizes l b → b .state .lines ≡ l → workersOutside l (b .state .workers) ≡ false → b .state .dirty ≡ empty → HeldUnder (b .state) → b .state .worker ≡ allFree → isOff (b .state .phase) ≡ false → isRunning (b .state .phase) ≡ false → placePast (b .state .phase) (b .state) ≡ false → Taken Step b
 unfolding Clear causes
-idle-step-taken l b z lines workers clean free on idle place =
+idle-step-taken l b z lines workers clean held free on idle place =
     let s = b .state in
     let none : checkpointing s ≡ false = and-off (isRunning (s .phase)) (s .requested) idle in
     take Step b (
       on,
       (
-        record-fine l s lines (z .limits) workers (empty-fine l (s .dirty) clean) place
+        record-fine l s lines (z .limits) workers (empty-fine l (s .dirty) clean) held place
             (λ w h. ap (updates (leb (cells l))) (free-condition s w free)),
         (
           rows-fine (s .lines) b (subst (λ (k : ℕ). Sizes k b) (sym lines) z),

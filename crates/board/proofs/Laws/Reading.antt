@@ -44,6 +44,7 @@ pub running-record : (l : ℕ) (b : Board) (m : Machine) → linesOutside l ≡ 
 running-record l b m lo p i =
     record-fine l (b .state) (i .lines) lo (i .workers)
     (dirty-fine (b .state .dirty) (m .marked) (i .dirty))
+    (i .holders)
     (subst (λ (ph : Phase). placePast ph (b .state) ≡ false) (sym p)
     (split (b .state .requested)
     (λ q. and-off-right (b .state .requested) (ltb (dirtyCount (b .state) + 2) (b .state .place)) (le-ltb (dirtyCount (b .state) + 2) (b .state .place) (place-in l b m (i .stage) q)))

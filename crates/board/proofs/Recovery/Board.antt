@@ -21,7 +21,7 @@ use Rattle.board.specs.State.{allFree, conditionOf, placed, opened}
 use Rattle.board.specs.Effects.{cached, stated, backed, logged, restored, unmarked, pastCell, recoveryStep, step, effect}
 use Rattle.board.specs.Causes.{causes, badRecoveryRows, badHeader}
 use Rattle.board.proofs.Laws.Bools.{on, or-left, or-right, and-left, and-right, not-off}
-use Rattle.board.proofs.Invariant.{Sizes}
+use Rattle.board.proofs.Invariant.{Sizes, HeldUnder}
 use Rattle.board.proofs.Laws.Workers.{free-condition}
 use Rattle.board.proofs.Laws.Taken.{standsAt, passed, lines-in, in-lines}
 use Rattle.board.specs.Next.{Taken}
@@ -58,6 +58,7 @@ past-cases P s f g =
 pub record Underway (l : ℕ) (s : State) : Type 0 where
   pub lines : s .lines ≡ l
   pub workers : workersOutside l (s .workers) ≡ false
+  pub holders : HeldUnder s
   pub clean : s .dirty ≡ empty
   pub request : s .requested ≡ false
   pub free : s .worker ≡ allFree
@@ -66,12 +67,12 @@ pub record Underway (l : ℕ) (s : State) : Type 0 where
 -- The record with another place has it.
 pub underway-placed : {l : ℕ} {s : State} (place : ℕ) (undo : UndoStep) → place < cells l → Underway l s → Underway l (placed s place undo)
 underway-placed place undo h u =
-    record { lines = u .lines; workers = u .workers; clean = u .clean; request = u .request; free = u .free; within = h }
+    record { lines = u .lines; workers = u .workers; holders = u .holders; clean = u .clean; request = u .request; free = u .free; within = h }
 
 -- The record that a recovery ends in has it.
 pub underway-opened : {l : ℕ} {s : State} → 0 < cells l → Underway l s → Underway l (opened s (s .dirty))
 underway-opened h u =
-    record { lines = u .lines; workers = u .workers; clean = u .clean; request = u .request; free = refl; within = h }
+    record { lines = u .lines; workers = u .workers; holders = u .holders; clean = u .clean; request = u .request; free = refl; within = h }
 
 -- Every worker is free.
 pub all-free : {l : ℕ} {s : State} → Underway l s → (w : ℕ) → conditionOf s w ≡ Free

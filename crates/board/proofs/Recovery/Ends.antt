@@ -14,7 +14,7 @@ use Rattle.board.specs.declared.UndoStep.the-variants.{Restore}
 use Rattle.board.specs.declared.Phase.{Phase}
 use Rattle.board.specs.declared.Phase.the-variants.{Recovering}
 use Rattle.board.specs.declared.Call.the-variants.{RecoveryStart, Step}
-use Rattle.board.specs.Board.{Board, cells, linesOf}
+use Rattle.board.specs.Board.{Board, cells, linesOf, workersOf}
 use Rattle.board.specs.State.{isOff, isRunning, isRecovering, placed}
 use Rattle.board.specs.Causes.{placePast}
 use Rattle.board.specs.Effects.{cached, pastCell, effect}
@@ -23,6 +23,7 @@ use Rattle.board.specs.Statements.{stepsFrom, AllTaken, EndsIn, Recovery
 use Rattle.board.proofs.Laws.View.{Sized, sized-store, sized-back, cell-line}
 use Rattle.board.proofs.Invariant.{Sizes}
 use Rattle.board.proofs.Laws.Taken.{taken-next}
+use Rattle.board.proofs.Laws.Locks.{unheld-under}
 use Rattle.board.proofs.Laws.Idle.{idle-step-taken, ends-more}
 use Rattle.board.proofs.Recovery.Board.{recovery-cases, past-cases, Underway, underway-placed, some-cell, started-header, started-sizes}
 use Rattle.board.proofs.Recovery.Count.{remaining, remaining-start, remaining-positive, remaining-step}
@@ -44,7 +45,7 @@ ready-within b k = omega (arith, k .underway .lines, k .underway .within)
 pub ready-taken : {l : ℕ} (b : Board) → Ready l b → Taken Step b
 ready-taken {l} b k =
     let u = k .underway in
-    idle-step-taken l b (k .sizes) (u .lines) (u .workers) (u .clean) (u .free) (ap isOff (k .phase)) (ap isRunning (k .phase))
+    idle-step-taken l b (k .sizes) (u .lines) (u .workers) (u .clean) (u .holders) (u .free) (ap isOff (k .phase)) (ap isRunning (k .phase))
     (subst (λ (p : Phase). placePast p (b .state) ≡ false) (sym (k .phase)) (lt-leb (cells (b .state .lines)) (b .state .place) (ready-within b k)))
 
 -- Where the recovery goes on after a step, the next step can be taken too.
@@ -86,7 +87,7 @@ ready-start b t =
     record {
       phase = refl;
       sizes = z;
-      underway = record { lines = refl; workers = started-header b t .2; clean = refl; request = refl; free = refl; within = some-cell (linesOf (b .memory)) (z .limits) };
+      underway = record { lines = refl; workers = started-header b t .2; holders = unheld-under (workersOf (b .memory)); clean = refl; request = refl; free = refl; within = some-cell (linesOf (b .memory)) (z .limits) };
     }
 
 -- ---- the end

@@ -26,7 +26,7 @@ pub requests : Requests
 unfolding effect
 requests b t =
     subst (Asked b) (sym (taken-next Request b t))
-    (record { request = refl; place = refl; undo = refl; phase = refl; lines = refl; workers = refl; dirty = refl; worker = refl; memory = refl; cache = refl })
+    (record { request = refl; place = refl; undo = refl; phase = refl; lines = refl; workers = refl; holders = refl; dirty = refl; worker = refl; memory = refl; cache = refl })
 
 -- A board with an opened record.
 opens : (dirty : List ℕ) (b b′ : Board) → b′ .state ≡ opened (b .state) dirty → Opened dirty b b′
@@ -35,6 +35,7 @@ opens dirty b b′ e =
       phase = ap (λ (s : State). s .phase) e;
       lines = ap (λ (s : State). s .lines) e;
       workers = ap (λ (s : State). s .workers) e;
+      holders = ap (λ (s : State). s .holders) e;
       lineBits = ap (λ (s : State). s .dirty) e;
       place = ap (λ (s : State). s .place) e;
       undo = ap (λ (s : State). s .undo) e;

@@ -12,7 +12,7 @@ use Rattle.board.specs.declared.Store.the-variants.{Backup, Mark, Record
 use Rattle.board.specs.declared.Phase.{Phase}
 use Rattle.board.specs.declared.Phase.the-variants.{Running}
 use Rattle.board.specs.declared.Call.{Call}
-use Rattle.board.specs.declared.Call.the-variants.{FormatStart, RecoveryStart, Step, Update, RestartPoint, Advance, Request, WriteBack, Read, GoAway, ComeBack, Count}
+use Rattle.board.specs.declared.Call.the-variants.{FormatStart, RecoveryStart, Step, Update, RestartPoint, Advance, Request, WriteBack, Read, GoAway, ComeBack, Count, TakeLock, GiveBackLock}
 use Rattle.board.specs.Board.{Board}
 use Rattle.board.specs.State.{conditionOf, dirtyCount}
 use Rattle.board.specs.Causes.{causes, placePast}
@@ -81,6 +81,8 @@ effect-keeps (Read c) b e t s o i n = refl
 effect-keeps (GoAway w) b e t s o i n = condition-other (b .state) w Away i (unnamed i w n)
 effect-keeps (ComeBack w) b e t s o i n = condition-other (b .state) w Free i (unnamed i w n)
 effect-keeps Count b e t s o i n = refl
+effect-keeps (TakeLock w k) b e t s o i n = refl
+effect-keeps (GiveBackLock w k) b e t s o i n = refl
 
 -- A call leaves the others in their conditions.
 pub others-stay : OthersStay

@@ -34,6 +34,7 @@ begun phase l w cache b =
       inPhase = refl;
       lines = refl;
       workers = refl;
+      unheld = refl;
       clean = refl;
       place = refl;
       undo = refl;

@@ -3,13 +3,13 @@ use Prim.Native.Nat.{_-_, _^_}
 use mathlib.Core.List.{List, [], _∷_, _++_, map}
 use Rattle.board.specs.declared.Condition.the-variants.{Free, Waiting, Away}
 use Rattle.board.specs.declared.Phase.the-variants.{Formatting, Recovering, Running}
-use Rattle.board.specs.declared.Call.the-variants.{Step, Update, RestartPoint, Advance, Request, WriteBack, Read, GoAway, ComeBack}
+use Rattle.board.specs.declared.Call.the-variants.{Step, Update, RestartPoint, Advance, Request, WriteBack, Read, GoAway, ComeBack, TakeLock}
 use Rattle.board.specs.Bench.{Case, answers, from}
-use Rattle.board.specs.Refusals.Boards.{gives, givesOn, sound, requested, setting, placedAt, worker, updating, ready, spent, quietEdges, requestedEdges, largeEdges, firstThree}
+use Rattle.board.specs.Refusals.Boards.{gives, givesOn, sound, requested, setting, locking, placedAt, worker, updating, ready, spent, quietEdges, requestedEdges, largeEdges, firstThree}
 
 -- ---- going away
 
--- Causes 2, 3 and 4, while 6 and 8 stand: worker 1 is past W and waits.
+-- Causes 2, 3 and 4, while 6 and 8 stand: worker 1 is past W and waits. (With 6, 16 cannot stand: a holder past W is cause 3.)
 abbrev pub goFirst : List Case
 goFirst = firstThree (GoAway 1) (worker 1 Waiting (sound Running 1 1))
 
@@ -22,15 +22,21 @@ goWorker =
     ∷ gives 6 (GoAway (2 ^ 64 - 1)) (sound Running 1 1)
     ∷ []
 
--- Cause 8, "going away when not free": a worker that waits, one in an update, one that is away.
+-- Cause 8, "going away when not free": a worker that waits, one in an update, one that is away; 16 stands too.
 abbrev pub goBusy : List Case
-goBusy = givesOn 8 (GoAway 1) (worker 1 Waiting (sound Running 2 2) ∷ updating 1 3 (sound Running 2 2) ∷ worker 1 Away (sound Running 2 2) ∷ [])
+goBusy =
+    let b = locking 3 1 (sound Running 2 2) in
+    givesOn 8 (GoAway 1) (worker 1 Waiting b ∷ updating 1 3 b ∷ worker 1 Away b ∷ [])
 
--- Taken: worker W − 1; others in an update, waiting or away; on the records just within, with a request and in the middle of a checkpoint too: 13 is none of its causes.
+-- Cause 16, "held on going away": lock 0, lock 15.
+abbrev pub goLock : List Case
+goLock = givesOn 16 (GoAway 1) (locking 0 1 (sound Running 2 2) ∷ locking 15 1 (sound Running 2 2) ∷ [])
+
+-- Taken: worker W − 1; others in an update, waiting or away, or holding locks; on the records just within, with a request and in the middle of a checkpoint too: 13 is none of its causes.
 abbrev pub goTaken : List Case
 goTaken =
     gives 0 (GoAway 7) (sound Running 5 8)
-    ∷ gives 0 (GoAway 1) (updating 0 2 (sound Running 2 2))
+    ∷ gives 0 (GoAway 1) (locking 2 0 (updating 0 2 (sound Running 2 2)))
     ∷ gives 0 (GoAway 2) (worker 0 Waiting (worker 1 Away (sound Running 2 3)))
     ∷ givesOn 0 (GoAway 0) (quietEdges ++ (requestedEdges ++ largeEdges))
 
@@ -105,7 +111,7 @@ awaySteps =
 abbrev pub awayBeside : List Case
 awayBeside =
     let b = worker 0 Away (sound Running 2 2) in
-    gives 0 (Update 1 2 7) b ∷ gives 0 (RestartPoint 1 3) b ∷ gives 0 (Advance 1) (updating 1 2 b) ∷ gives 0 Request b ∷ gives 0 (WriteBack 2) b ∷ gives 0 (Read 3) b ∷ []
+    gives 0 (Update 1 2 7) (locking 2 1 b) ∷ gives 0 (RestartPoint 1 3) b ∷ gives 0 (Advance 1) (updating 1 2 b) ∷ gives 0 Request b ∷ gives 0 (WriteBack 2) b ∷ gives 0 (Read 3) b ∷ []
 
 -- ---- what the calls leave
 
@@ -114,8 +120,8 @@ awayBeside =
 abbrev pub awayLeft : List Case
 awayLeft =
     from 0 (requested (sound Running 1 1)) (GoAway 0 ∷ []) (answers Step 0 ∷ answers (Update 0 1 7) 8 ∷ [])
-    ∷ from 10 (requested (worker 0 Away (sound Running 1 1))) (ComeBack 0 ∷ []) (answers Step 10 ∷ answers (Update 0 1 7) 0 ∷ [])
+    ∷ from 10 (requested (worker 0 Away (sound Running 1 1))) (ComeBack 0 ∷ []) (answers Step 10 ∷ answers (TakeLock 0 1) 0 ∷ [])
     ∷ from 8 (placedAt 2 (worker 0 Away (ready 1 1))) (Step ∷ []) (answers (Update 0 1 7) 8 ∷ answers (ComeBack 0) 0 ∷ [])
-    ∷ from 0 (placedAt 1 (worker 0 Away (sound Recovering 1 1))) (Step ∷ []) (answers (Update 0 1 7) 0 ∷ answers (ComeBack 0) 8 ∷ [])
-    ∷ from 0 (placedAt 2 (worker 0 Away (sound Formatting 1 1))) (Step ∷ []) (answers (Update 0 1 7) 0 ∷ answers (ComeBack 0) 8 ∷ [])
+    ∷ from 0 (placedAt 1 (worker 0 Away (sound Recovering 1 1))) (Step ∷ []) (answers (TakeLock 0 1) 0 ∷ answers (ComeBack 0) 8 ∷ [])
+    ∷ from 0 (placedAt 2 (worker 0 Away (sound Formatting 1 1))) (Step ∷ []) (answers (TakeLock 0 1) 0 ∷ answers (ComeBack 0) 8 ∷ [])
     ∷ []

@@ -9,15 +9,15 @@ use Rattle.board.specs.declared.Call.the-variants.{Update, RestartPoint,
 use Rattle.board.specs.Board.{Board}
 use Rattle.board.specs.Effects.{cached}
 use Rattle.board.specs.Bench.{Case, fromEvents, valued}
-use Rattle.board.specs.Refusals.Boards.{gives, givesOn, rowFor, sound, inPhase, requested, setting, straying, placedAt, worker, updating, remembered, epoch, spent, shortCache, misfits, badRecords, quietEdges, requestedEdges, largeEdges, firstThree}
+use Rattle.board.specs.Refusals.Boards.{gives, givesOn, rowFor, sound, inPhase, requested, setting, straying, locking, placedAt, worker, updating, remembered, epoch, spent, shortCache, misfits, badRecords, quietEdges, requestedEdges, largeEdges, firstThree}
 
 -- ---- update
 
--- Causes 2, 3 and 4, while 6, 7, 8 and 9 stand: worker 1 is past W and waits, and worker 0 has an update of cell 0.
+-- Causes 2, 3 and 4, while 6, 7, 8, 16 and 9 stand: worker 1 is past W, waits and holds no lock, and worker 0 has an update of cell 0.
 abbrev pub updateFirst : List Case
 updateFirst = firstThree (Update 1 0 7) (updating 0 0 (worker 1 Waiting (sound Running 1 1)))
 
--- Cause 6, "worker W or more", while 7, 8 and 9 stand; worker 8; the largest number.
+-- Cause 6, "worker W or more", while 7, 8, 16 and 9 stand; worker 8; the largest number.
 abbrev pub updateWorker : List Case
 updateWorker =
     gives 6 (Update 1 0 7) (updating 0 0 (worker 1 Waiting (sound Running 1 1)))
@@ -25,7 +25,7 @@ updateWorker =
     ∷ gives 6 (Update (2 ^ 64 - 1) 1 7) (sound Running 1 1)
     ∷ []
 
--- Cause 7: a cell under W, W − 1 (8 and 9 stand too), 2L (8 stands too), and the largest number.
+-- Cause 7: a cell under W, W − 1 (8, 16 and 9 stand too), 2L (8 and 16 stand too), and the largest number.
 abbrev pub updateCell : List Case
 updateCell =
     gives 7 (Update 1 0 7) (updating 0 0 (worker 1 Waiting (sound Running 2 2)))
@@ -34,34 +34,46 @@ updateCell =
     ∷ gives 7 (Update 0 (2 ^ 64 - 1) 7) (sound Running 2 2)
     ∷ []
 
--- Cause 8: a worker that waits, and one in an update; 9 stands too.
+-- Cause 8: a worker that waits, and one in an update; 16 and 9 stand too; and with the lock held.
 abbrev pub updateBusy : List Case
 updateBusy =
     gives 8 (Update 1 2 7) (updating 0 2 (worker 1 Waiting (sound Running 2 2)))
     ∷ gives 8 (Update 1 2 7) (updating 0 2 (updating 1 3 (sound Running 2 2)))
+    ∷ gives 8 (Update 1 2 7) (locking 2 1 (worker 1 Waiting (sound Running 2 2)))
     ∷ []
 
--- Cause 9: another worker under W has an unfinished update of the cell, whichever its next store, below or above the worker, the eighth too.
+-- Cause 16: the cell's lock is nobody's or another worker's, 9 standing too; the worker holds every lock but this one; lock c mod 8 and lock c are not the cell's, which is c mod 16.
+abbrev pub updateLock : List Case
+updateLock =
+    givesOn 16 (Update 1 2 7)
+    (updating 0 2 (sound Running 2 2) ∷ locking 2 0 (updating 0 2 (sound Running 2 2)) ∷ locking 2 0 (sound Running 2 2) ∷ locking 1 1 (locking 3 1 (sound Running 2 2)) ∷ [])
+    ++ (gives 16 (Update 0 10 7) (locking 2 0 (sound Running 16 1)) ∷ gives 16 (Update 0 26 7) (locking 2 0 (locking 11 0 (sound Running 16 1))) ∷ [])
+
+-- Cause 9, the lock being held, which only a damaged record has: another worker under W has an unfinished update of the cell, whichever its next store, below or above the worker, the eighth too.
 abbrev pub updateShared : List Case
 updateShared =
-    gives 9 (Update 1 2 7) (updating 0 2 (sound Running 2 2))
-    ∷ gives 9 (Update 0 2 7) (worker 1 (Updating Mark 2 5) (sound Running 2 2))
-    ∷ gives 9 (Update 0 3 7) (worker 1 (Updating Record 3 5) (sound Running 2 2))
-    ∷ gives 9 (Update 0 9 7) (updating 7 9 (sound Running 5 8))
+    gives 9 (Update 1 2 7) (locking 2 1 (updating 0 2 (sound Running 2 2)))
+    ∷ gives 9 (Update 0 2 7) (locking 2 0 (worker 1 (Updating Mark 2 5) (sound Running 2 2)))
+    ∷ gives 9 (Update 0 3 7) (locking 3 0 (worker 1 (Updating Record 3 5) (sound Running 2 2)))
+    ∷ gives 9 (Update 0 9 7) (locking 9 0 (updating 7 9 (sound Running 5 8)))
     ∷ []
 
--- Taken: cell W and cell 2L − 1, worker W − 1; another worker at another cell; a worker from W on at the same cell or at cell 2L; on the records just within.
+-- Taken, the lock being held: cell W and cell 2L − 1, worker W − 1; cells 10, 15, 16 and 26 by locks 10, 15, 0 and 10; another worker at another cell; a worker from W on at the same cell or at cell 2L; on the records just within.
 abbrev pub updateTaken : List Case
 updateTaken =
-    gives 0 (Update 0 2 7) (sound Running 2 2)
-    ∷ gives 0 (Update 0 3 7) (sound Running 2 2)
-    ∷ gives 0 (Update 1 2 7) (sound Running 2 2)
-    ∷ gives 0 (Update 7 9 7) (sound Running 5 8)
-    ∷ gives 0 (Update 7 1021 7) (sound Running 511 8)
-    ∷ gives 0 (Update 1 2 7) (updating 0 3 (sound Running 2 2))
-    ∷ gives 0 (Update 1 2 7) (updating 2 2 (sound Running 2 2))
-    ∷ gives 0 (Update 1 2 7) (updating 2 4 (sound Running 2 2))
-    ∷ givesOn 0 (Update 0 1 7) (quietEdges ++ requestedEdges)
+    gives 0 (Update 0 2 7) (locking 2 0 (sound Running 2 2))
+    ∷ gives 0 (Update 0 3 7) (locking 3 0 (sound Running 2 2))
+    ∷ gives 0 (Update 1 2 7) (locking 2 1 (sound Running 2 2))
+    ∷ gives 0 (Update 7 9 7) (locking 9 7 (sound Running 5 8))
+    ∷ gives 0 (Update 7 1021 7) (locking 13 7 (sound Running 511 8))
+    ∷ gives 0 (Update 0 10 7) (locking 10 0 (sound Running 16 1))
+    ∷ gives 0 (Update 0 15 7) (locking 15 0 (sound Running 16 1))
+    ∷ gives 0 (Update 0 16 7) (locking 0 0 (sound Running 16 1))
+    ∷ gives 0 (Update 0 26 7) (locking 10 0 (sound Running 16 1))
+    ∷ gives 0 (Update 1 2 7) (locking 2 1 (updating 0 3 (sound Running 2 2)))
+    ∷ gives 0 (Update 1 2 7) (locking 2 1 (updating 2 2 (sound Running 2 2)))
+    ∷ gives 0 (Update 1 2 7) (locking 2 1 (updating 2 4 (sound Running 2 2)))
+    ∷ givesOn 0 (Update 0 1 7) (map (locking 1 0) (quietEdges ++ requestedEdges))
 
 -- ---- restart point
 
@@ -77,12 +89,18 @@ restartWorker =
     ∷ gives 6 (RestartPoint (2 ^ 64 - 1) 3) (sound Running 1 1)
     ∷ []
 
--- Cause 8: a worker that waits, and one in an update; 9 stands too.
+-- Cause 8: a worker that waits, and one in an update; 16 and 9 stand too.
 abbrev pub restartBusy : List Case
 restartBusy =
-    gives 8 (RestartPoint 1 3) (updating 0 1 (worker 1 Waiting (sound Running 2 2)))
-    ∷ gives 8 (RestartPoint 1 3) (updating 0 1 (updating 1 3 (sound Running 2 2)))
+    gives 8 (RestartPoint 1 3) (locking 4 1 (updating 0 1 (worker 1 Waiting (sound Running 2 2))))
+    ∷ gives 8 (RestartPoint 1 3) (locking 3 1 (updating 0 1 (updating 1 3 (sound Running 2 2))))
     ∷ []
+
+-- Cause 16, "held at a restart point": lock 0, lock 15, both and the one that its own number would give, 9 standing too.
+abbrev pub restartLock : List Case
+restartLock =
+    let b = updating 0 1 (sound Running 2 2) in
+    givesOn 16 (RestartPoint 1 3) (locking 0 1 b ∷ locking 15 1 b ∷ locking 0 1 (locking 15 1 (sound Running 2 2)) ∷ locking 1 1 (sound Running 2 2) ∷ [])
 
 -- Cause 9: another worker under W has an unfinished update of this worker's restart cell, which only a damaged record has.
 abbrev pub restartShared : List Case
@@ -92,11 +110,12 @@ restartShared =
     ∷ gives 9 (RestartPoint 0 3) (worker 7 (Updating Record 0 5) (sound Running 5 8))
     ∷ []
 
--- Taken: worker W − 1; another worker at another cell; a worker from W on at the restart cell; and on the records just within, worker 0 being free.
+-- Taken: worker W − 1; another worker at another cell or holding locks; a worker from W on at the restart cell; and on the records just within, worker 0 being free.
 abbrev pub restartTaken : List Case
 restartTaken =
     gives 0 (RestartPoint 7 3) (sound Running 5 8)
     ∷ gives 0 (RestartPoint 1 3) (updating 0 2 (sound Running 2 2))
+    ∷ gives 0 (RestartPoint 1 3) (locking 0 0 (locking 1 0 (locking 15 0 (sound Running 2 2))))
     ∷ gives 0 (RestartPoint 1 3) (updating 2 1 (sound Running 2 2))
     ∷ givesOn 0 (RestartPoint 0 3) (quietEdges ++ (requestedEdges ++ largeEdges))
 

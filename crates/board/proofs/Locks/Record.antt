@@ -1,0 +1,85 @@
+-- What a step leaves of the state record, and that no call but four changes a lock's holder.
+use Prim.Native.Nat.{ℕ, _+_}
+use mathlib.Core.Path.{_≡_, refl, sym, ap, subst, _∙_}
+use mathlib.Core.List.{List}
+use mathlib.Core.Bool.{Bool, false, cond, _||_, true≢false}
+use lib.Dec.{leb, eqb}
+use borrow.Author.Tests.{eqb-true, eqb-false}
+use Rattle.board.specs.declared.State.{State}
+use Rattle.board.specs.declared.Condition.{Condition}
+use Rattle.board.specs.declared.Condition.the-variants.{Free, Waiting, Updating, Away}
+use Rattle.board.specs.declared.Store.{Store}
+use Rattle.board.specs.declared.Store.the-variants.{Backup, Mark, Record}
+use Rattle.board.specs.declared.UndoStep.{UndoStep}
+use Rattle.board.specs.declared.Phase.{Phase}
+use Rattle.board.specs.declared.Phase.the-variants.{Off, Formatting, Recovering, Running}
+use Rattle.board.specs.declared.Call.{Call}
+use Rattle.board.specs.declared.Call.the-variants.{FormatStart, RecoveryStart, Step, Update, RestartPoint, Advance, Request, WriteBack, Read, GoAway, ComeBack, Count, TakeLock, GiveBackLock}
+use Rattle.board.specs.Board.{Board}
+use Rattle.board.specs.State.{conditionOf, placed, opened, released, dirtyCount}
+use Rattle.board.specs.Causes.{cause}
+use Rattle.board.specs.Effects.{Act, performAct, pastCell, formatStep, step, advance, advanceOf, effect}
+use Rattle.board.specs.Next.{next, taken, kind, isStart}
+use Rattle.board.specs.Locks.{moves, HoldersStay}
+use Rattle.board.proofs.Laws.Bools.{on, decide}
+use Rattle.board.proofs.Recovery.Board.{recovery-cases, past-cases}
+use Rattle.board.proofs.Checkpoint.Acts.{act-cases, effect-acts}
+
+-- What holds of a record, of it at another place, opened and released holds of what a step leaves of it.
+pub step-record : (P : State → Type 0) (b : Board) → P (b .state) → ((place : ℕ) (undo : UndoStep) → P (placed (b .state) place undo)) → ((dirty : List ℕ) → P (opened (b .state) dirty)) → P (released (b .state)) → P (effect Step b .state)
+unfolding effect step formatStep performAct
+step-record P b same moved ended freed = go (b .state .phase) refl
+  where
+    s : State
+    s = b .state
+
+    past : P (pastCell s)
+    past = past-cases P s (λ h. moved _ _) (λ h. ended (s .dirty))
+
+    go : (p : Phase) → s .phase ≡ p → P (effect Step b .state)
+    go Off e = subst (λ (p : Phase). P (step p s b .state)) (sym e) same
+    go Formatting e =
+        subst (λ (p : Phase). P (step p s b .state)) (sym e)
+        (on (λ (d : Board). P (d .state)) (leb (s .place) (s .lines)) _ _ (λ t. moved (s .place + 1) (s .undo)) (λ t. ended _))
+    go Recovering e = recovery-cases (λ (d : Board). P (d .state)) b e (λ q t. moved _ _) (λ q t. past) (λ q. moved _ _) (λ q. past)
+    go Running e =
+        subst (λ (d : Board). P (d .state)) (sym (effect-acts b e))
+        (act-cases (λ (a : Act). P (performAct a s b .state)) (dirtyCount s) (s .place) (λ h. moved _ _) (λ h. moved _ _) (λ h. moved _ _) (λ h. freed))
+
+-- ---- who changes a lock's holder
+
+advance-holders : (n : Store) (w c v : ℕ) (b : Board) → advance n w c v (b .state) b .state .holders ≡ b .state .holders
+unfolding advance
+advance-holders Backup w c v b = refl
+advance-holders Mark w c v b = refl
+advance-holders Record w c v b = refl
+
+advances-holders : (k : Condition) (w : ℕ) (b : Board) → advanceOf k w (b .state) b .state .holders ≡ b .state .holders
+unfolding advanceOf
+advances-holders Free w b = refl
+advances-holders Waiting w b = refl
+advances-holders (Updating n c v) w b = advance-holders n w c v b
+advances-holders Away w b = refl
+
+-- What a taken call does to the holders.
+effect-holders : (k : Call) (b : Board) → isStart (kind k) || moves k ≡ false → effect k b .state .holders ≡ b .state .holders
+unfolding effect
+effect-holders (FormatStart l w) b o = absurd (true≢false o)
+effect-holders RecoveryStart b o = absurd (true≢false o)
+effect-holders Step b o = step-record (λ (x : State). x .holders ≡ b .state .holders) b refl (λ place undo. refl) (λ dirty. refl) refl
+effect-holders (Update w c v) b o = refl
+effect-holders (RestartPoint w v) b o = refl
+effect-holders (Advance w) b o = advances-holders (conditionOf (b .state) w) w b
+effect-holders Request b o = refl
+effect-holders (WriteBack l) b o = refl
+effect-holders (Read c) b o = refl
+effect-holders (GoAway w) b o = refl
+effect-holders (ComeBack w) b o = refl
+effect-holders Count b o = refl
+effect-holders (TakeLock w k) b o = absurd (true≢false o)
+effect-holders (GiveBackLock w k) b o = absurd (true≢false o)
+
+-- Only the starts and the two calls change a lock's holder.
+pub holders-stay : HoldersStay
+unfolding next
+holders-stay k b o = on (λ (d : Board). d .state .holders ≡ b .state .holders) (taken k b) (effect k b) b (λ t. effect-holders k b o) (λ t. refl)
