@@ -61,7 +61,8 @@ unfolding firstStanding Clear
 clear-first [] c = refl
 clear-first (k ∷ ks) c = passedOver (k .stands) (k .number) (firstStanding ks) (c .0) ∙ clear-first ks (c .1)
 
-clear-at : (ks : List Cause) → Clear ks → (n : ℕ) → standsAt n ks ≡ false
+-- Where no row stands, none of any number does.
+pub clear-at : (ks : List Cause) → Clear ks → (n : ℕ) → standsAt n ks ≡ false
 unfolding standsAt Clear
 clear-at [] c n = refl
 clear-at (k ∷ ks) c n =

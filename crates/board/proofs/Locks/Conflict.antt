@@ -1,8 +1,8 @@
 -- Where each data update has its lock held and each restart point is of the worker's own cell, no two unfinished updates meet: cause 9 does not stand.
 use Prim.Native.Nat.{ℕ, suc, _%_, _≤_, _<_}
-use mathlib.Core.Path.{_≡_, refl, sym, ap, subst, _∙_}
+use mathlib.Core.Path.{_≡_, refl, sym, ap, _∙_}
 use mathlib.Core.List.{List, [], _∷_}
-use mathlib.Core.Bool.{Bool, true, false, cond, not, _&&_, true≢false, false≢true}
+use mathlib.Core.Bool.{Bool, true, false, cond, not, _&&_, false≢true}
 use native.Mathlib.Omega.{arith}
 use native.Mathlib.Decide.{decLt}
 use lib.Dec.{ltb, eqb}
@@ -17,7 +17,8 @@ use Rattle.board.specs.declared.Call.the-variants.{FormatStart, Recovery
 use Rattle.board.specs.Board.{Board}
 use Rattle.board.specs.State.{conditionOf, updates, othersUpdate, lockOf}
 use Rattle.board.specs.Causes.{Cause, causes, firstStanding, cause}
-use Rattle.board.proofs.Laws.Bools.{split, clash, chosen, passedOver, or-left, and-left, and-right, and-if, not-off, not-of, under-none}
+use Rattle.board.proofs.Laws.Bools.{decide, split, chosen, passedOver, or-left, and-right, and-if, not-off, not-of, under-none}
+use Rattle.board.proofs.Laws.Taken.{Clear, standsAt, clear-at}
 use Rattle.board.proofs.Locks.Held.{Holding, LockInv}
 
 -- ---- no other worker has an unfinished update of the cell
@@ -48,76 +49,69 @@ none-other s w c i own restart =
 
 -- ---- the answer
 
--- No row of the table has the number.
-unfoldable pub without : ℕ → List Cause → Bool
-without n [] = true
-without n (k ∷ ks) = not (eqb (k .number) n) && without n ks
+-- The rows of a table before the first of number `n`, and those from it on.
+unfoldable pub until : ℕ → List Cause → List Cause
+until n [] = []
+until n (k ∷ ks) = cond (eqb (k .number) n) [] (k ∷ until n ks)
 
--- A number that no row has is never the answer.
-without-first : (n : ℕ) (ks : List Cause) → without (suc n) ks ≡ true → firstStanding ks ≡ suc n → ⊥
-unfolding without firstStanding
-without-first n [] w e = omega (arith, e)
-without-first n (k ∷ ks) w e =
+unfoldable pub onward : ℕ → List Cause → List Cause
+onward n [] = []
+onward n (k ∷ ks) = cond (eqb (k .number) n) (k ∷ ks) (onward n ks)
+
+-- Where `n` is the answer, no row before the first of that number stands.
+parted : (n : ℕ) (ks : List Cause) → firstStanding ks ≡ suc n → Clear (until (suc n) ks) × (firstStanding (onward (suc n) ks) ≡ suc n)
+unfolding until onward firstStanding Clear
+parted n [] e = absurd (omega (arith, e))
+parted n (k ∷ ks) e =
+    decide (λ (t : Bool). Clear (cond t [] (k ∷ until (suc n) ks)) × (firstStanding (cond t (k ∷ ks) (onward (suc n) ks)) ≡ suc n)) (eqb (k .number) (suc n))
+    (λ t. (tt, e))
+    (λ f.
     split (k .stands)
-    (λ on. eqb-false (k .number) (suc n) (not-of (eqb (k .number) (suc n)) (and-left (not (eqb (k .number) (suc n))) (without (suc n) ks) w)) (sym (chosen (k .stands) (k .number) (firstStanding ks) on) ∙ e))
-    (λ off. without-first n ks (and-right (not (eqb (k .number) (suc n))) (without (suc n) ks) w) (sym (passedOver (k .stands) (k .number) (firstStanding ks) off) ∙ e))
+    (λ on. absurd (eqb-false (k .number) (suc n) f (sym (chosen (k .stands) (k .number) (firstStanding ks) on) ∙ e)))
+    (λ off. let rest = parted n ks (sym (passedOver (k .stands) (k .number) (firstStanding ks) off) ∙ e) in ((off, rest .0), rest .1)))
 
--- A row whose number is not the answer does not stand, and the answer is that of the rows after it.
-passes-by : (k : Cause) (ks : List Cause) (n : ℕ) → (k .number ≡ n → ⊥) → firstStanding (k ∷ ks) ≡ n → (k .stands ≡ false) × (firstStanding ks ≡ n)
-unfolding firstStanding
-passes-by k ks n o e =
-    split (k .stands)
-    (λ on. absurd (o (sym (chosen (k .stands) (k .number) (firstStanding ks) on) ∙ e)))
-    (λ off. (off, sym (passedOver (k .stands) (k .number) (firstStanding ks) off) ∙ e))
-
--- The last row of a table, where its test fails, is no answer either.
+-- A table whose last row fails its test gives no answer, and so does one without rows.
 last-off : (k : Cause) (n : ℕ) → k .stands ≡ false → firstStanding (k ∷ []) ≡ suc n → ⊥
 unfolding firstStanding
 last-off k n off e = omega (arith, sym (passedOver (k .stands) (k .number) 0 off) ∙ e)
 
--- The tests that come before cause 9, of an update.
+no-row : (n : ℕ) → firstStanding [] ≡ suc n → ⊥
+unfolding firstStanding
+no-row n e = omega (arith, e)
+
+-- An update is not answered by 9: the lock that it must hold before is nobody else's.
 update-answer : (w c v : ℕ) (b : Board) → LockInv (b .state) → cause (Update w c v) b ≡ 9 → ⊥
-unfolding cause causes
+unfolding cause causes until onward standsAt
 update-answer w c v b i e =
     let s = b .state in
-    let r2 = passes-by _ _ 9 (λ q. omega (arith, q)) e in
-    let r3 = passes-by _ _ 9 (λ q. omega (arith, q)) (r2 .1) in
-    let r4 = passes-by _ _ 9 (λ q. omega (arith, q)) (r3 .1) in
-    let r6 = passes-by _ _ 9 (λ q. omega (arith, q)) (r4 .1) in
-    let r7 = passes-by _ _ 9 (λ q. omega (arith, q)) (r6 .1) in
-    let r8 = passes-by _ _ 9 (λ q. omega (arith, q)) (r7 .1) in
-    let r16 = passes-by _ _ 9 (λ q. omega (arith, q)) (r8 .1) in
-    let past = ltb-false c (s .workers) (or-left (ltb c (s .workers)) _ (r7 .0)) in
-    last-off _ 8 (none-other s w c i (λ l. not-off (holds (s .holders) w (lockOf c)) (r16 .0)) (λ l. absurd (omega arith))) (r16 .1)
+    let rows = parted 8 (causes (Update w c v) b) e in
+    let pass = clear-at (until 9 (causes (Update w c v) b)) (rows .0) in
+    let past = ltb-false c (s .workers) (or-left (ltb c (s .workers)) _ (pass 7)) in
+    last-off _ 8 (none-other s w c i (λ l. not-off (holds (s .holders) w (lockOf c)) (pass 16)) (λ l. absurd (omega arith))) (rows .1)
 
--- Of a restart point.
+-- Nor is a restart point: its cell is this worker's.
 restart-answer : (w v : ℕ) (b : Board) → LockInv (b .state) → cause (RestartPoint w v) b ≡ 9 → ⊥
-unfolding cause causes
+unfolding cause causes until onward standsAt
 restart-answer w v b i e =
     let s = b .state in
-    let r2 = passes-by _ _ 9 (λ q. omega (arith, q)) e in
-    let r3 = passes-by _ _ 9 (λ q. omega (arith, q)) (r2 .1) in
-    let r4 = passes-by _ _ 9 (λ q. omega (arith, q)) (r3 .1) in
-    let r6 = passes-by _ _ 9 (λ q. omega (arith, q)) (r4 .1) in
-    let r8 = passes-by _ _ 9 (λ q. omega (arith, q)) (r6 .1) in
-    let r16 = passes-by _ _ 9 (λ q. omega (arith, q)) (r8 .1) in
-    let there = leb-false (s .workers) w (r6 .0) in
-    last-off _ 8 (none-other s w w i (λ l. absurd (omega arith)) (λ l. refl)) (r16 .1)
+    let rows = parted 8 (causes (RestartPoint w v) b) e in
+    let there = leb-false (s .workers) w (clear-at (until 9 (causes (RestartPoint w v) b)) (rows .0) 6) in
+    last-off _ 8 (none-other s w w i (λ l. absurd (omega arith)) (λ l. refl)) (rows .1)
 
--- No call is answered by 9.
+-- No call is answered by 9; of most there is no such row.
 pub never-nine : (k : Call) (b : Board) → LockInv (b .state) → cause k b ≡ 9 → ⊥
-unfolding cause causes without
-never-nine (FormatStart l w) b i e = without-first 8 (causes (FormatStart l w) b) refl e
-never-nine RecoveryStart b i e = without-first 8 (causes RecoveryStart b) refl e
-never-nine Step b i e = without-first 8 (causes Step b) refl e
+unfolding cause causes onward
+never-nine (FormatStart l w) b i e = no-row 8 (parted 8 (causes (FormatStart l w) b) e .1)
+never-nine RecoveryStart b i e = no-row 8 (parted 8 (causes RecoveryStart b) e .1)
+never-nine Step b i e = no-row 8 (parted 8 (causes Step b) e .1)
 never-nine (Update w c v) b i e = update-answer w c v b i e
 never-nine (RestartPoint w v) b i e = restart-answer w v b i e
-never-nine (Advance w) b i e = without-first 8 (causes (Advance w) b) refl e
-never-nine Request b i e = without-first 8 (causes Request b) refl e
-never-nine (WriteBack l) b i e = without-first 8 (causes (WriteBack l) b) refl e
-never-nine (Read c) b i e = without-first 8 (causes (Read c) b) refl e
-never-nine (GoAway w) b i e = without-first 8 (causes (GoAway w) b) refl e
-never-nine (ComeBack w) b i e = without-first 8 (causes (ComeBack w) b) refl e
-never-nine Count b i e = without-first 8 (causes Count b) refl e
-never-nine (TakeLock w k) b i e = without-first 8 (causes (TakeLock w k) b) refl e
-never-nine (GiveBackLock w k) b i e = without-first 8 (causes (GiveBackLock w k) b) refl e
+never-nine (Advance w) b i e = no-row 8 (parted 8 (causes (Advance w) b) e .1)
+never-nine Request b i e = no-row 8 (parted 8 (causes Request b) e .1)
+never-nine (WriteBack l) b i e = no-row 8 (parted 8 (causes (WriteBack l) b) e .1)
+never-nine (Read c) b i e = no-row 8 (parted 8 (causes (Read c) b) e .1)
+never-nine (GoAway w) b i e = no-row 8 (parted 8 (causes (GoAway w) b) e .1)
+never-nine (ComeBack w) b i e = no-row 8 (parted 8 (causes (ComeBack w) b) e .1)
+never-nine Count b i e = no-row 8 (parted 8 (causes Count b) e .1)
+never-nine (TakeLock w k) b i e = no-row 8 (parted 8 (causes (TakeLock w k) b) e .1)
+never-nine (GiveBackLock w k) b i e = no-row 8 (parted 8 (causes (GiveBackLock w k) b) e .1)

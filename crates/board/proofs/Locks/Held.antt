@@ -1,7 +1,7 @@
 -- Who holds a lock on a board that calls from a taken start led to: an invariant of the record alone.
-use Prim.Native.Nat.{ℕ, _+_, _%_, _≤_, _<_}
+use Prim.Native.Nat.{ℕ, _%_, _≤_, _<_}
 use mathlib.Core.Path.{_≡_, refl, sym, ap, subst, _∙_}
-use mathlib.Core.Bool.{Bool, true, false, cond, not, _&&_, true≢false, false≢true}
+use mathlib.Core.Bool.{true, false, _&&_, false≢true}
 use native.Mathlib.Omega.{arith}
 use native.Mathlib.Decide.{decLt}
 use native.Mathlib.Nat.{mod-lt}
@@ -17,13 +17,13 @@ use Rattle.board.specs.declared.Store.{Store}
 use Rattle.board.specs.declared.Store.the-variants.{Backup, Mark, Record}
 use Rattle.board.specs.declared.Call.{Call}
 use Rattle.board.specs.declared.Call.the-variants.{FormatStart, RecoveryStart, Step, Update, RestartPoint, Advance, Request, WriteBack, Read, GoAway, ComeBack, Count, TakeLock, GiveBackLock}
-use Rattle.board.specs.Board.{Board, linesOf, workersOf}
-use Rattle.board.specs.State.{allFree, conditionOf, conditioned, isFree, updates, updatesUnder, lockOf, afterRelease, released, started}
-use Rattle.board.specs.Causes.{causes, cause, badRecord}
+use Rattle.board.specs.Board.{Board, workersOf}
+use Rattle.board.specs.State.{allFree, conditionOf, conditioned, isFree, updates, updatesUnder, lockOf, afterRelease, released}
+use Rattle.board.specs.Causes.{causes, badRecord}
 use Rattle.board.specs.Effects.{firstStore, afterLast, advance, advanceOf, effect}
-use Rattle.board.specs.Next.{Taken, Performed, kind, isStart}
+use Rattle.board.specs.Next.{Taken, kind, isStart}
 use Rattle.board.specs.Locks.{FromStart, starts, performs, pages}
-use Rattle.board.proofs.Laws.Bools.{on, split, clash, or-left, and-left, and-right, and-both, not-off}
+use Rattle.board.proofs.Laws.Bools.{on, split, clash, or-left, and-left, and-both, not-off}
 use Rattle.board.proofs.Laws.Count.{at-each}
 use Rattle.board.proofs.Laws.Taken.{standsAt, passed, performed-taken, performed-refused, page-board, record-within, workers-in}
 use Rattle.board.proofs.Laws.Workers.{is-free, condition-at, condition-other, busy-within, free-condition, released-condition}

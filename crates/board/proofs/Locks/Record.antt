@@ -1,10 +1,9 @@
 -- What a step leaves of the state record, and that no call but four changes a lock's holder.
 use Prim.Native.Nat.{ℕ, _+_}
-use mathlib.Core.Path.{_≡_, refl, sym, ap, subst, _∙_}
+use mathlib.Core.Path.{_≡_, refl, sym, subst}
 use mathlib.Core.List.{List}
-use mathlib.Core.Bool.{Bool, false, cond, _||_, true≢false}
-use lib.Dec.{leb, eqb}
-use borrow.Author.Tests.{eqb-true, eqb-false}
+use mathlib.Core.Bool.{false, _||_, true≢false}
+use lib.Dec.{leb}
 use Rattle.board.specs.declared.State.{State}
 use Rattle.board.specs.declared.Condition.{Condition}
 use Rattle.board.specs.declared.Condition.the-variants.{Free, Waiting, Updating, Away}
@@ -17,11 +16,10 @@ use Rattle.board.specs.declared.Call.{Call}
 use Rattle.board.specs.declared.Call.the-variants.{FormatStart, RecoveryStart, Step, Update, RestartPoint, Advance, Request, WriteBack, Read, GoAway, ComeBack, Count, TakeLock, GiveBackLock}
 use Rattle.board.specs.Board.{Board}
 use Rattle.board.specs.State.{conditionOf, placed, opened, released, dirtyCount}
-use Rattle.board.specs.Causes.{cause}
 use Rattle.board.specs.Effects.{Act, performAct, pastCell, formatStep, step, advance, advanceOf, effect}
 use Rattle.board.specs.Next.{next, taken, kind, isStart}
 use Rattle.board.specs.Locks.{moves, HoldersStay}
-use Rattle.board.proofs.Laws.Bools.{on, decide}
+use Rattle.board.proofs.Laws.Bools.{on}
 use Rattle.board.proofs.Recovery.Board.{recovery-cases, past-cases}
 use Rattle.board.proofs.Checkpoint.Acts.{act-cases, effect-acts}
 

@@ -2,10 +2,10 @@
 use Prim.Native.Nat.{ℕ, _*_, _%_, _≤_, _<_}
 use mathlib.Core.Path.{_≡_, refl, sym, ap, subst, _∙_}
 use mathlib.Core.Logic.{_⊎_, inl, inr, _↔_}
-use mathlib.Core.Bool.{Bool, true, false, cond, not, _&&_, _||_, true≢false, false≢true}
+use mathlib.Core.Bool.{Bool, true, false, cond, not, _&&_, true≢false}
 use native.Mathlib.Omega.{arith}
 use lib.Dec.{leb, ltb, eqb}
-use borrow.Author.Tests.{leb-false, ltb-false, lt-leb, le-ltb, le-leb, leb-true, eq-eqb, ne-eqb, eqb-true, eqb-false}
+use borrow.Author.Tests.{leb-false, ltb-false, lt-leb, le-ltb, le-leb, leb-true, eq-eqb, ne-eqb, eqb-true}
 use Rattle.locks.specs.Holders.{holds, unheld, heldBy, givenBack}
 use Rattle.locks.proofs.Holders.{any-none, none-any, one-holder, free-none, none-free, held-own, held-other, back-unheld, back-other, from-under}
 use Rattle.board.specs.declared.State.{State}
@@ -21,9 +21,9 @@ use Rattle.board.specs.Effects.{stated, effect}
 use Rattle.board.specs.Next.{Taken, next, Performed, kind, isStart}
 use Rattle.board.specs.Sequence as sequence
 use Rattle.board.specs.Machine.{Machine}
-use Rattle.board.specs.Sequence.{Run, Takes, Begins, Happens, History, called, takenCall, unfed}
-use Rattle.board.specs.Locks.{FromStart, starts, performs, pages, NoConflict, Held, LocksHeld, OneHolder, HeldOrFree, FreeWorker, NoneUnder, LocksDecide, LockAnswers, OnlyHolders, TakesLock, GivesLockBack}
-use Rattle.board.proofs.Laws.Bools.{decide, split, clash, or-left, or-right, or-none, and-left, and-right, and-both, and-if, and-not, not-off, not-on}
+use Rattle.board.specs.Sequence.{Run, Takes, Begins, History, called, takenCall, unfed}
+use Rattle.board.specs.Locks.{FromStart, starts, performs, pages, NoConflict, LocksHeld, OneHolder, HeldOrFree, FreeWorker, NoneUnder, LockAnswers, OnlyHolders, TakesLock, GivesLockBack}
+use Rattle.board.proofs.Laws.Bools.{decide, split, clash, or-left, or-right, or-none, and-both, and-if, not-off, not-on}
 use Rattle.board.proofs.Laws.Taken.{Clear, take, standsAt, passed, performed-number, taken-next, record-within, workers-in}
 use Rattle.board.proofs.Laws.Workers.{is-free}
 use Rattle.board.proofs.Laws.Reading.{Passes, running-passes}
@@ -147,9 +147,22 @@ module _ (b : Board) (y : Passes b) (i : LockInv (b .state)) where
           not-off (holds (s .holders) w (lockOf c)) (pass t 16),
         ),
         λ h.
-            take (Update w c v) b (y .phase, (y .state, (y .rows, (lt-leb (s .workers) w (h .0 .there),
-            (or-none (ltb c (s .workers)) (leb (cells (s .lines)) c) (le-ltb c (s .workers) (h .1)) (lt-leb (cells (s .lines)) c (h .2)),
-            (busy-off w (h .0), (not-on (holds (s .holders) w (lockOf c)) (h .3), (none-other s w c i (λ l. h .3) (λ l. absurd (omega (arith, h .1))), tt)))))))),
+            take (Update w c v) b (
+              y .phase,
+              (
+                y .state,
+                (
+                  y .rows,
+                  (
+                    lt-leb (s .workers) w (h .0 .there),
+                    (
+                      or-none (ltb c (s .workers)) (leb (cells (s .lines)) c) (le-ltb c (s .workers) (h .1)) (lt-leb (cells (s .lines)) c (h .2)),
+                      (busy-off w (h .0), (not-on (holds (s .holders) w (lockOf c)) (h .3), (none-other s w c i (λ l. h .3) (λ l. absurd (omega (arith, h .1))), tt))),
+                    ),
+                  ),
+                ),
+              ),
+            ),
       )
 
   restart-taken : (w v : ℕ) → Taken (RestartPoint w v) b ↔ (FreeWorker s w × None (s .holders) w)

@@ -1,5 +1,4 @@
 -- The table of refusals: document 02, ticket 5: the count, and what a line's bit means to every call.
-use Prim.Native.Nat.{_-_}
 use mathlib.Core.List.{List, [], _∷_, _++_}
 use lib.ListN.{replicate}
 use Rattle.board.specs.declared.Condition.the-variants.{Waiting, Updating}
