@@ -3,6 +3,7 @@
 pub mod order;
 
 use board::State;
+use checks::holders;
 use checks::limits;
 use checks::marks;
 use checks::phases;
@@ -67,7 +68,7 @@ pub fn of_step(state: State, memory: &[u64], cache: &[u64]) -> u8
     })
 }
 
-// An update looks at the worker and the data cell, and at what the other workers update.
+// An update looks at the worker, the data cell and its lock, and at what the other workers update.
 pub fn of_update(state: State, memory: &[u64], cache: &[u64], worker: u64, cell: u64) -> u8
     ensures { λ r. ⌜ ((v : ℕ) → r ≡ cause (Call.Update worker cell v)
         (lent state (now (memory .entry)) (now (cache .entry)))) ⌝ }
@@ -79,12 +80,13 @@ pub fn of_update(state: State, memory: &[u64], cache: &[u64], worker: u64, cell:
         worker: record::no_worker(state, worker),
         address: record::no_data_cell(state, cell),
         condition: record::busy(state, worker),
+        holder: holders::not_holder(state, worker, holders::lock_of(cell)),
         conflict: record::others_update(state, worker, cell),
         ..NONE
     })
 }
 
-// A restart point is an update of the worker's own cell, which is no data cell.
+// A restart point is an update of the worker's own cell, which is no data cell; the worker must hold no lock.
 pub fn of_restart_point(state: State, memory: &[u64], cache: &[u64], worker: u64) -> u8
     ensures { λ r. ⌜ ((v : ℕ) → r ≡ cause (Call.RestartPoint worker v)
         (lent state (now (memory .entry)) (now (cache .entry)))) ⌝ }
@@ -95,6 +97,7 @@ pub fn of_restart_point(state: State, memory: &[u64], cache: &[u64], worker: u64
         rows: rows::bad_rows(state.lines, memory, cache),
         worker: record::no_worker(state, worker),
         condition: record::busy(state, worker),
+        holder: holders::holder(state, worker),
         conflict: record::others_update(state, worker, worker),
         ..NONE
     })
@@ -170,7 +173,7 @@ pub fn of_count(state: State, memory: &[u64], cache: &[u64]) -> u8
     })
 }
 
-// Going away looks at the worker, which must be free.
+// Going away looks at the worker, which must be free and hold no lock.
 pub fn of_go_away(state: State, memory: &[u64], cache: &[u64], worker: u64) -> u8
     ensures { λ r. ⌜ r ≡ cause (Call.GoAway worker)
         (lent state (now (memory .entry)) (now (cache .entry))) ⌝ }
@@ -181,6 +184,7 @@ pub fn of_go_away(state: State, memory: &[u64], cache: &[u64], worker: u64) -> u
         rows: rows::bad_rows(state.lines, memory, cache),
         worker: record::no_worker(state, worker),
         condition: record::busy(state, worker),
+        holder: holders::holder(state, worker),
         ..NONE
     })
 }
@@ -197,6 +201,40 @@ pub fn of_come_back(state: State, memory: &[u64], cache: &[u64], worker: u64) ->
         worker: record::no_worker(state, worker),
         condition: record::not_away(state, worker),
         begun: record::checkpoint_begun(state),
+        ..NONE
+    })
+}
+
+// Taking a lock looks at the worker, which must be free, and at the lock, which nobody may hold.
+pub fn of_take_lock(state: State, memory: &[u64], cache: &[u64], worker: u64, lock: u64) -> u8
+    ensures { λ r. ⌜ r ≡ cause (Call.TakeLock worker lock)
+        (lent state (now (memory .entry)) (now (cache .entry))) ⌝ }
+{
+    first(Causes {
+        phase: phases::not_running(state),
+        state: record::bad_record(state),
+        rows: rows::bad_rows(state.lines, memory, cache),
+        worker: record::no_worker(state, worker),
+        lock: holders::no_lock(lock),
+        condition: record::busy(state, worker),
+        holder: holders::lock_held(state, lock),
+        ..NONE
+    })
+}
+
+// Giving a lock back looks at the worker, which must hold it and have no unfinished update under it.
+pub fn of_give_back_lock(state: State, memory: &[u64], cache: &[u64], worker: u64, lock: u64) -> u8
+    ensures { λ r. ⌜ r ≡ cause (Call.GiveBackLock worker lock)
+        (lent state (now (memory .entry)) (now (cache .entry))) ⌝ }
+{
+    first(Causes {
+        phase: phases::not_running(state),
+        state: record::bad_record(state),
+        rows: rows::bad_rows(state.lines, memory, cache),
+        worker: record::no_worker(state, worker),
+        lock: holders::no_lock(lock),
+        condition: holders::updates_under(state, worker, lock),
+        holder: holders::not_holder(state, worker, lock),
         ..NONE
     })
 }

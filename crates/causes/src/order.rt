@@ -21,11 +21,15 @@ pub const MARK: u8 = 14;
 pub const WORKER: u8 = 6;
 // "update of a cell under W or 2L or more; read of 2L or more; line over L"
 pub const ADDRESS: u8 = 7;
+// "a lock number of 16 or more, after 7"
+pub const LOCK: u8 = 15;
 // "update or restart point by a worker not free; advance of one free or waiting"; "going away when not free or coming
-// back when not away"
+// back when not away"; a lock taken by one not free, or given back in the middle of an update under it
 pub const CONDITION: u8 = 8;
 // "coming back after a checkpoint's first step and before its release, after 8"
 pub const BEGUN: u8 = 13;
+// "a lock needed or given back and not held, taken and not free, or held at a restart point or on going away, after 8"
+pub const HOLDER: u8 = 16;
 // "start of an update or restart point: another worker under W has an unfinished update of the same cell"
 pub const CONFLICT: u8 = 9;
 // "request while one stands; running step with none requested, or with a worker under W not waiting"
@@ -45,8 +49,10 @@ pub struct Causes {
     pub mark: bool,
     pub worker: bool,
     pub address: bool,
+    pub lock: bool,
     pub condition: bool,
     pub begun: bool,
+    pub holder: bool,
     pub conflict: bool,
     pub checkpoint: bool,
     pub epoch: bool,
@@ -63,8 +69,10 @@ pub const NONE: Causes = Causes {
     mark: false,
     worker: false,
     address: false,
+    lock: false,
     condition: false,
     begun: false,
+    holder: false,
     conflict: false,
     checkpoint: false,
     epoch: false,
@@ -78,7 +86,7 @@ fn earlier(stands: bool, number: u8, later: u8) -> u8
     if stands { number } else { later }
 }
 
-// "Checked in rising order of number", 14 "after 5" and 13 "after 8": from the last row of the table up, each goes before those after it.
+// "Checked in rising order of number", 14 "after 5", 15 "after 7", 13 and then 16 "after 8": from the last row of the table up, each goes before those after it.
 pub fn first(c: Causes) -> u8
     ensures { λ r. ⌜ r ≡ firstOf c ⌝ }
 {
@@ -86,8 +94,10 @@ pub fn first(c: Causes) -> u8
     let n = earlier(c.epoch, EPOCH, n);
     let n = earlier(c.checkpoint, CHECKPOINT, n);
     let n = earlier(c.conflict, CONFLICT, n);
+    let n = earlier(c.holder, HOLDER, n);
     let n = earlier(c.begun, BEGUN, n);
     let n = earlier(c.condition, CONDITION, n);
+    let n = earlier(c.lock, LOCK, n);
     let n = earlier(c.address, ADDRESS, n);
     let n = earlier(c.worker, WORKER, n);
     let n = earlier(c.mark, MARK, n);

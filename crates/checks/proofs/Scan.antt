@@ -10,6 +10,7 @@ use lib.ListN.{length, length-map}
 use borrow.Author.Tests.{le-ltb, lt-ltb}
 use Rattle.bitset.specs.Passing.{anyUnder}
 use Rattle.bitset.specs.Words.{strays}
+use Rattle.locks.specs.Holders.{heldFrom}
 use Rattle.board.specs.declared.State.{State}
 use Rattle.board.specs.declared.Phase.{Phase}
 use Rattle.board.specs.declared.Phase.the-variants.{Off, Formatting, Recovering, Running}
@@ -77,15 +78,16 @@ waits-idle Bool.true (Updating next c v) test e = absurd (true≢false e)
 waits-idle Bool.true Away test e = refl
 
 -- The place is told by the head and the dirty lines.
-place-told : (phase : Phase) (s : State) → placePast phase (headed (headOf s) (s .dirty)) ≡ placePast phase s
+place-told : (phase : Phase) (s : State) → placePast phase (headed (headOf s) (s .holders) (s .dirty)) ≡ placePast phase s
 place-told Off s = refl
 place-told Formatting s = refl
 place-told Recovering s = refl
 place-told Running s = refl
 
 -- So is all of cause 3 but the workers' updates.
-pub head-told : (s : State) → badHead (headed (headOf s) (s .dirty)) ≡ badHead s
-head-told s = ap (λ (past : Bool). outside (s .lines) (s .workers) || strays (s .dirty) (s .lines) || past) (place-told (s .phase) s)
+pub head-told : (s : State) → badHead (headed (headOf s) (s .holders) (s .dirty)) ≡ badHead s
+head-told s =
+    ap (λ (past : Bool). outside (s .lines) (s .workers) || strays (s .dirty) (s .lines) || heldFrom (s .holders) (s .workers) || past) (place-told (s .phase) s)
 
 -- The record of a running step that is ready is told without its workers: all workers under W wait or are away, so that none has an update.
 pub ready-record : {running unready : Bool} (s : State) → running ≡ isRunning (s .phase) → unready ≡ notReady s → running && not unready ≡ true → badHead s ≡ badRecord s

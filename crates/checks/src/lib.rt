@@ -1,4 +1,5 @@
-// One function for each test of document 01's cause table, and a worker's condition.
+// One function for each test of the cause table of documents 01 and 02, and a worker's condition.
+pub mod holders;
 pub mod limits;
 pub mod marks;
 pub mod phases;

@@ -7,14 +7,14 @@ use board::Phase;
 use board::State;
 ghost use mathlib.Core.Path.{_≡_};
 ghost use mathlib.Core.Bool.{_&&_};
-ghost use Prim.Native.Nat.{_+_};
+ghost use Prim.Native.Nat.{ℕ, _+_};
 ghost use lib.Dec.{ltb};
 ghost use Rattle.bitset.specs.Words.{size};
 ghost use Rattle.board.specs.State.{othersUpdate};
 ghost use Rattle.checks.specs.Head.{headOf, headed, badHead};
 ghost use Rattle.board.specs.Causes.{placePast, badRecord, noWorker, noDataCell, noCell, noLine, busy, idle, notAway, checkpointBegun, notReady, checkpointing};
 
-// The record without the dirty lines and the workers: what cause 3 tests it by, so that the whole record is passed to no
+// The record without the holders, the dirty lines and the workers: what cause 3 tests it by, so that the whole record is passed to no
 // function that the compiler leaves in one place (docs/BENCH.md).
 pub struct Head {
     pub phase: Phase,
@@ -51,7 +51,7 @@ fn past_release(head: Head, dirty: [u64; 8]) -> bool
 
 // "place over L+1 in a format, a cell over 2L−1 in a recovery, over n+2 when running with a checkpoint requested"
 fn place_past(head: Head, dirty: [u64; 8]) -> bool
-    ensures { λ r. ⌜ r ≡ placePast (head .phase) (headed head dirty) ⌝ }
+    ensures { λ r. ⌜ ((holders : ℕ) → r ≡ placePast (head .phase) (headed head holders dirty)) ⌝ }
 {
     let phase = head.phase;
     match phase {
@@ -62,12 +62,14 @@ fn place_past(head: Head, dirty: [u64; 8]) -> bool
     }
 }
 
-// "L or W outside the limits; place ..", "A bit set for line 0 or past L": all of cause 3 but the workers' updates
-fn bad_head(head: Head, dirty: [u64; 8]) -> bool
-    ensures { λ r. ⌜ r ≡ badHead (headed head dirty) ⌝ }
+// "L or W outside the limits; place ..", "A bit set for line 0 or past L", "each lock's holder, a worker under W or none":
+// all of cause 3 but the workers' updates
+fn bad_head(head: Head, holders: u64, dirty: [u64; 8]) -> bool
+    ensures { λ r. ⌜ r ≡ badHead (headed head holders dirty) ⌝ }
 {
     limits::outside(head.lines as u64, head.workers as u64)
         | bitset::strays(dirty, head.lines as u64)
+        | locks::held_from(holders, head.workers as u64)
         | place_past(head, dirty)
 }
 
@@ -77,7 +79,8 @@ pub fn bad_record(state: State) -> bool
 {
     let dirty = state.dirty;
     let cells = board::cells(state.lines);
-    bad_head(head_of(state), dirty) | workers::any_worker(state, Sought::CellFrom(cells))
+    bad_head(head_of(state), state.holders, dirty)
+        | workers::any_worker(state, Sought::CellFrom(cells))
 }
 
 // The same of a step, once it is known whether it is ready: all workers of a running step that is ready wait or are
@@ -89,7 +92,7 @@ pub fn bad_step_record(state: State, unready: bool) -> bool
     let dirty = state.dirty;
     let phase = state.phase;
     if phases::is_running(phase) & !unready {
-        return bad_head(head_of(state), dirty);
+        return bad_head(head_of(state), state.holders, dirty);
     }
     bad_record(state)
 }
@@ -122,7 +125,7 @@ pub fn no_line(state: State, line: u64) -> bool
     (state.lines as u64) < line
 }
 
-// "update or restart point by a worker not free"; "going away when not free"
+// "update or restart point by a worker not free"; "going away when not free"; a lock taken by one not free
 pub fn busy(state: State, worker: u64) -> bool
     ensures { λ r. ⌜ r ≡ busy state worker ⌝ }
 {

@@ -8,12 +8,12 @@ use Rattle.board.specs.declared.State.{State}
 use Rattle.board.specs.Board.{Board}
 use Rattle.board.specs.Next.{lent}
 use Rattle.script.specs.declared.Damage.{Damage}
-use Rattle.script.specs.declared.Damage.the-variants.{Lengths, Memory, Cache, Dirty, Field, Worker, Checksum}
+use Rattle.script.specs.declared.Damage.the-variants.{Lengths, Memory, Cache, Dirty, Field, Worker, Holder, Checksum}
 use Rattle.script.specs.declared.Shown.{Shown}
 use Rattle.script.specs.declared.Shown.the-variants.{Nothing, Number}
 use Rattle.damage.specs.declared.Sizes.{Sizes}
 use Rattle.damage.specs.declared.Damaged.{Damaged}
-use Rattle.damage.specs.Record.{fieldFits, fieldPut, wordThere, wordPut, workerFits, workerPut}
+use Rattle.damage.specs.Record.{fieldFits, fieldPut, wordThere, wordPut, workerFits, workerPut, holderFits, holderPut}
 use Rattle.damage.specs.Rows.{resized, wordFits, storedIf, Stored}
 use Rattle.damage.specs.Checksum.{checksum}
 use Rattle.damage.specs.Damages.{Outcome, showing, answerIf, roomFor, relengthened, outcome, inUse, left, Within}
@@ -76,6 +76,10 @@ module _ (state : State) (s : Sizes) (m c : List ℕ) where
   pub worker-put : (w′ k n a v : ℕ) (put : Bool) (after : State) → (put ≡ workerFits w′ k n a v) × (after ≡ workerPut state w′ k n a v) → showing (inUse after s m c) (answerIf put) Nothing ≡ outcome (Worker w′ k n a v) (inUse state s m c)
   unfolding outcome
   worker-put w′ k n a v put after w = put-anew (workerFits w′ k n a v) put (workerPut state w′ k n a v) after w
+
+  pub holder-put : (k h : ℕ) (put : Bool) (after : State) → (put ≡ holderFits k h) × (after ≡ holderPut state k h) → showing (inUse after s m c) (answerIf put) Nothing ≡ outcome (Holder k h) (inUse state s m c)
+  unfolding outcome
+  holder-put k h put after w = put-anew (holderFits k h) put (holderPut state k h) after w
 
   pub sum-shown : (sum : ℕ) → sum ≡ checksum (inUse state s m c) → showing (inUse state s m c) (Number 0) (Number sum) ≡ outcome Checksum (inUse state s m c)
   unfolding outcome

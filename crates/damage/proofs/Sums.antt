@@ -8,7 +8,7 @@ use native.Mathlib.Numerals.{add-one}
 use lib.ListN.{length, drop, getD, drop-of-length-le}
 use lib.Seq.{drop-cons}
 use Rattle.board.specs.Board.{Board}
-use Rattle.damage.specs.Checksum.{mixed, summed, fieldNumbers, workersNumbers, dirtyNumbers, rowNumbers, checksum}
+use Rattle.damage.specs.Checksum.{mixed, summed, fieldNumbers, workersNumbers, dirtyNumbers, holdersNumbers, rowNumbers, checksum}
 
 -- The product by 2^40 + 435 mod 2^64, from the low 24 bits and two halves.
 pub spread-parts : (y : ℕ) → ((y % 16777216 * 1099511627776 + y / 4294967296 * 435 % 4294967296 * 4294967296) % 2 ^ 64 + y % 4294967296 * 435) % 2 ^ 64 ≡ (y * 1099511628211) % 2 ^ 64
@@ -60,16 +60,20 @@ pub mixing-all : {whole reached i : ℕ} {row : List ℕ} → Mixing whole row r
 unfolding summed
 mixing-all {whole} {reached} {i} {row} m past = sym (m .rest ∙ ap (summed reached) (drop-of-length-le row past))
 
--- Five parts, one after the other.
-five-parts : (h : ℕ) (a b c d e : List ℕ) → summed h (a ++ b ++ c ++ d ++ e) ≡ summed (summed (summed (summed (summed h a) b) c) d) e
-five-parts h a b c d e = simp summed-append
+-- Four parts, one after the other.
+pub four-parts : (h : ℕ) (a b c d : List ℕ) → summed h (a ++ b ++ c ++ d) ≡ summed (summed (summed (summed h a) b) c) d
+four-parts h a b c d = simp summed-append
 
--- Eight parts, one after the other.
+-- Six parts.
+six-parts : (h : ℕ) (a b c d e f : List ℕ) → summed h (a ++ b ++ c ++ d ++ e ++ f) ≡ summed (summed (summed (summed (summed (summed h a) b) c) d) e) f
+six-parts h a b c d e f = simp summed-append
+
+-- Eight parts.
 pub eight-parts : (h : ℕ) (a b c d e f g i : List ℕ) → summed h (a ++ b ++ c ++ d ++ e ++ f ++ g ++ i) ≡ summed (summed (summed (summed (summed (summed (summed (summed h a) b) c) d) e) f) g) i
 eight-parts h a b c d e f g i = simp summed-append
 
 -- Everything, part by part.
-pub checksum-parts : (b : Board) → checksum b ≡ summed (summed (summed (summed (summed 14695981039346656037 (fieldNumbers (b .state))) (workersNumbers (b .state))) (dirtyNumbers (b .state))) (rowNumbers (b .memory))) (rowNumbers (b .cache))
+pub checksum-parts : (b : Board) → checksum b ≡ summed (summed (summed (summed (summed (summed 14695981039346656037 (fieldNumbers (b .state))) (workersNumbers (b .state))) (dirtyNumbers (b .state))) (holdersNumbers (b .state))) (rowNumbers (b .memory))) (rowNumbers (b .cache))
 unfolding checksum
 checksum-parts b =
-    five-parts 14695981039346656037 (fieldNumbers (b .state)) (workersNumbers (b .state)) (dirtyNumbers (b .state)) (rowNumbers (b .memory)) (rowNumbers (b .cache))
+    six-parts 14695981039346656037 (fieldNumbers (b .state)) (workersNumbers (b .state)) (dirtyNumbers (b .state)) (holdersNumbers (b .state)) (rowNumbers (b .memory)) (rowNumbers (b .cache))

@@ -1,17 +1,19 @@
 -- What is put is what is read back.
-use Prim.Native.Nat.{ℕ, zero, suc, _≤_, _<_}
+use Prim.Native.Nat.{ℕ, zero, suc, _-_, _≤_, _<_}
 use mathlib.Core.Path.{_≡_, refl, sym, ap, _∙_}
-use mathlib.Core.Bool.{true, false, _&&_}
+use mathlib.Core.Bool.{true, false, cond, _&&_}
 use mathlib.Core.List.{List, [], _∷_}
 use native.Mathlib.Omega.{arith}
-use lib.Dec.{leb, eqb}
+use lib.Dec.{leb, ltb, eqb}
 use lib.ListN.{length, getD, set, length-set}
 use lib.Seq.{ext-getD}
-use borrow.Author.Tests.{leb-true, eqb-true, ne-eqb}
-use Rattle.board.proofs.Laws.Bools.{clash, and-left, and-right}
-use Rattle.damage.specs.Record.{phaseOf, undoOf, storeOf, fieldFits, withField, unused, conditionFits, conditionOf}
-use Rattle.damage.specs.Checksum.{phaseNumber, undoNumber, storeNumber, requestNumber}
-use Rattle.damage.specs.Damages.{FieldsReadBack, WordsReadBack, WorkersReadBack}
+use borrow.Author.Tests.{leb-true, eqb-true, eqb-false, ne-eqb}
+use Rattle.locks.specs.Holders.{digitOf, heldBy, givenBack}
+use Rattle.locks.proofs.Holders.{digit-own, digit-other}
+use Rattle.board.proofs.Laws.Bools.{on, split, clash, and-left, and-right, chosen, passedOver}
+use Rattle.damage.specs.Record.{phaseOf, undoOf, storeOf, fieldFits, withField, unused, conditionFits, conditionOf, withHolder}
+use Rattle.damage.specs.Checksum.{phaseNumber, undoNumber, storeNumber, requestNumber, holderNumber}
+use Rattle.damage.specs.Damages.{FieldsReadBack, WordsReadBack, WorkersReadBack, HoldersReadBack}
 
 phase-back : (v : ℕ) → v ≤ 3 → phaseNumber (phaseOf v) ≡ v
 phase-back zero h = refl
@@ -98,3 +100,25 @@ workers-back (suc (suc zero)) n a v fits =
     ap (λ (x : ℕ). 2 ∷ x ∷ a ∷ v ∷ []) (store-back n (leb-true n 2 (and-left (leb n 2) (leb a 65535) fits)))
 workers-back (suc (suc (suc zero))) n a v fits = zeros-back 3 n a v fits
 workers-back (suc (suc (suc (suc c)))) n a v fits = absurd (clash fits (no-condition (suc (suc (suc (suc c)))) n a v (omega arith)))
+
+-- A digit of four bits as the holder that it means.
+read-digit : (d : ℕ) → ℕ
+read-digit d = cond (eqb d 0) 8 (d - 1)
+
+read-suc : (h : ℕ) → read-digit (suc h) ≡ h
+unfolding read-digit
+read-suc h = passedOver (eqb (suc h) 0) 8 (suc h - 1) (ne-eqb (suc h) 0 (λ e. omega arith)) ∙ omega arith
+
+-- Each lock's holder.
+pub holders-back : HoldersReadBack
+unfolding read-digit
+holders-back holders k h fits =
+    let most = leb-true h 8 (and-right (ltb k 16) (leb h 8) fits) in (
+      split (eqb h 8)
+          (λ t. ap (λ (x : ℕ). holderNumber x k) (chosen (eqb h 8) (givenBack holders k) (heldBy holders k h) t) ∙ ap read-digit (digit-own holders k 0 (omega arith)) ∙ sym (eqb-true h 8 t))
+          (λ t. ap (λ (x : ℕ). holderNumber x k) (passedOver (eqb h 8) (givenBack holders k) (heldBy holders k h) t) ∙ ap read-digit (digit-own holders k (suc h) (omega arith)) ∙ read-suc h),
+      λ j other.
+          on (λ (x : ℕ). holderNumber x j ≡ holderNumber holders j) (eqb h 8) (givenBack holders k) (heldBy holders k h)
+          (λ t. ap read-digit (digit-other holders k 0 j (omega arith) other))
+          (λ t. ap read-digit (digit-other holders k (suc h) j (omega arith) other)),
+    )

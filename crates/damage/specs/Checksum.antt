@@ -1,9 +1,11 @@
 -- The fault program's checksum of numbers, and the numbers of everything.
-use Prim.Native.Nat.{ℕ, _*_, _%_, _^_}
-use mathlib.Core.Bool.{Bool, true, false}
+use Prim.Native.Nat.{ℕ, _+_, _-_, _*_, _%_, _^_}
+use mathlib.Core.Bool.{Bool, true, false, cond}
 use mathlib.Core.List.{List, [], _∷_, _++_}
+use lib.Dec.{eqb}
 use lib.Bits.{bitXor}
 use lib.ListN.{length, getD}
+use Rattle.locks.specs.Holders.{digitOf}
 use Rattle.board.specs.declared.State.{State}
 use Rattle.board.specs.declared.Phase.{Phase}
 use Rattle.board.specs.declared.Phase.the-variants.{Off, Formatting, Recovering, Running}
@@ -79,14 +81,28 @@ abbrev pub dirtyNumbers : State → List ℕ
 dirtyNumbers s =
     getD (s .dirty) 0 0 ∷ getD (s .dirty) 1 0 ∷ getD (s .dirty) 2 0 ∷ getD (s .dirty) 3 0 ∷ getD (s .dirty) 4 0 ∷ getD (s .dirty) 5 0 ∷ getD (s .dirty) 6 0 ∷ getD (s .dirty) 7 0 ∷ []
 
+-- Lock `k`'s holder as in `O`: "a worker 0 to 7, or 8 for none".
+abbrev pub holderNumber : ℕ → ℕ → ℕ
+holderNumber holders k = cond (eqb (digitOf holders k) 0) 8 (digitOf holders k - 1)
+
+-- Those of four locks from lock `k` on.
+abbrev pub fourHolders : ℕ → ℕ → List ℕ
+fourHolders holders k =
+    holderNumber holders k ∷ holderNumber holders (k + 1) ∷ holderNumber holders (k + 2) ∷ holderNumber holders (k + 3) ∷ []
+
+-- "the sixteen holders as in `O`".
+unfoldable pub holdersNumbers : State → List ℕ
+holdersNumbers s =
+    fourHolders (s .holders) 0 ++ fourHolders (s .holders) 4 ++ fourHolders (s .holders) 8 ++ fourHolders (s .holders) 12
+
 -- "its length, then its words".
 abbrev pub rowNumbers : List ℕ → List ℕ
 rowNumbers row = length row ∷ row
 
--- "in this order: the fields, the workers, the words of bits, then memory and the cache".
+-- "in this order: the fields, the workers, the words of bits, the holders, then memory and the cache".
 abbrev pub everything : Board → List ℕ
 everything b =
-    fieldNumbers (b .state) ++ workersNumbers (b .state) ++ dirtyNumbers (b .state) ++ rowNumbers (b .memory) ++ rowNumbers (b .cache)
+    fieldNumbers (b .state) ++ workersNumbers (b .state) ++ dirtyNumbers (b .state) ++ holdersNumbers (b .state) ++ rowNumbers (b .memory) ++ rowNumbers (b .cache)
 
 -- "the checksum of everything".
 unfoldable pub checksum : Board → ℕ

@@ -9,14 +9,14 @@ use Rattle.board.specs.declared.State.{State}
 use Rattle.board.specs.Board.{Board}
 use Rattle.board.specs.Next.{lent}
 use Rattle.script.specs.declared.Damage.{Damage}
-use Rattle.script.specs.declared.Damage.the-variants.{Lengths, Memory, Cache, Dirty, Field, Worker, Checksum}
+use Rattle.script.specs.declared.Damage.the-variants.{Lengths, Memory, Cache, Dirty, Field, Worker, Holder, Checksum}
 use Rattle.script.specs.declared.Shown.{Shown}
 use Rattle.script.specs.declared.Shown.the-variants.{Unknown, Nothing, Number}
 use Rattle.damage.specs.declared.Sizes.{Sizes}
 use Rattle.damage.specs.declared.Damaged.{Damaged}
-use Rattle.damage.specs.Record.{fieldFits, withField, fieldPut, wordThere, withWord, wordPut, conditionFits, conditionOf, workerFits, workerPut}
+use Rattle.damage.specs.Record.{fieldFits, withField, fieldPut, wordThere, withWord, wordPut, conditionFits, conditionOf, workerFits, workerPut, holderFits, withHolder, holderPut}
 use Rattle.damage.specs.Rows.{resized, wordFits, storedIf}
-use Rattle.damage.specs.Checksum.{fieldNumbers, dirtyNumbers, conditionNumbers, checksum}
+use Rattle.damage.specs.Checksum.{fieldNumbers, dirtyNumbers, conditionNumbers, holderNumber, checksum}
 
 -- What a line leaves and shows: the board, the answer and the value.
 pub record Outcome : Type 0 where
@@ -58,6 +58,9 @@ outcome (Field k v) b =
 -- "K w c n a v": worker w gets condition c.
 outcome (Worker w c n a v) b =
     showing (lent (workerPut (b .state) w c n a v) (b .memory) (b .cache)) (answerIf (workerFits w c n a v)) Nothing
+-- "O k h": lock k's holder := h.
+outcome (Holder k h) b =
+    showing (lent (holderPut (b .state) k h) (b .memory) (b .cache)) (answerIf (holderFits k h)) Nothing
 -- "T": nothing; the checksum of everything.
 outcome Checksum b = showing b (Number 0) (Number (checksum b))
 
@@ -78,6 +81,12 @@ WordsReadBack = (s : State) (i v : ℕ) → length (s .dirty) ≡ 8 → dirtyNum
 -- The numbers that put a worker are those that are read of it: "c, n, a, v as in `K`".
 abbrev pub WorkersReadBack : Type 0
 WorkersReadBack = (c n a v : ℕ) → conditionFits c n a v ≡ true → conditionNumbers (conditionOf c n a v) ≡ c ∷ n ∷ a ∷ v ∷ []
+
+-- A lock's holder that was put is what is read of it, "as in `O`", and those of the other locks are as they were.
+abbrev pub HoldersReadBack : Type 0
+HoldersReadBack =
+    (holders k h : ℕ) → holderFits k h ≡ true →
+    (holderNumber (withHolder holders k h) k ≡ h) × ((j : ℕ) → (j ≡ k → ⊥) → holderNumber (withHolder holders k h) j ≡ holderNumber holders j)
 
 -- ---- what contracts say
 

@@ -1,4 +1,4 @@
--- The fault program's `B k v`, `Q i v` and `K w c n a v`: the state record with a field, a word of the dirty lines' bits or a worker put anew.
+-- The fault program's `B k v`, `Q i v`, `K w c n a v` and `O k h`: the state record with a field, a word of the dirty lines' bits, a worker or a lock's holder put anew.
 use Prim.Native.Nat.{ℕ}
 use mathlib.Core.Bool.{Bool, false, cond, _&&_}
 use lib.Dec.{leb, ltb, eqb}
@@ -12,7 +12,8 @@ use Rattle.board.specs.declared.UndoStep.{UndoStep}
 use Rattle.board.specs.declared.UndoStep.the-variants.{Restore, Unmark, WriteLine}
 use Rattle.board.specs.declared.Condition.{Condition}
 use Rattle.board.specs.declared.Condition.the-variants.{Free, Waiting, Updating, Away}
-use Rattle.board.specs.State.{conditioned}
+use Rattle.locks.specs.Holders.{lockCount, heldBy, givenBack}
+use Rattle.board.specs.State.{conditioned, locked}
 
 -- "0 off, 1 formatting, 2 recovering, 3 running".
 abbrev pub phaseOf : ℕ → Phase
@@ -41,6 +42,7 @@ withField s k v =
       place = cond (eqb k 4) v (s .place);
       undo = cond (eqb k 5) (undoOf v) (s .undo);
       requested = cond (eqb k 6) (eqb v 1) (s .requested);
+      holders = s .holders;
       dirty = s .dirty;
       worker = s .worker;
     }
@@ -56,7 +58,7 @@ wordThere i = ltb i 8
 -- That word := v, all else as it was.
 abbrev pub withWord : State → ℕ → ℕ → State
 withWord s i v =
-    record { phase = s .phase; lines = s .lines; workers = s .workers; place = s .place; undo = s .undo; requested = s .requested; dirty = set (s .dirty) i v; worker = s .worker }
+    record { phase = s .phase; lines = s .lines; workers = s .workers; place = s .place; undo = s .undo; requested = s .requested; holders = s .holders; dirty = set (s .dirty) i v; worker = s .worker }
 
 -- The record after `Q i v`.
 abbrev pub wordPut : State → ℕ → ℕ → State
@@ -82,3 +84,15 @@ workerFits w c n a v = ltb w 8 && conditionFits c n a v
 -- The record after `K w c n a v`.
 abbrev pub workerPut : State → ℕ → ℕ → ℕ → ℕ → ℕ → State
 workerPut s w c n a v = cond (workerFits w c n a v) (conditioned s w (conditionOf c n a v)) s
+
+-- "lock k, 0 to 15: its holder := h, a worker 0 to 7, or 8 for none".
+abbrev pub holderFits : ℕ → ℕ → Bool
+holderFits k h = ltb k lockCount && leb h 8
+
+-- The holders with lock `k` held by worker `h`, or by nobody where `h` is 8.
+abbrev pub withHolder : ℕ → ℕ → ℕ → ℕ
+withHolder holders k h = cond (eqb h 8) (givenBack holders k) (heldBy holders k h)
+
+-- The record after `O k h`.
+abbrev pub holderPut : State → ℕ → ℕ → State
+holderPut s k h = cond (holderFits k h) (locked s (withHolder (s .holders) k h)) s

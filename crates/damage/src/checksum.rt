@@ -1,9 +1,9 @@
 // The checksum of everything, and of a text row.
 ghost use mathlib.Core.Path.{_≡_};
 ghost use mathlib.Core.List.{[], _∷_};
-ghost use Prim.Native.Nat.{_*_, _%_, _^_};
+ghost use Prim.Native.Nat.{_*_, _%_, _^_, _≤_};
 ghost use Rattle.board.specs.Next.{lent};
-ghost use Rattle.damage.specs.Checksum.{mixed, summed, phaseNumber, undoNumber, requestNumber, storeNumber, fieldNumbers, conditionNumbers, workersNumbers, dirtyNumbers, rowNumbers, checksumOf, checksum};
+ghost use Rattle.damage.specs.Checksum.{mixed, summed, phaseNumber, undoNumber, requestNumber, storeNumber, fieldNumbers, conditionNumbers, workersNumbers, dirtyNumbers, holderNumber, fourHolders, holdersNumbers, rowNumbers, checksumOf, checksum};
 use board::Condition;
 use board::Phase;
 use board::State;
@@ -167,6 +167,39 @@ fn mix_dirty(sum: u64, state: State) -> u64
     mix_four(half, dirty[4], dirty[5], dirty[6], dirty[7])
 }
 
+// A lock's holder as in "O": 8 for none.
+fn holder_number(holders: u64, lock: u64) -> u64
+    ensures { λ r. ⌜ r ≡ holderNumber holders lock ⌝ }
+{
+    let digit = locks::digit(holders, lock);
+    if digit == 0 { 8 } else { digit - 1 }
+}
+
+// The holders of four locks from `first` on.
+fn mix_holders_from(sum: u64, holders: u64, first: u64) -> u64
+    requires { ⌜ first ≤ 12 ⌝ }
+    ensures { λ r. ⌜ r ≡ summed sum (fourHolders holders first) ⌝ }
+{
+    mix_four(
+        sum,
+        holder_number(holders, first),
+        holder_number(holders, first + 1),
+        holder_number(holders, first + 2),
+        holder_number(holders, first + 3),
+    )
+}
+
+// "the sixteen holders".
+fn mix_holders(sum: u64, state: State) -> u64
+    ensures { λ r. ⌜ r ≡ summed sum (holdersNumbers state) ⌝ }
+{
+    let holders = state.holders;
+    let four = mix_holders_from(sum, holders, 0);
+    let eight = mix_holders_from(four, holders, 4);
+    let twelve = mix_holders_from(eight, holders, 8);
+    mix_holders_from(twelve, holders, 12)
+}
+
 // "the checksum of everything".
 pub fn checksum(state: State, memory: &[u64], cache: &[u64]) -> u64
     ensures { λ r. ⌜ r ≡ checksum (lent state (now (memory .entry)) (now (cache .entry))) ⌝ }
@@ -174,6 +207,7 @@ pub fn checksum(state: State, memory: &[u64], cache: &[u64]) -> u64
     let fields = mix_fields(14695981039346656037, state);
     let workers = mix_workers(fields, state);
     let bits = mix_dirty(workers, state);
-    let words = mix_row(bits, memory);
+    let holders = mix_holders(bits, state);
+    let words = mix_row(holders, memory);
     mix_row(words, cache)
 }

@@ -7,6 +7,7 @@ use crate::Sizes;
 use crate::checksum::checksum;
 use crate::record::Put;
 use crate::record::put_field;
+use crate::record::put_holder;
 use crate::record::put_word;
 use crate::record::put_worker;
 use crate::rows::resize;
@@ -133,6 +134,7 @@ pub fn carry_out(
             put_worker(state, worker, condition, next, cell, value),
             sizes,
         ),
+        Damage::Holder { lock, holder } => recorded(put_holder(state, lock, holder), sizes),
         Damage::Checksum => show_checksum(state, sizes, memory, cache),
     }
 }

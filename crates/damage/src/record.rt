@@ -1,7 +1,8 @@
-// The state record with a field, a word of the dirty lines' bits or a worker put anew.
+// The state record with a field, a word of the dirty lines' bits, a worker or a lock's holder put anew.
 ghost use mathlib.Core.Path.{_≡_};
 ghost use mathlib.Core.Bool.{true};
-ghost use Rattle.damage.specs.Record.{phaseOf, undoOf, storeOf, fieldFits, withField, fieldPut, wordThere, wordPut, unused, conditionFits, conditionOf, workerFits, workerPut};
+ghost use Prim.Native.Nat.{_≤_, _<_};
+ghost use Rattle.damage.specs.Record.{phaseOf, undoOf, storeOf, fieldFits, withField, fieldPut, wordThere, wordPut, unused, conditionFits, conditionOf, workerFits, workerPut, holderFits, withHolder, holderPut};
 use board::Condition;
 use board::Phase;
 use board::State;
@@ -194,4 +195,34 @@ pub fn put_worker(
         };
     }
     Put { state, put: false }
+}
+
+// The holders with a lock held by a worker, or by nobody where the number is 8.
+fn with_holder(holders: u64, lock: u64, holder: u64) -> u64
+    requires { ⌜ lock < 16 ⌝ }
+    requires { ⌜ holder ≤ 8 ⌝ }
+    ensures { λ r. ⌜ r ≡ withHolder holders lock holder ⌝ }
+{
+    if holder == 8 {
+        locks::given_back(holders, lock)
+    } else {
+        locks::held_by(holders, lock, holder)
+    }
+}
+
+// "O k h": lock k's holder := h.
+pub fn put_holder(state: State, lock: u64, holder: u64) -> Put
+    ensures { λ r. ⌜ (r .put ≡ holderFits lock holder) × (r .state ≡ holderPut state lock holder) ⌝ }
+{
+    if lock >= 16 {
+        return Put { state, put: false };
+    }
+    if holder > 8 {
+        return Put { state, put: false };
+    }
+    let holders = with_holder(state.holders, lock, holder);
+    Put {
+        state: State { holders, ..state },
+        put: true,
+    }
 }

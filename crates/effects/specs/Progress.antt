@@ -1,4 +1,4 @@
--- What a step leaves of the state record, apart from L and W.
+-- What a step leaves of the state record, apart from L, W and the holders of the locks.
 use Prim.Native.Nat.{ℕ}
 use mathlib.Core.Bool.{Bool, cond}
 use mathlib.Core.List.{List}
@@ -20,7 +20,7 @@ workersAfter Released s = releasedWorkers s
 abbrev pub dirtyAfter : Bool → List ℕ → List ℕ
 dirtyAfter cleared dirty = cond cleared empty dirty
 
--- The record with a step's progress put in: L and W stay.
+-- The record with a step's progress put in: L, W and the holders stay.
 abbrev pub progressed : State → Progress → State
 progressed s p =
-    record { phase = p .phase; lines = s .lines; workers = s .workers; place = p .place; undo = p .undo; requested = p .requested; dirty = dirtyAfter (p .cleared) (s .dirty); worker = workersAfter (p .workers) s }
+    record { phase = p .phase; lines = s .lines; workers = s .workers; place = p .place; undo = p .undo; requested = p .requested; holders = s .holders; dirty = dirtyAfter (p .cleared) (s .dirty); worker = workersAfter (p .workers) s }

@@ -2,14 +2,18 @@
 mod cells;
 mod checkpoint;
 mod format;
+mod holders;
 mod record;
 mod recovery;
 mod stores;
 
 pub use checkpoint::checkpoint_step;
 pub use format::format_step;
+pub use holders::lock_given_back;
+pub use holders::lock_taken;
 pub use record::Progress;
 pub use record::conditioned;
+pub use record::locked;
 pub use record::placed;
 pub use record::progressed;
 pub use record::requesting;

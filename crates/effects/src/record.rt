@@ -2,7 +2,7 @@
 ghost use mathlib.Core.Path.{_≡_};
 ghost use Prim.Native.Nat.{_+_, _<_};
 ghost use Rattle.effects.specs.Progress.{dirtyAfter, progressed};
-ghost use Rattle.board.specs.State.{started, placed, opened, requesting, afterRelease, releasedWorkers, released, conditioned, dirtied};
+ghost use Rattle.board.specs.State.{started, placed, opened, requesting, afterRelease, releasedWorkers, released, conditioned, dirtied, locked};
 use board::Condition;
 use board::Phase;
 use board::State;
@@ -23,6 +23,7 @@ pub fn started(phase: Phase, lines: u16, workers: u8) -> State
         place: 0,
         undo: UndoStep::Restore,
         requested: false,
+        holders: 0,
         dirty: [0; 8],
         worker,
     }
@@ -116,6 +117,7 @@ pub fn progressed(state: State, progress: Progress) -> State
         place: progress.place,
         undo,
         requested: progress.requested,
+        holders: state.holders,
         dirty,
         worker,
     }
@@ -216,4 +218,11 @@ pub fn dirtied(state: State, line: u64) -> State
     let before = state.dirty;
     let dirty = bitset::inserted(before, line);
     State { dirty, ..state }
+}
+
+// Other holders of the locks.
+pub fn locked(state: State, holders: u64) -> State
+    ensures { λ r. ⌜ r ≡ locked state holders ⌝ }
+{
+    State { holders, ..state }
 }

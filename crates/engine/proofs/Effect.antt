@@ -3,6 +3,7 @@ use Prim.Native.Nat.{ℕ}
 use mathlib.Core.Path.{_≡_, refl, sym, ap, _∙_}
 use mathlib.Core.List.{List}
 use Rattle.line.specs.Line.{lineOf, withLine}
+use Rattle.locks.specs.Holders.{heldBy, givenBack}
 use Rattle.board.specs.declared.State.{State}
 use Rattle.board.specs.declared.Phase.{Phase}
 use Rattle.board.specs.declared.Phase.the-variants.{Formatting, Recovering}
@@ -10,7 +11,7 @@ use Rattle.board.specs.declared.Condition.{Condition}
 use Rattle.board.specs.declared.Condition.the-variants.{Free, Away}
 use Rattle.board.specs.declared.Call.{Call}
 use Rattle.board.specs.Board.{Board, linesOf, workersOf}
-use Rattle.board.specs.State.{conditionOf, started, requesting, conditioned}
+use Rattle.board.specs.State.{conditionOf, started, requesting, conditioned, locked}
 use Rattle.board.specs.Effects.{noted, advanceOf, step, effect}
 use Rattle.board.specs.Next.{lent}
 use Rattle.effects.proofs.Effects.{same-board}
@@ -57,6 +58,14 @@ module _ (s : State) (m c : List ℕ) where
   pub comes-back : {s′ : State} (w : ℕ) → s′ ≡ conditioned s w Free → lent s′ m c ≡ effect (Call.ComeBack w) (lent s m c)
   unfolding effect
   comes-back w p = same-board p refl refl
+
+  pub takes-lock : {s′ : State} (w k : ℕ) → s′ ≡ locked s (heldBy (s .holders) k w) → lent s′ m c ≡ effect (Call.TakeLock w k) (lent s m c)
+  unfolding effect
+  takes-lock w k p = same-board p refl refl
+
+  pub gives-lock-back : {s′ : State} (w k : ℕ) → s′ ≡ locked s (givenBack (s .holders) k) → lent s′ m c ≡ effect (Call.GiveBackLock w k) (lent s m c)
+  unfolding effect
+  gives-lock-back w k p = same-board p refl refl
 
   pub writes-back : {m′ : List ℕ} (l : ℕ) → m′ ≡ withLine m l (lineOf c l) → lent s m′ c ≡ effect (Call.WriteBack l) (lent s m c)
   unfolding effect

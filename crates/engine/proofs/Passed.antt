@@ -5,7 +5,7 @@ use mathlib.Core.Bool.{true, false, not, _&&_, _||_}
 use native.Mathlib.Omega.{arith}
 use lib.Dec.{leb, ltb, eqb}
 use lib.ListN.{length}
-use borrow.Author.Tests.{ltb-false, leb-false, eqb-true, eqb-false, lt-ltb, eq-eqb}
+use borrow.Author.Tests.{ltb-false, leb-false, eqb-true, eqb-false, eq-eqb}
 use Rattle.bitset.specs.Words.{strays}
 use Rattle.line.specs.Line.{lineStart}
 use Rattle.line.specs.Cell.{cellLine}
@@ -16,11 +16,11 @@ use Rattle.board.specs.declared.Store.{Store}
 use Rattle.board.specs.declared.Condition.{Condition}
 use Rattle.board.specs.declared.Condition.the-variants.{Updating}
 use Rattle.board.specs.declared.Call.{Call}
-use Rattle.board.specs.Board.{Board, cells, rowWords, linesOutside, workersOutside, outside, epochOf, lastEpoch}
+use Rattle.board.specs.Board.{Board, cells, rowWords, linesOutside, workersOutside, epochOf, lastEpoch}
 use Rattle.board.specs.State.{conditionOf, isRunning, quiescent, updates, anyWorker, dirtyCount}
 use Rattle.board.specs.Causes.{causes, badRecord, badRows, placePast, noWorker, checkpointing, epochSpent}
-use Rattle.board.proofs.Laws.Bools.{or-left, or-right, and-both, and-not, not-off, none-under}
-use Rattle.board.proofs.Laws.Taken.{standsAt, passed, lines-in, workers-in}
+use Rattle.board.proofs.Laws.Bools.{or-left, or-right, and-both, and-not, not-off}
+use Rattle.board.proofs.Laws.Taken.{standsAt, passed, lines-in, workers-in, record-within, record-cells}
 use Rattle.causes.proofs.Memory.{whole}
 use Rattle.effects.specs.Ready.{Rows, Restarts, Formats, Recovers, Checkpoints, Stores}
 use Rattle.board.specs.Next.{Taken}
@@ -37,24 +37,10 @@ pub record Sound (s : State) : Type 0 where
   pub update : (w : ℕ) → w < s .workers → updates (leb (cells (s .lines))) (conditionOf s w) ≡ false
 
 pub sound : (s : State) → badRecord s ≡ false → Sound s
-unfolding badRecord
 sound s e =
-    let limits = outside (s .lines) (s .workers) in
-    let stray = strays (s .dirty) (s .lines) in
-    let place = placePast (s .phase) s in
-    let update = anyWorker s (updates (leb (cells (s .lines)))) in
-    let three = or-left (limits || stray || place) update e in
-    let two = or-left (limits || stray) place three in
-    let one = or-left limits stray two in
-    let w = workers-in (s .lines) (s .workers) (or-right (linesOutside (s .lines)) (workersOutside (s .lines) (s .workers)) one) in
-    record {
-      lines = lines-in (s .lines) (or-left (linesOutside (s .lines)) (workersOutside (s .lines) (s .workers)) one) .1;
-      workers = w .1;
-      restart = w .2;
-      dirty = or-right limits stray two;
-      place = or-right (limits || stray) place three;
-      update = λ i h. and-not (ltb i (s .workers)) _ (none-under 8 _ (or-right (limits || stray || place) update e) i (omega arith)) (lt-ltb i (s .workers) h);
-    }
+    let known = record-within s e in
+    let w = workers-in (s .lines) (s .workers) (known .1) in
+    record { lines = lines-in (s .lines) (known .0) .1; workers = w .1; restart = w .2; dirty = known .3; place = known .2; update = record-cells s e }
 
 -- Rows that pass.
 pub record Long (l : ℕ) (b : Board) : Type 0 where
@@ -171,6 +157,20 @@ go-away-seat w b t = seated w b (passed (Call.GoAway w) b t 3) (passed (Call.GoA
 pub come-back-seat : (w : ℕ) (b : Board) → Taken (Call.ComeBack w) b → w < 8
 unfolding standsAt causes
 come-back-seat w b t = seated w b (passed (Call.ComeBack w) b t 3) (passed (Call.ComeBack w) b t 6)
+
+-- ---- locks
+
+-- A taken lock is one of the 16, and its worker one of the eight.
+pub take-lock-seat : (w k : ℕ) (b : Board) → Taken (Call.TakeLock w k) b → (w < 8) × (k < 16)
+unfolding standsAt causes
+take-lock-seat w k b t =
+    let call = Call.TakeLock w k in
+    (seated w b (passed call b t 3) (passed call b t 6), leb-false 16 k (passed call b t 15))
+
+-- A lock that is given back is one of the 16.
+pub give-back-number : (w k : ℕ) (b : Board) → Taken (Call.GiveBackLock w k) b → k < 16
+unfolding standsAt causes
+give-back-number w k b t = leb-false 16 k (passed (Call.GiveBackLock w k) b t 15)
 
 -- ---- write-back and read
 

@@ -7,12 +7,14 @@ use crate::advance;
 use crate::come_back;
 use crate::count;
 use crate::format_start;
+use crate::give_back_lock;
 use crate::go_away;
 use crate::read;
 use crate::recovery_start;
 use crate::request;
 use crate::restart_point;
 use crate::step;
+use crate::take_lock;
 use crate::update;
 use crate::write_back;
 use board::Call;
@@ -66,5 +68,13 @@ pub fn perform(call: Call, state: State, memory: &mut [u64], cache: &mut [u64]) 
         Call::GoAway { worker } => unread(go_away(state, memory, cache, worker)),
         Call::ComeBack { worker } => unread(come_back(state, memory, cache, worker)),
         Call::Count => count(state, memory, cache),
+        Call::TakeLock { worker, lock } => unread(take_lock(state, memory, cache, worker, lock)),
+        Call::GiveBackLock { worker, lock } => unread(give_back_lock(
+            state,
+            memory,
+            cache,
+            worker,
+            lock,
+        )),
     }
 }

@@ -21,13 +21,17 @@ pub use causes::order::CONDITION;
 pub use causes::order::CONFLICT;
 pub use causes::order::EPOCH;
 pub use causes::order::HEADER;
+pub use causes::order::HOLDER;
 pub use causes::order::LIMITS;
+pub use causes::order::LOCK;
 pub use causes::order::PHASE;
 pub use causes::order::ROWS;
 pub use causes::order::STATE;
 pub use causes::order::WORKER;
 pub use dispatch::perform;
 use effects::conditioned;
+use effects::lock_given_back;
+use effects::lock_taken;
 use effects::noted;
 use effects::progressed;
 use effects::requesting;
@@ -285,6 +289,42 @@ pub fn come_back(state: State, memory: &[u64], cache: &[u64], worker: u64) -> An
         return Answer { number, state };
     }
     let next = conditioned(state, worker as usize, Condition::Free);
+    Answer {
+        number: TAKEN,
+        state: next,
+    }
+}
+
+// "A free worker .. takes a free lock."
+pub fn take_lock(state: State, memory: &[u64], cache: &[u64], worker: u64, lock: u64) -> Answer
+    ensures performed { λ r. ⌜ Performed (Call.TakeLock worker lock)
+        (lent state (now (memory .entry)) (now (cache .entry)))
+        (r .number) 0
+        (lent (r .state) (now (memory .entry)) (now (cache .entry))) ⌝ }
+{
+    let number = causes::of_take_lock(state, memory, cache, worker, lock);
+    if number != TAKEN {
+        return Answer { number, state };
+    }
+    let next = lock_taken(state, worker, lock);
+    Answer {
+        number: TAKEN,
+        state: next,
+    }
+}
+
+// "It gives it back when none of its updates under it is unfinished."
+pub fn give_back_lock(state: State, memory: &[u64], cache: &[u64], worker: u64, lock: u64) -> Answer
+    ensures performed { λ r. ⌜ Performed (Call.GiveBackLock worker lock)
+        (lent state (now (memory .entry)) (now (cache .entry)))
+        (r .number) 0
+        (lent (r .state) (now (memory .entry)) (now (cache .entry))) ⌝ }
+{
+    let number = causes::of_give_back_lock(state, memory, cache, worker, lock);
+    if number != TAKEN {
+        return Answer { number, state };
+    }
+    let next = lock_given_back(state, lock);
     Answer {
         number: TAKEN,
         state: next,

@@ -212,7 +212,7 @@ or-off true b e = refl
 or-off false b e = e
 
 -- The first number, and those after it, are tested apart.
-any-shift : (n : ℕ) (f : ℕ → Bool) → anyUnder (suc n) f ≡ f 0 || anyUnder n (λ i. f (suc i))
+pub any-shift : (n : ℕ) (f : ℕ → Bool) → anyUnder (suc n) f ≡ f 0 || anyUnder n (λ i. f (suc i))
 unfolding anyUnder
 any-shift zero f = sym (or-off (f 0) false refl)
 any-shift (suc n) f = ap (λ (t : Bool). t || f (suc n)) (any-shift n f) ∙ or-assoc (f 0) (anyUnder n (λ i. f (suc i))) (f (suc n))

@@ -1,11 +1,13 @@
 // The holders of sixteen locks in one word, four bits a lock (document 02, ticket 6): 0 where nobody holds the lock, else
 // the number of the worker that does and 1.
 ghost use mathlib.Core.Path.{_≡_};
-ghost use Prim.Native.Nat.{_<_};
+ghost use Prim.Native.Nat.{_*_, _<_};
+ghost use lib.Dec.{ltb};
+ghost use Rattle.bitset.specs.Passing.{anyUnder};
 ghost use Rattle.locks.specs.Holders.{digitOf, unheld, holds, holdsAny, heldFrom, heldBy, givenBack, withDigit};
 
 // The four bits of a lock.
-fn digit(holders: u64, lock: u64) -> u64
+pub fn digit(holders: u64, lock: u64) -> u64
     ensures { λ r. ⌜ r ≡ digitOf holders lock ⌝ }
     ensures { λ r. ⌜ r < 16 ⌝ }
 {
@@ -47,17 +49,24 @@ pub fn holds_any(holders: u64, worker: u64) -> bool
     found
 }
 
-// A lock is held by worker `workers` or one past it.
+// Of locks 0, 2, 4 and so on to 14 one is held by worker `workers` or one past it. Each has a byte for itself; with
+// 15 - workers added, bit 4 of the byte is set where the lock's four bits are over `workers`.
+fn even_held_from(holders: u64, workers: u64) -> bool
+    requires { ⌜ workers < 16 ⌝ }
+    ensures { λ r. ⌜ r ≡ anyUnder 8 (λ k. ltb workers (digitOf holders (2 * k))) ⌝ }
+{
+    ((holders & 0x0F0F0F0F0F0F0F0F) + (15 - workers) * 0x0101010101010101) & 0x1010101010101010 != 0
+}
+
+// A lock is held by worker `workers` or one past it: it is tested in every call, and no loop goes over the locks.
 pub fn held_from(holders: u64, workers: u64) -> bool
     ensures { λ r. ⌜ r ≡ heldFrom holders workers ⌝ }
 {
-    let mut rest = holders;
-    let mut found = false;
-    while rest != 0 {
-        found = found | (workers < rest % 16);
-        rest = rest / 16;
+    if workers < 16 {
+        even_held_from(holders, workers) | even_held_from(holders >> 4, workers)
+    } else {
+        false
     }
-    found
 }
 
 // The word with other bits for a lock.

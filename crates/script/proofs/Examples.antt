@@ -3,13 +3,13 @@ use mathlib.Core.Path.{_≡_, refl}
 use mathlib.Core.List.{List, [], _∷_, _++_, map}
 use Prim.Native.Nat.{ℕ}
 use lib.ListN.{replicate}
-use Rattle.board.specs.declared.Call.the-variants.{FormatStart, Step, Update, RestartPoint, Read, GoAway, ComeBack, Count}
+use Rattle.board.specs.declared.Call.the-variants.{FormatStart, Step, Update, RestartPoint, Read, GoAway, ComeBack, Count, TakeLock, GiveBackLock}
 use Rattle.script.specs.declared.Line.{Line}
 use Rattle.script.specs.declared.Line.the-variants.{Format, Make, Show, Cut, Damage as Damaging, Page as Paging, Unknown}
-use Rattle.script.specs.declared.Damage.the-variants.{Lengths, Dirty, Field, Worker, Checksum}
+use Rattle.script.specs.declared.Damage.the-variants.{Lengths, Dirty, Field, Worker, Holder, Checksum}
 use Rattle.script.specs.declared.Program.the-variants.{Drill, Fault, Page}
 use Rattle.script.specs.declared.Shown.the-variants as shown
-use Rattle.text.specs.Ascii.{tab, feed, '-', '0', '9', '?', 'A', 'B', 'F', 'G', 'K', 'P', 'Q', 'S', 'T', 'U', 'W', 'X', 'a', 'b', 'f', 'n', 'p'}
+use Rattle.text.specs.Ascii.{tab, feed, '-', '0', '9', '?', 'A', 'B', 'F', 'G', 'H', 'K', 'O', 'P', 'Q', 'S', 'T', 'U', 'V', 'W', 'X', 'a', 'b', 'f', 'n', 'p'}
 use Rattle.text.specs.Numbers.{spelled, allDigits, valueAfter}
 use Rattle.script.specs.Grammar.{fields, isNumber, allNumbers, drilled, damaging, formed, meaning}
 use Rattle.script.specs.Answers.{answerText}
@@ -28,10 +28,12 @@ most = 49 ∷ 56 ∷ 52 ∷ 52 ∷ 54 ∷ 55 ∷ 52 ∷ 52 ∷ 48 ∷ 55 ∷ 51 
 
 abbrev pub examples : List Example
 examples =
-    -- "F 1 1", "U 0 1 7", "P 0 3", "S" and "X", with tabs for blanks.
+    -- "F 1 1", "U 0 1 7", "P 0 3", "H 0 9", "V 5 0", "S" and "X", with tabs for blanks.
     row ('F' ∷ tab ∷ 49 ∷ tab ∷ 49 ∷ []) (Format 1 1) ∷
     row ('U' ∷ tab ∷ '0' ∷ tab ∷ 49 ∷ tab ∷ 55 ∷ []) (Make (Update 0 1 7)) ∷
     row ('P' ∷ tab ∷ '0' ∷ tab ∷ 51 ∷ []) (Make (RestartPoint 0 3)) ∷
+    row ('H' ∷ tab ∷ '0' ∷ tab ∷ '9' ∷ []) (Make (TakeLock 0 9)) ∷
+    row ('V' ∷ tab ∷ 53 ∷ tab ∷ '0' ∷ []) (Make (GiveBackLock 5 0)) ∷
     row ('S' ∷ []) (Make Step) ∷
     row ('X' ∷ []) Cut ∷
     -- "G 01": leading zeros are allowed.
@@ -41,9 +43,10 @@ examples =
     -- "A 0" and "S" with a tab behind them: an empty field.
     row ('A' ∷ tab ∷ '0' ∷ tab ∷ []) Unknown ∷
     row ('S' ∷ tab ∷ []) Unknown ∷
-    -- "U 0 1 7 9" and "A": a number too many, and one too few.
+    -- "U 0 1 7 9", "A" and "V 5": a number too many, and one too few.
     row ('U' ∷ tab ∷ '0' ∷ tab ∷ 49 ∷ tab ∷ 55 ∷ tab ∷ '9' ∷ []) Unknown ∷
     row ('A' ∷ []) Unknown ∷
+    row ('V' ∷ tab ∷ 53 ∷ []) Unknown ∷
     -- A carriage return, a blank, a sign, a small letter.
     row ('S' ∷ 13 ∷ []) Unknown ∷
     row ('A' ∷ 32 ∷ '0' ∷ []) Unknown ∷
@@ -61,7 +64,7 @@ pub lines-mean : map (λ (e : Example). meaning Drill (e .text)) examples ≡ ma
 unfolding fields allDigits valueAfter isNumber allNumbers drilled damaging formed meaning
 lines-mean = refl
 
--- The fault program's own letters: "T", "n", "p 9", "a 7", "b 0", "f 1 1", "W 9 9", "Q 7 5", "B 6 1" and "K 7 2 0 9 5", with tabs for blanks, and a drill's letter.
+-- The fault program's own letters: "T", "n", "p 9", "a 7", "b 0", "f 1 1", "W 9 9", "Q 7 5", "B 6 1", "K 7 2 0 9 5" and "O 9 7", with tabs for blanks, and two of the drill's letters.
 abbrev pub damages : List Example
 damages =
     row ('T' ∷ []) (Damaging Checksum) ∷
@@ -74,7 +77,9 @@ damages =
     row ('Q' ∷ tab ∷ 55 ∷ tab ∷ 53 ∷ []) (Damaging (Dirty 7 5)) ∷
     row ('B' ∷ tab ∷ 54 ∷ tab ∷ 49 ∷ []) (Damaging (Field 6 1)) ∷
     row ('K' ∷ tab ∷ 55 ∷ tab ∷ 50 ∷ tab ∷ '0' ∷ tab ∷ '9' ∷ tab ∷ 53 ∷ []) (Damaging (Worker 7 2 0 9 5)) ∷
+    row ('O' ∷ tab ∷ '9' ∷ tab ∷ 55 ∷ []) (Damaging (Holder 9 7)) ∷
     row ('S' ∷ []) (Make Step) ∷
+    row ('H' ∷ tab ∷ 55 ∷ tab ∷ '9' ∷ []) (Make (TakeLock 7 9)) ∷
     -- No number, and two.
     row ('a' ∷ []) Unknown ∷
     row ('b' ∷ []) Unknown ∷
@@ -95,9 +100,9 @@ damages-mean = refl
 -- Neither the drill nor the page program knows any of them.
 abbrev pub undrilled : List (List ℕ)
 undrilled =
-    ('T' ∷ []) ∷ ('n' ∷ []) ∷ ('p' ∷ tab ∷ '9' ∷ []) ∷ ('a' ∷ tab ∷ 55 ∷ []) ∷ ('b' ∷ tab ∷ '0' ∷ []) ∷ ('f' ∷ tab ∷ 49 ∷ tab ∷ 49 ∷ []) ∷ []
+    ('T' ∷ []) ∷ ('n' ∷ []) ∷ ('p' ∷ tab ∷ '9' ∷ []) ∷ ('a' ∷ tab ∷ 55 ∷ []) ∷ ('b' ∷ tab ∷ '0' ∷ []) ∷ ('f' ∷ tab ∷ 49 ∷ tab ∷ 49 ∷ []) ∷ ('O' ∷ tab ∷ '9' ∷ tab ∷ 55 ∷ []) ∷ []
 
-pub damages-unknown : map (meaning Drill) undrilled ++ map (meaning Page) undrilled ≡ replicate 12 Unknown
+pub damages-unknown : map (meaning Drill) undrilled ++ map (meaning Page) undrilled ≡ replicate 14 Unknown
 unfolding fields allDigits valueAfter isNumber allNumbers drilled damaging formed meaning
 damages-unknown = refl
 

@@ -4,14 +4,14 @@ use mathlib.Core.List.{List, [], _∷_, map}
 use mathlib.Core.Bool.{Bool, true, cond, _&&_}
 use lib.Dec.{leb, ltb, eqb}
 use lib.ListN.{length}
-use Rattle.board.specs.declared.Call.the-variants.{FormatStart, RecoveryStart, Step, Update, RestartPoint, Advance, Request, WriteBack, Read, GoAway, ComeBack, Count}
+use Rattle.board.specs.declared.Call.the-variants.{FormatStart, RecoveryStart, Step, Update, RestartPoint, Advance, Request, WriteBack, Read, GoAway, ComeBack, Count, TakeLock, GiveBackLock}
 use Rattle.script.specs.declared.Line.{Line}
 use Rattle.script.specs.declared.Line.the-variants.{Format, Make, Show, Cut, Damage as Damaging, Page as Paging, Unknown}
-use Rattle.script.specs.declared.Damage.the-variants.{Lengths, Memory, Cache, Dirty, Field, Worker, Checksum}
+use Rattle.script.specs.declared.Damage.the-variants.{Lengths, Memory, Cache, Dirty, Field, Worker, Holder, Checksum}
 use Rattle.script.specs.declared.Program.{Program}
 use Rattle.script.specs.declared.Program.the-variants.{Drill, Fault, Page}
 use Rattle.text.specs.Numbers.{allDigits, value}
-use Rattle.text.specs.Ascii.{tab, 'A', 'B', 'C', 'E', 'F', 'G', 'K', 'M', 'N', 'P', 'Q', 'R', 'S', 'T', 'U', 'W', 'X', 'a', 'b', 'f', 'n', 'p'}
+use Rattle.text.specs.Ascii.{tab, 'A', 'B', 'C', 'E', 'F', 'G', 'H', 'K', 'M', 'N', 'O', 'P', 'Q', 'R', 'S', 'T', 'U', 'V', 'W', 'X', 'a', 'b', 'f', 'n', 'p'}
 
 -- A byte put in front of the first field.
 abbrev pub joined : ℕ → List (List ℕ) → List (List ℕ)
@@ -40,9 +40,9 @@ drilled letter [] other =
 -- "A worker", "E line", "G cell (read)".
 drilled letter (a ∷ []) other =
     cond (eqb letter 'A') (Make (Advance a)) (cond (eqb letter 'E') (Make (WriteBack a)) (cond (eqb letter 'G') (Show (Read a)) other))
--- "F L W (format to the end)", "P worker number".
+-- "F L W (format to the end)", "P worker number"; 02, ticket 6: "H (take) and V (give back), worker and lock".
 drilled letter (a ∷ b ∷ []) other =
-    cond (eqb letter 'F') (Format a b) (cond (eqb letter 'P') (Make (RestartPoint a b)) other)
+    cond (eqb letter 'F') (Format a b) (cond (eqb letter 'P') (Make (RestartPoint a b)) (cond (eqb letter 'H') (Make (TakeLock a b)) (cond (eqb letter 'V') (Make (GiveBackLock a b)) other)))
 -- "U worker cell value".
 drilled letter (a ∷ b ∷ c ∷ []) other = cond (eqb letter 'U') (Make (Update a b c)) other
 drilled letter (a ∷ b ∷ c ∷ d ∷ more) other = other
@@ -54,9 +54,9 @@ damaging letter [] = cond (eqb letter 'T') (Damaging Checksum) (cond (eqb letter
 -- "p room: a page in a text row of `room` bytes"; "a w, b w: going away, coming back".
 damaging letter (a ∷ []) =
     cond (eqb letter 'p') (Paging a) (cond (eqb letter 'a') (Make (GoAway a)) (cond (eqb letter 'b') (Make (ComeBack a)) Unknown))
--- "f L W: a format's start alone"; "W m c: the rows' lengths"; "M i v", "N i v", "Q i v: word i .. of the record's line bits", "B k v".
+-- "f L W: a format's start alone"; "W m c: the rows' lengths"; "M i v", "N i v", "Q i v: word i .. of the record's line bits", "B k v", "O k h: lock k .. its holder := h".
 damaging letter (a ∷ b ∷ []) =
-    cond (eqb letter 'f') (Make (FormatStart a b)) (cond (eqb letter 'W') (Damaging (Lengths a b)) (cond (eqb letter 'M') (Damaging (Memory a b)) (cond (eqb letter 'N') (Damaging (Cache a b)) (cond (eqb letter 'Q') (Damaging (Dirty a b)) (cond (eqb letter 'B') (Damaging (Field a b)) Unknown)))))
+    cond (eqb letter 'f') (Make (FormatStart a b)) (cond (eqb letter 'W') (Damaging (Lengths a b)) (cond (eqb letter 'M') (Damaging (Memory a b)) (cond (eqb letter 'N') (Damaging (Cache a b)) (cond (eqb letter 'Q') (Damaging (Dirty a b)) (cond (eqb letter 'B') (Damaging (Field a b)) (cond (eqb letter 'O') (Damaging (Holder a b)) Unknown))))))
 damaging letter (a ∷ b ∷ c ∷ []) = Unknown
 damaging letter (a ∷ b ∷ c ∷ d ∷ []) = Unknown
 -- "K w c n a v".

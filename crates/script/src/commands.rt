@@ -47,7 +47,7 @@ fn with_one(letter: u8, a: u64, other: Line) -> Line
     }
 }
 
-// "F L W (format to the end)", "P worker number".
+// "F L W (format to the end)", "P worker number"; document 02, ticket 6: "H (take) and V (give back), worker and lock".
 fn with_two(letter: u8, a: u64, b: u64, other: Line) -> Line
     ensures { λ r. ⌜ r ≡ drilled letter (a ∷ b ∷ []) other ⌝ }
 {
@@ -61,6 +61,12 @@ fn with_two(letter: u8, a: u64, b: u64, other: Line) -> Line
                 worker: a,
                 value: b,
             },
+        },
+        b'H' => Line::Make {
+            call: Call::TakeLock { worker: a, lock: b },
+        },
+        b'V' => Line::Make {
+            call: Call::GiveBackLock { worker: a, lock: b },
         },
         _ => other,
     }

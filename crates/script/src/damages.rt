@@ -37,7 +37,7 @@ fn with_one(letter: u8, a: u64) -> Line
     }
 }
 
-// "f L W", "W m c", "M i v", "N i v", "Q i v", "B k v".
+// "f L W", "W m c", "M i v", "N i v", "Q i v", "B k v", "O k h".
 fn with_two(letter: u8, a: u64, b: u64) -> Line
     ensures { λ r. ⌜ r ≡ damaging letter (a ∷ b ∷ []) ⌝ }
 {
@@ -68,6 +68,9 @@ fn with_two(letter: u8, a: u64, b: u64) -> Line
                 field: a,
                 number: b,
             },
+        },
+        b'O' => Line::Damage {
+            damage: Damage::Holder { lock: a, holder: b },
         },
         _ => Line::Unknown,
     }

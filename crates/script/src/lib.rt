@@ -32,7 +32,8 @@ pub enum Line {
 }
 
 // What a line of the fault program puts into the board: the rows' lengths, a word of memory, one of the cache, one of
-// the dirty lines' bits, a field of the record, a worker; or nothing, with the checksum of everything shown.
+// the dirty lines' bits, a field of the record, a worker, a lock's holder; or nothing, with the checksum of everything
+// shown.
 pub enum Damage {
     Lengths {
         memory: u64,
@@ -60,6 +61,10 @@ pub enum Damage {
         next: u64,
         cell: u64,
         value: u64,
+    },
+    Holder {
+        lock: u64,
+        holder: u64,
     },
     Checksum,
 }

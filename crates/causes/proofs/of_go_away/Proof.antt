@@ -9,12 +9,13 @@ unfolding cause causes firstStanding
 returns c =
     rw (
       c .first .ensures,
-      c .before .busy .ensures,
-      c .before .before .no-worker .ensures,
-      c .before .before .before .bad-rows .ensures (c .before .before .before .before .before .before .before .before .args .state),
-      c .before .before .before .before .bad-record .ensures,
-      c .before .before .before .before .before .not-running .ensures [] [],
+      c .before .holder .ensures,
+      c .before .before .busy .ensures,
+      c .before .before .before .no-worker .ensures,
+      c .before .before .before .before .bad-rows .ensures (c .before .before .before .before .before .before .before .before .before .args .state),
+      c .before .before .before .before .before .bad-record .ensures,
+      c .before .before .before .before .before .before .not-running .ensures [] [],
     )
 
 pub of-go-away-spec : {M : Type 1} → statement M
-of-go-away-spec = tie.close (tie.spec (λ _ _. tt) (λ _ _. tt) (λ _ _. tt) (λ _ _. tt) (λ _ _. tt) (λ _ _. tt) returns)
+of-go-away-spec = tie.close (tie.spec (λ _ _. tt) (λ _ _. tt) (λ _ _. tt) (λ _ _. tt) (λ _ _. tt) (λ _ _. tt) (λ _ _. tt) returns)

@@ -1,7 +1,7 @@
 -- `damage::damages::carry_out` meets its contract: each arm is told the line, and its parts do what that line does.
 use mathlib.Core.Path.{_∙_}
 use borrow.Author.Needs.{needs}
-use Rattle.damage.proofs.Arms.{by-parts, told-as, kept-within, memory-put, cache-put, word-put, field-put, worker-put}
+use Rattle.damage.proofs.Arms.{by-parts, told-as, kept-within, memory-put, cache-put, word-put, field-put, worker-put, holder-put}
 use Rattle.damage.proofs.damages.carry_out.Statement.{statement}
 use Rattle.damage.proofs.damages.carry_out.Tie as tie
 
@@ -57,9 +57,18 @@ returns-6 c =
 
 returns-7 : tie.Need-returns-7
 returns-7 c =
+    let s = c .before .before .before .before .before .before .before in
+    let a = s .args in
+    let r = c .before .put-holder in (
+      told-as _ _ (c .before .before .before .damage7 .given .1) (by-parts (a .memory .now) (a .cache .now) (c .recorded4 .ensures) ∙ holder-put (a .state) (a .sizes) (a .memory .now) (a .cache .now) _ _ (r .result .put) (r .result .state) (r .ensures)),
+      kept-within (c .recorded4 .ensures .1) (s .pre .0),
+    )
+
+returns-8 : tie.Need-returns-8
+returns-8 c =
     (told-as _ _ (c .before .before .before .enum-told .given .1) (c .show-checksum .ensures .0), c .show-checksum .ensures .1)
 
 pub carry-out-spec : {M : Type 1} → statement M
 carry-out-spec = tie.close
-    (tie.spec (search needs) (search needs) (search needs) (search needs) (search needs) (search needs) (search needs) (search needs) (search needs) (search needs) (search needs) (search needs) (search needs) (search needs) (search needs) (search needs) (search needs) (search needs) (search needs) (search needs) (search needs)
-    returns (search needs) returns-2 (search needs) returns-3 returns-4 returns-5 returns-6 (search needs) (search needs) returns-7)
+    (tie.spec (search needs) (search needs) (search needs) (search needs) (search needs) (search needs) (search needs) (search needs) (search needs) (search needs) (search needs) (search needs) (search needs) (search needs) (search needs) (search needs) (search needs) (search needs) (search needs) (search needs) (search needs) (search needs) (search needs) (search needs)
+    returns (search needs) returns-2 (search needs) returns-3 returns-4 returns-5 returns-6 returns-7 (search needs) (search needs) returns-8)

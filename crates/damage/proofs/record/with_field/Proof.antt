@@ -8,17 +8,17 @@ use Rattle.damage.proofs.Fits.{field-bound}
 use Rattle.damage.proofs.record.with_field.Statement.{statement}
 use Rattle.damage.proofs.record.with_field.Tie as tie
 
-cast-t14 : tie.Need-cast-t14
+cast-t15 : tie.Need-cast-t15
 unfolding fieldFits
-cast-t14 c = let s = c .before .before .before in omega (arith, field-bound (s .args .field) 1 (s .args .number) 65535 (c .match .keys2) (s .pre) refl)
+cast-t15 c = let s = c .before .before .before in omega (arith, field-bound (s .args .field) 1 (s .args .number) 65535 (c .match .keys2) (s .pre) refl)
 
-cast-t22 : tie.Need-cast-t22
+cast-t24 : tie.Need-cast-t24
 unfolding fieldFits
-cast-t22 c = let s = c .before .before .before in omega (arith, field-bound (s .args .field) 2 (s .args .number) 255 (c .match .keys3) (s .pre) refl)
+cast-t24 c = let s = c .before .before .before in omega (arith, field-bound (s .args .field) 2 (s .args .number) 255 (c .match .keys3) (s .pre) refl)
 
-cast-t30 : tie.Need-cast-t30
+cast-t33 : tie.Need-cast-t33
 unfolding fieldFits
-cast-t30 c = let s = c .before .before .before in omega (arith, field-bound (s .args .field) 4 (s .args .number) 65535 (c .match .keys4) (s .pre) refl)
+cast-t33 c = let s = c .before .before .before in omega (arith, field-bound (s .args .field) 4 (s .args .number) 65535 (c .match .keys4) (s .pre) refl)
 
 returns : tie.Need-returns
 unfolding withField
@@ -49,4 +49,4 @@ unfolding withField
 returns-7 c = simp (ne-eqb _ _ (c .match .rest .0 .0 .0 .0 .0 .1), ne-eqb _ _ (c .match .rest .0 .0 .0 .0 .1), ne-eqb _ _ (c .match .rest .0 .0 .0 .1), ne-eqb _ _ (c .match .rest .0 .0 .1), ne-eqb _ _ (c .match .rest .0 .1), ne-eqb _ _ (c .match .rest .1))
 
 pub with-field-spec : {M : Type 1} → statement M
-with-field-spec = tie.close (tie.spec (search needs) (search needs) cast-t14 cast-t22 cast-t30 returns returns-2 returns-3 returns-4 returns-5 returns-6 returns-7)
+with-field-spec = tie.close (tie.spec (search needs) (search needs) cast-t15 cast-t24 cast-t33 returns returns-2 returns-3 returns-4 returns-5 returns-6 returns-7)
