@@ -8,7 +8,8 @@ use board::Call;
 pub enum Round {
     // A format's start and its L + 2 steps.
     Format,
-    // The data cells below n updated in rising order, each to its own number: a start and three advances each.
+    // The data cells below n updated in rising order, each to its own number: its lock taken, a start, three advances and
+    // its lock given back.
     Fill,
     // n − W data cells updated in the same way, each the first cell of a line that has no restart cell.
     Spread,
@@ -16,10 +17,12 @@ pub enum Round {
     Wait,
     // A request, a restart point of worker 0, after which it waits, and every other worker away.
     Leave,
-    // An update of an unmarked cell: a start and three advances. The host then takes the mark and the bits back.
+    // An update of an unmarked cell, with its lock as above. The host then takes the mark and the bits back.
     Update,
-    // An update of a marked cell: a start and one advance.
+    // An update of a marked cell: its lock taken, a start, one advance and its lock given back.
     Again,
+    // The lock of a random cell taken and given back.
+    Locks,
     // A checkpoint of n cells, the data cells alone in their lines: W/2 + n − W + 3 steps, W/2 rounded up. The host then
     // puts the state record back.
     Checkpoint,
@@ -62,6 +65,7 @@ pub fn numbered(kind: u64) -> Kind {
         8 => Kind::Pages(Marks::Random),
         9 => Kind::Calls(Round::CheckpointAway),
         10 => Kind::Calls(Round::CheckpointPairs),
+        11 => Kind::Calls(Round::Locks),
         _ => Kind::Unknown,
     }
 }
@@ -136,11 +140,12 @@ pub fn calls_in(round: Round, plan: Plan) -> u32
     let n = plan.n as u32;
     match round {
         Round::Format => 1 + lines + 2,
-        Round::Fill | Round::Spread => 4 * (n - workers),
+        Round::Fill | Round::Spread => 6 * (n - workers),
         Round::Wait => 1 + 4 * workers,
         Round::Leave => 4 + workers,
-        Round::Update => 4,
-        Round::Again => 2,
+        Round::Update => 6,
+        Round::Again => 4,
+        Round::Locks => 2,
         Round::Checkpoint => spread_lines(plan) + 3,
         Round::CheckpointPairs => (n + 1) / 2 + 3,
         Round::CheckpointAway => n - workers + 4,
@@ -150,9 +155,22 @@ pub fn calls_in(round: Round, plan: Plan) -> u32
     }
 }
 
-// Call number `k` of an update: its start, and advances.
-fn update_call(worker: u64, k: u64, cell: u64, value: u64) -> Call {
-    if k == 0 {
+// The lock of a cell taken, or given back.
+fn lock_call(worker: u64, take: bool, cell: u64) -> Call {
+    let lock = cell % 16;
+    if take {
+        Call::TakeLock { worker, lock }
+    } else {
+        Call::GiveBackLock { worker, lock }
+    }
+}
+
+// Call number `k` of an update of `last` + 1 calls: its cell's lock taken, its start, advances, and the lock given back.
+fn update_call(worker: u64, k: u64, last: u64, cell: u64, value: u64) -> Call {
+    if k == 0 || k == last {
+        return lock_call(worker, k == 0, cell);
+    }
+    if k == 1 {
         Call::Update {
             worker,
             cell,
@@ -163,10 +181,16 @@ fn update_call(worker: u64, k: u64, cell: u64, value: u64) -> Call {
     }
 }
 
-// Call number `k` of a spread: four calls for the first cell of each line after the restart cells'.
+// Call number `k` of a fill: six calls for each cell.
+fn fill_call(plan: Plan, k: u64) -> Call {
+    let cell = plan.workers as u64 + k / 6;
+    update_call(plan.worker, k % 6, 5, cell, cell)
+}
+
+// Call number `k` of a spread: six calls for the first cell of each line after the restart cells'.
 fn spread_call(plan: Plan, k: u64) -> Call {
-    let cell = 2 * (restart_lines(plan) as u64 + k / 4);
-    update_call(plan.worker, k % 4, cell, cell)
+    let cell = 2 * (restart_lines(plan) as u64 + k / 6);
+    update_call(plan.worker, k % 6, 5, cell, cell)
 }
 
 // Call number `k` of a wait: the request, and four calls of each worker in turn.
@@ -207,11 +231,13 @@ pub fn call_at(round: Round, plan: Plan, k: u64, drawn: Drawn) -> Call {
                 workers,
             },
         ),
-        Round::Fill => update_call(plan.worker, k % 4, workers + k / 4, workers + k / 4),
+        Round::Fill => fill_call(plan, k),
         Round::Spread => spread_call(plan, k),
         Round::Wait => wait_call(k),
         Round::Leave => leave_call(k),
-        Round::Update | Round::Again => update_call(plan.worker, k, drawn.cell, drawn.random),
+        Round::Update => update_call(plan.worker, k, 5, drawn.cell, drawn.random),
+        Round::Again => update_call(plan.worker, k, 3, drawn.cell, drawn.random),
+        Round::Locks => lock_call(plan.worker, k == 0, drawn.cell),
         Round::Checkpoint | Round::CheckpointPairs | Round::CheckpointAway => Call::Step,
         Round::Recovery => step_call(k, Call::RecoveryStart),
         Round::WriteBack => Call::WriteBack {

@@ -33,7 +33,7 @@ lines-fine : (b : Board) → badRecord (b .state) ≡ false → b .state .lines 
 unfolding badRecord
 lines-fine b e =
     let s = b .state in
-    lines-within (s .lines) (s .workers) (or-left (outside (s .lines) (s .workers)) _ (or-left _ _ (or-left _ _ e)))
+    lines-within (s .lines) (s .workers) (or-left (outside (s .lines) (s .workers)) _ (or-left _ _ (or-left _ _ (or-left _ _ e))))
 
 -- A page that is taken is of a board within the limits.
 taken-lines : (b : Board) (text : List ℕ) → pageCause b text ≡ 0 → b .state .lines ≤ 511

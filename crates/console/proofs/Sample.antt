@@ -1,4 +1,4 @@
--- Document 01's sample script and bench case K12, computed.
+-- Document 01's sample script, with the locks of document 02, ticket 6, and bench case K12, computed.
 use Prim.Native.Nat.{ℕ}
 use mathlib.Core.Path.{_≡_, refl}
 use mathlib.Core.List.{List, [], _∷_, _++_, flatten}
@@ -6,11 +6,12 @@ use Rattle.line.specs.Line.{lineOf, withLine}
 use Rattle.line.specs.Cell.{fieldIndex, fieldOf, withField}
 use Rattle.bitset.specs.Passing.{anyUnder}
 use Rattle.bitset.specs.Words.{bitOf, withBit, contains, inserted, strays}
+use Rattle.locks.specs.Holders.{digitOf, unheld, holds, holdsAny, heldFrom, withDigit}
 use Rattle.board.specs.Causes.{badRecord, causes, firstStanding, cause}
 use Rattle.board.specs.Effects.{formatStep, recoveryStep, actAt, performAct, step, advance, advanceOf, effect}
 use Rattle.board.specs.Next.{next, valueRead, valueOf}
 use Rattle.board.specs.Statements.{stepsFrom}
-use Rattle.text.specs.Ascii.{tab, feed, '-', '0', 'A', 'E', 'F', 'G', 'R', 'S', 'U', 'X'}
+use Rattle.text.specs.Ascii.{tab, feed, '-', '0', 'A', 'E', 'F', 'G', 'H', 'R', 'S', 'U', 'V', 'X'}
 use Rattle.text.specs.Numbers.{spelled, allDigits, valueAfter}
 use Rattle.script.specs.Grammar.{fields, isNumber, allNumbers, drilled, formed, meaning}
 use Rattle.script.specs.Answers.{answerText, headerText}
@@ -49,14 +50,16 @@ abbrev '9' : ℕ
 abbrev format : List ℕ
 format = 'F' ∷ tab ∷ '1' ∷ tab ∷ '1' ∷ feed ∷ []
 
--- "Lines `F 1 1`, `U 0 1 7`, `A 0` three times, `E 1`, `X`, `R`, `S` four times, `G 1`".
+-- "Lines `F 1 1`, `U 0 1 7`, `A 0` three times, `E 1`, `X`, `R`, `S` four times, `G 1`"; 02, ticket 6: "take the lock before each update and give it back after", `H 0 1` and `V 0 1`.
 unfoldable pub script : List (List ℕ)
 script =
     format ∷
+    ('H' ∷ tab ∷ '0' ∷ tab ∷ '1' ∷ feed ∷ []) ∷
     ('U' ∷ tab ∷ '0' ∷ tab ∷ '1' ∷ tab ∷ '7' ∷ feed ∷ []) ∷
     ('A' ∷ tab ∷ '0' ∷ feed ∷ []) ∷
     ('A' ∷ tab ∷ '0' ∷ feed ∷ []) ∷
     ('A' ∷ tab ∷ '0' ∷ feed ∷ []) ∷
+    ('V' ∷ tab ∷ '0' ∷ tab ∷ '1' ∷ feed ∷ []) ∷
     ('E' ∷ tab ∷ '1' ∷ feed ∷ []) ∷
     ('X' ∷ feed ∷ []) ∷
     ('R' ∷ feed ∷ []) ∷
@@ -71,26 +74,28 @@ script =
 unfoldable pub printed : List (List ℕ)
 printed =
     ('1' ∷ tab ∷ 'F' ∷ tab ∷ '0' ∷ tab ∷ '-' ∷ feed ∷ []) ∷
-    ('2' ∷ tab ∷ 'U' ∷ tab ∷ '0' ∷ tab ∷ '-' ∷ feed ∷ []) ∷
-    ('3' ∷ tab ∷ 'A' ∷ tab ∷ '0' ∷ tab ∷ '-' ∷ feed ∷ []) ∷
+    ('2' ∷ tab ∷ 'H' ∷ tab ∷ '0' ∷ tab ∷ '-' ∷ feed ∷ []) ∷
+    ('3' ∷ tab ∷ 'U' ∷ tab ∷ '0' ∷ tab ∷ '-' ∷ feed ∷ []) ∷
     ('4' ∷ tab ∷ 'A' ∷ tab ∷ '0' ∷ tab ∷ '-' ∷ feed ∷ []) ∷
     ('5' ∷ tab ∷ 'A' ∷ tab ∷ '0' ∷ tab ∷ '-' ∷ feed ∷ []) ∷
-    ('6' ∷ tab ∷ 'E' ∷ tab ∷ '0' ∷ tab ∷ '-' ∷ feed ∷ []) ∷
-    ('7' ∷ tab ∷ 'X' ∷ tab ∷ '0' ∷ tab ∷ '-' ∷ feed ∷ []) ∷
-    ('8' ∷ tab ∷ 'R' ∷ tab ∷ '0' ∷ tab ∷ '-' ∷ feed ∷ []) ∷
-    ('9' ∷ tab ∷ 'S' ∷ tab ∷ '0' ∷ tab ∷ '-' ∷ feed ∷ []) ∷
-    ('1' ∷ '0' ∷ tab ∷ 'S' ∷ tab ∷ '0' ∷ tab ∷ '-' ∷ feed ∷ []) ∷
+    ('6' ∷ tab ∷ 'A' ∷ tab ∷ '0' ∷ tab ∷ '-' ∷ feed ∷ []) ∷
+    ('7' ∷ tab ∷ 'V' ∷ tab ∷ '0' ∷ tab ∷ '-' ∷ feed ∷ []) ∷
+    ('8' ∷ tab ∷ 'E' ∷ tab ∷ '0' ∷ tab ∷ '-' ∷ feed ∷ []) ∷
+    ('9' ∷ tab ∷ 'X' ∷ tab ∷ '0' ∷ tab ∷ '-' ∷ feed ∷ []) ∷
+    ('1' ∷ '0' ∷ tab ∷ 'R' ∷ tab ∷ '0' ∷ tab ∷ '-' ∷ feed ∷ []) ∷
     ('1' ∷ '1' ∷ tab ∷ 'S' ∷ tab ∷ '0' ∷ tab ∷ '-' ∷ feed ∷ []) ∷
     ('1' ∷ '2' ∷ tab ∷ 'S' ∷ tab ∷ '0' ∷ tab ∷ '-' ∷ feed ∷ []) ∷
-    ('1' ∷ '3' ∷ tab ∷ 'G' ∷ tab ∷ '0' ∷ tab ∷ '0' ∷ feed ∷ []) ∷
+    ('1' ∷ '3' ∷ tab ∷ 'S' ∷ tab ∷ '0' ∷ tab ∷ '-' ∷ feed ∷ []) ∷
+    ('1' ∷ '4' ∷ tab ∷ 'S' ∷ tab ∷ '0' ∷ tab ∷ '-' ∷ feed ∷ []) ∷
+    ('1' ∷ '5' ∷ tab ∷ 'G' ∷ tab ∷ '0' ∷ tab ∷ '0' ∷ feed ∷ []) ∷
     []
 
--- The sample script prints what document 01 says.
+-- The sample script prints what document 01 says, and 0 for its two locks.
 pub sample : transcript Drill (flatten script) ≡ headerText ++ flatten printed
-unfolding script printed flatten linesOf answers fields allDigits valueAfter isNumber allNumbers drilled formed meaning spelled answerText next valueOf valueRead stepsFrom cause causes firstStanding badRecord anyUnder bitOf withBit contains inserted strays effect step formatStep recoveryStep actAt performAct advance advanceOf lineOf withLine fieldIndex fieldOf withField
+unfolding script printed flatten linesOf answers fields allDigits valueAfter isNumber allNumbers drilled formed meaning spelled answerText next valueOf valueRead stepsFrom cause causes firstStanding badRecord anyUnder bitOf withBit contains inserted strays digitOf unheld holds holdsAny heldFrom withDigit effect step formatStep recoveryStep actAt performAct advance advanceOf lineOf withLine fieldIndex fieldOf withField
 sample = refl
 
 -- "K12: update of cell 0 or 2 gives 7", "from a fresh format (1, 1)".
 pub k12 : transcript Drill (format ++ ('U' ∷ tab ∷ '0' ∷ tab ∷ '0' ∷ tab ∷ '7' ∷ feed ∷ []) ++ ('U' ∷ tab ∷ '0' ∷ tab ∷ '2' ∷ tab ∷ '7' ∷ feed ∷ [])) ≡ headerText ++ ('1' ∷ tab ∷ 'F' ∷ tab ∷ '0' ∷ tab ∷ '-' ∷ feed ∷ []) ++ ('2' ∷ tab ∷ 'U' ∷ tab ∷ '7' ∷ tab ∷ '-' ∷ feed ∷ []) ++ ('3' ∷ tab ∷ 'U' ∷ tab ∷ '7' ∷ tab ∷ '-' ∷ feed ∷ [])
-unfolding linesOf answers fields allDigits valueAfter isNumber allNumbers drilled formed meaning spelled answerText next valueOf valueRead stepsFrom cause causes firstStanding badRecord anyUnder bitOf withBit contains inserted strays effect step formatStep recoveryStep actAt performAct advance advanceOf lineOf withLine fieldIndex fieldOf withField
+unfolding linesOf answers fields allDigits valueAfter isNumber allNumbers drilled formed meaning spelled answerText next valueOf valueRead stepsFrom cause causes firstStanding badRecord anyUnder bitOf withBit contains inserted strays digitOf unheld holds holdsAny heldFrom withDigit effect step formatStep recoveryStep actAt performAct advance advanceOf lineOf withLine fieldIndex fieldOf withField
 k12 = refl

@@ -1,4 +1,4 @@
-// An example of a host (docs/HOST.md): it formats a board, changes a cell, takes a checkpoint, changes the cell again,
+// An example of a host (docs/HOST.md): it formats a board, changes a cell under its lock, takes a checkpoint, changes the cell again,
 // is cut, recovers, and prints what the cell reads before the cut and after it.
 use board::Call;
 use board::State;
@@ -35,19 +35,24 @@ fn show(s: State, m: &mut Row, c: &mut Row) {
     io::write_all(STDOUT_FILENO, b"\n");
 }
 
-// Worker 0's update of cell 1.
-fn update(value: u64) -> Call {
-    Call::Update {
-        worker: 0,
-        cell: 1,
-        value,
-    }
-}
-
 // An update or a restart point of worker 0: its start, and the three stores of a cell that is not logged yet.
 fn change(s: State, m: &mut Row, c: &mut Row, start: Call) -> State {
     let begun = make(s, m, c, start, 1);
     make(begun, m, c, Call::Advance { worker: 0 }, 3)
+}
+
+// Worker 0's update of cell 1, with the cell's lock taken before and given back after.
+fn update(s: State, m: &mut Row, c: &mut Row, value: u64) -> State {
+    let take = Call::TakeLock { worker: 0, lock: 1 };
+    let give_back = Call::GiveBackLock { worker: 0, lock: 1 };
+    let start = Call::Update {
+        worker: 0,
+        cell: 1,
+        value,
+    };
+    let holding = make(s, m, c, take, 1);
+    let changed = change(holding, m, c, start);
+    make(changed, m, c, give_back, 1)
 }
 
 // A new board, 7 in cell 1, a checkpoint of n = 1 dirty line in n + 3 steps; then 9 in cell 1, its line written back.
@@ -62,11 +67,11 @@ fn work(m: &mut Row, c: &mut Row) {
     };
     let started = make(engine::off(), m, c, format, 1);
     let fresh = make(started, m, c, Call::Step, 3);
-    let seven = change(fresh, m, c, update(7));
+    let seven = update(fresh, m, c, 7);
     let asked = make(seven, m, c, Call::Request, 1);
     let waiting = change(asked, m, c, point);
     let kept = make(waiting, m, c, Call::Step, 4);
-    let nine = change(kept, m, c, update(9));
+    let nine = update(kept, m, c, 9);
     let written = make(nine, m, c, Call::WriteBack { line: 1 }, 1);
     show(written, m, c);
 }

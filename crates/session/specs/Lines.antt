@@ -47,7 +47,7 @@ formatted l w b = stepsFrom (formatSteps l) (next (FormatStart l w) b)
 -- "phase off", all else as it was.
 abbrev pub switchedOff : State → State
 switchedOff s =
-    record { phase = Off; lines = s .lines; workers = s .workers; place = s .place; undo = s .undo; requested = s .requested; dirty = s .dirty; worker = s .worker }
+    record { phase = Off; lines = s .lines; workers = s .workers; place = s .place; undo = s .undo; requested = s .requested; holders = s .holders; dirty = s .dirty; worker = s .worker }
 
 -- "X (cut: cache zeroed, phase off, answer 0)".
 abbrev pub cutOff : Board → Board

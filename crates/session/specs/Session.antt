@@ -12,7 +12,7 @@ use Rattle.session.specs.declared.Session.{Session}
 abbrev pub boardOf : Session → List ℕ → List ℕ → Board
 boardOf s memory cache = lent (s .state) (take (s .memory) memory) (take (s .cache) cache)
 
--- "before one they are empty and the phase is off"; every other field is 0, all workers are free.
+-- "before one they are empty and the phase is off"; every other field is 0, no lock is held, all workers are free.
 abbrev pub firstBoard : Board
 firstBoard = lent (started Off 0 0) [] []
 
