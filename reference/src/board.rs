@@ -2,6 +2,7 @@
 
 use crate::bits::{LineBits, NO_LINES};
 use crate::line::{row_words, MOST_WORKERS};
+use crate::locks::{Holders, ALL_FREE};
 use crate::mistake::Mistake;
 
 /// "the phase (off, formatting, recovering, running)"
@@ -38,6 +39,13 @@ pub enum Condition {
     Updating(Update),
 }
 
+impl Condition {
+    /// In the middle of an update of such a cell.
+    pub fn updates(&self, such: impl Fn(u64) -> bool) -> bool {
+        matches!(self, Condition::Updating(update) if such(update.cell.into()))
+    }
+}
+
 /// "A recovery's place is a cell and which of its steps is next."
 #[derive(Clone, Copy, PartialEq, Eq, Debug)]
 pub enum UndoStep {
@@ -57,6 +65,7 @@ pub struct State {
     pub requested: bool,
     pub worker: [Condition; MOST_WORKERS],
     pub line_bits: LineBits,
+    pub holders: Holders,
 }
 
 impl State {
@@ -71,6 +80,7 @@ impl State {
             requested: false,
             worker: [Condition::Free; MOST_WORKERS],
             line_bits: NO_LINES,
+            holders: ALL_FREE,
         }
     }
 

@@ -47,6 +47,16 @@ pub enum Call {
     },
     /// "the host can learn the count of set bits plus 3"
     Count,
+    /// "A free worker ... takes a free lock."
+    Take {
+        worker: u64,
+        lock: u64,
+    },
+    /// "It gives it back when none of its updates under it is unfinished"
+    GiveBack {
+        worker: u64,
+        lock: u64,
+    },
 }
 
 impl Call {

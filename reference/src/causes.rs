@@ -1,11 +1,12 @@
-//! Why a call is turned down: the table of 01, tested in rising order of number, and what 02 adds to it, 13 directly
-//! after 8 and 14 directly after 5.
+//! Why a call is turned down: the table of 01, tested in rising order of number, and what 02 adds to it: 14 directly
+//! after 5, 15 after 7, and after 8 first 13, then 16.
 
 use crate::bits;
 use crate::board::{Condition, Lent, Phase, State};
 use crate::call::Call;
 use crate::effects::writes;
 use crate::line::{cells, row_words, sizes_allowed, LINE_WORDS};
+use crate::locks::{holder_astray, holds, holds_any, lock_of, LOCKS, NOBODY};
 use crate::mistake::Mistake;
 use crate::page::page_bytes;
 
@@ -28,6 +29,8 @@ pub fn cause(call: &Call, state: &State, rows: &Lent, mistake: Option<Mistake>) 
         Call::GoAway { worker } => go_away_cause(worker, state, rows, mistake),
         Call::ComeBack { worker } => come_back_cause(worker, state, rows, mistake),
         Call::Count => running_cause(state, rows, mistake),
+        Call::Take { worker, lock } => take_cause(worker, lock, state, rows, mistake),
+        Call::GiveBack { worker, lock } => give_back_cause(worker, lock, state, rows, mistake),
     }
 }
 
@@ -119,7 +122,7 @@ fn waits(condition: &Condition, mistake: Option<Mistake>) -> bool {
     }
 }
 
-/// The start of an update.
+/// The start of an update: "A data cell's update needs its lock held at its start."
 fn update_cause(worker: u64, cell: u64, state: &State, rows: &Lent, mistake: Option<Mistake>) -> u8 {
     let common = worker_cause(worker, state, rows, mistake);
     if common != 0 {
@@ -128,30 +131,88 @@ fn update_cause(worker: u64, cell: u64, state: &State, rows: &Lent, mistake: Opt
     if cell < state.workers as u64 || cell >= cells(state.lines as u64) {
         return 7;
     }
-    begin_cause(worker as usize, cell, state, mistake)
+    let holders = &state.holders;
+    let lacking = match mistake {
+        Some(Mistake::NoLockAtUpdate) => false,
+        Some(Mistake::LockMod8) => !holds(holders, worker, lock_of(cell % 8)),
+        Some(Mistake::AnyHolder) => holders[lock_of(cell)] == NOBODY,
+        _ => !holds(holders, worker, lock_of(cell)),
+    };
+    begin_cause(worker as usize, cell, lacking, state, mistake)
 }
 
-/// The start of a restart point, on the worker's own restart cell.
+/// The start of a restart point, on the worker's own restart cell: 16 for a lock "held at a restart point".
 fn restart_point_cause(worker: u64, state: &State, rows: &Lent, mistake: Option<Mistake>) -> u8 {
+    let common = worker_cause(worker, state, rows, mistake);
+    if common != 0 {
+        return common;
+    }
+    let held = holds_any(&state.holders, worker as u8) && mistake != Some(Mistake::RestartUnderLock);
+    begin_cause(worker as usize, worker, held, state, mistake)
+}
+
+/// "a worker not free" is 8; then 16 where a lock is wrong; "another worker under W has an unfinished update of the same
+/// cell" is 9.
+fn begin_cause(worker: usize, cell: u64, wrong_lock: bool, state: &State, mistake: Option<Mistake>) -> u8 {
+    let away_begins = state.worker[worker] == Condition::Away && mistake == Some(Mistake::AwayUpdates);
+    let busy = state.worker[worker] != Condition::Free && !away_begins;
+    match mistake {
+        Some(Mistake::Cause16First) if wrong_lock => 16,
+        Some(Mistake::Cause9First) if !busy && updated_by_another(worker, cell, state, mistake) => 9,
+        _ if busy => 8,
+        _ if wrong_lock => 16,
+        _ if updated_by_another(worker, cell, state, mistake) => 9,
+        _ => 0,
+    }
+}
+
+/// Another worker under W is in the middle of an update of this cell.
+fn updated_by_another(worker: usize, cell: u64, state: &State, mistake: Option<Mistake>) -> bool {
+    let dropped = matches!(mistake, Some(Mistake::NoCause9 | Mistake::NoLockAtUpdate));
+    let mut others = state.active_workers().iter().enumerate().filter(|(other, _)| *other != worker);
+    !dropped && others.any(|(_, condition)| condition.updates(|other| other == cell))
+}
+
+/// "A free worker, else 8, takes a free lock", else 16; "15 for a lock number of 16 or more".
+fn take_cause(worker: u64, lock: u64, state: &State, rows: &Lent, mistake: Option<Mistake>) -> u8 {
+    let common = lock_cause(worker, lock, state, rows, mistake);
+    if common != 0 {
+        return common;
+    }
+    let holder = state.holders[lock as usize];
+    let again = mistake == Some(Mistake::TakeOwnTwice) && u64::from(holder) == worker;
+    let busy = state.worker[worker as usize] != Condition::Free;
+    eight_then_sixteen(busy, holder != NOBODY && !again, mistake)
+}
+
+/// "It gives it back when none of its updates under it is unfinished, else 8"; 16 for a lock "given back and not held".
+fn give_back_cause(worker: u64, lock: u64, state: &State, rows: &Lent, mistake: Option<Mistake>) -> u8 {
+    let common = lock_cause(worker, lock, state, rows, mistake);
+    if common != 0 {
+        return common;
+    }
+    let under = |cell: u64| cell >= state.workers as u64 && lock_of(cell) as u64 == lock;
+    let unfinished = state.worker[worker as usize].updates(under) && mistake != Some(Mistake::GiveBackMidUpdate);
+    let free = state.holders[lock as usize] == NOBODY && mistake == Some(Mistake::GiveBackFree);
+    eight_then_sixteen(unfinished, !holds(&state.holders, worker, lock as usize) && !free, mistake)
+}
+
+/// Causes 2, 3, 4, 6 and 15 of a call that names a lock.
+fn lock_cause(worker: u64, lock: u64, state: &State, rows: &Lent, mistake: Option<Mistake>) -> u8 {
     match worker_cause(worker, state, rows, mistake) {
-        0 => begin_cause(worker as usize, worker, state, mistake),
+        0 if lock >= LOCKS as u64 => 15,
         common => common,
     }
 }
 
-/// "a worker not free" is 8; "another worker under W has an unfinished update of the same cell" is 9.
-fn begin_cause(worker: usize, cell: u64, state: &State, mistake: Option<Mistake>) -> u8 {
-    let away_begins = state.worker[worker] == Condition::Away && mistake == Some(Mistake::AwayUpdates);
-    if state.worker[worker] != Condition::Free && !away_begins {
-        return 8;
+/// "16 ..., after 8"
+fn eight_then_sixteen(wrong_condition: bool, wrong_lock: bool, mistake: Option<Mistake>) -> u8 {
+    match (wrong_condition, wrong_lock) {
+        (_, true) if mistake == Some(Mistake::Cause16First) => 16,
+        (true, _) => 8,
+        (false, true) => 16,
+        (false, false) => 0,
     }
-    for (other, condition) in state.active_workers().iter().enumerate() {
-        let same = matches!(condition, Condition::Updating(update) if update.cell as u64 == cell);
-        if same && other != worker && mistake != Some(Mistake::NoCause9) {
-            return 9;
-        }
-    }
-    0
 }
 
 /// "advance of one free or waiting" is 8.
@@ -218,17 +279,19 @@ fn page_cause(room: u64, state: &State, rows: &Lent, mistake: Option<Mistake>) -
     }
 }
 
-/// "8 for going away when not free"
+/// "8 for going away when not free"; 16 for a lock "held ... on going away"
 fn go_away_cause(worker: u64, state: &State, rows: &Lent, mistake: Option<Mistake>) -> u8 {
     let common = worker_cause(worker, state, rows, mistake);
     if common != 0 {
         return common;
     }
-    match state.worker[worker as usize] {
-        Condition::Free => 0,
-        Condition::Waiting if mistake == Some(Mistake::WaitingGoesAway) => 0,
-        _ => 8,
-    }
+    let stays = match state.worker[worker as usize] {
+        Condition::Free => false,
+        Condition::Waiting => mistake != Some(Mistake::WaitingGoesAway),
+        Condition::Away | Condition::Updating(_) => true,
+    };
+    let held = holds_any(&state.holders, worker as u8) && mistake != Some(Mistake::AwayUnderLock);
+    eight_then_sixteen(stays, held, mistake)
 }
 
 /// "8 for ... coming back when not away; 13 for coming back after a checkpoint's first step ..., after 8"
@@ -294,6 +357,9 @@ fn record_sound(state: &State, mistake: Option<Mistake>) -> bool {
         return false;
     }
     if bit_astray(state, mistake) {
+        return false;
+    }
+    if holder_astray(&state.holders, state.workers) && mistake != Some(Mistake::HolderW) {
         return false;
     }
     let place = state.place as u64;

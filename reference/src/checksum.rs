@@ -8,12 +8,14 @@ pub fn of_numbers(numbers: impl Iterator<Item = u64>) -> u64 {
     numbers.fold(14_695_981_039_346_656_037, |sum, number| (sum ^ number).wrapping_mul(1_099_511_628_211))
 }
 
-/// "the fields of `B` ...; for each of the eight workers ...; ... the eight words of bits; ... memory, ... the cache"
+/// "the fields of `B` ...; for each of the eight workers ...; ... the eight words of bits; ... the sixteen holders ...; memory, ... the cache"
 pub fn of_board(board: &Board) -> u64 {
     let fields = FIELDS.iter().map(|k| field(&board.state, *k));
     let workers = board.state.worker.iter().flat_map(condition_numbers);
     let bits = board.state.line_bits;
-    of_numbers(fields.chain(workers).chain(bits).chain(row(&board.memory)).chain(row(&board.cache)))
+    let holders = board.state.holders.map(u64::from);
+    let rows = row(&board.memory).chain(row(&board.cache));
+    of_numbers(fields.chain(workers).chain(bits).chain(holders).chain(rows))
 }
 
 /// "For `p` they are the bytes of the text row."

@@ -44,6 +44,7 @@ pub fn run(words: &[&str]) -> Ended {
         ["page"] => print_page(),
         ["script", "--fault", numbers @ ..] => print_seeded(fault_script::script, numbers),
         ["script", "--bits", numbers @ ..] => print_seeded(fault_script::bits_script, numbers),
+        ["script", "--locks", numbers @ ..] => print_seeded(fault_script::locks_script, numbers),
         ["script", "--foreign", numbers @ ..] => print_seeded(fault_script::foreign_script, numbers),
         ["script", "--page", numbers @ ..] => print_seeded(page_script::script, numbers),
         ["script", numbers @ ..] => print_script(numbers),
@@ -76,7 +77,7 @@ fn print_page() -> Ended {
     Ok(print(&text)?)
 }
 
-/// reference script --fault SEED LINES, and the same with --bits, --foreign and --page
+/// reference script --fault SEED LINES, and the same with --bits, --foreign, --locks and --page
 fn print_seeded(script: fn(u64, u64) -> Vec<u8>, words: &[&str]) -> Ended {
     let &[seed, lines] = numbers(words)?.as_slice() else { return Err(misused()) };
     Ok(print(&script(seed, lines))?)

@@ -1,6 +1,7 @@
 //! The lines of the fault program that put a board into any condition.
 
 use crate::board::Board;
+use crate::locks::NOBODY;
 use crate::record::{condition, condition_numbers, field, set_field};
 use crate::text::Unread;
 
@@ -22,6 +23,8 @@ pub enum Damage {
     Field { k: u64, number: u64 },
     /// `K w c n a v`
     Worker { worker: u64, numbers: [u64; 4] },
+    /// `O k h`
+    Holder { lock: u64, holder: u64 },
 }
 
 impl Damage {
@@ -36,6 +39,10 @@ impl Damage {
             Damage::Worker { worker, numbers } => {
                 let at = usize::try_from(worker).map_err(|_| Unread::NoSuchPlace)?;
                 *board.state.worker.get_mut(at).ok_or(Unread::NoSuchPlace)? = condition(numbers)?;
+            }
+            Damage::Holder { lock, holder } => {
+                let at = usize::try_from(lock).map_err(|_| Unread::NoSuchPlace)?;
+                *board.state.holders.get_mut(at).ok_or(Unread::NoSuchPlace)? = holder_numbered(holder)?;
             }
         }
         Ok(())
@@ -55,8 +62,17 @@ impl Damage {
                 let known = board.state.worker.get(worker as usize);
                 Damage::Worker { worker, numbers: known.map_or([0; 4], condition_numbers) }
             }
+            Damage::Holder { lock, .. } => {
+                let known = board.state.holders.get(lock as usize).copied();
+                Damage::Holder { lock, holder: known.unwrap_or(NOBODY).into() }
+            }
         }
     }
+}
+
+/// "its holder := h, a worker 0 to 7, or 8 for none"
+fn holder_numbered(number: u64) -> Result<u8, Unread> {
+    u8::try_from(number).ok().filter(|holder| *holder <= NOBODY).ok_or(Unread::TooLarge)
 }
 
 /// "words that stay keep their contents, new ones are 0; over the room: `?`"

@@ -20,8 +20,20 @@ pub enum Command {
 }
 
 /// The drill's letters, and how many numbers each has.
-pub const FORMS: [(u8, usize); 10] =
-    [(b'F', 2), (b'U', 3), (b'A', 1), (b'P', 2), (b'C', 0), (b'S', 0), (b'E', 1), (b'G', 1), (b'X', 0), (b'R', 0)];
+pub const FORMS: [(u8, usize); 12] = [
+    (b'F', 2),
+    (b'U', 3),
+    (b'A', 1),
+    (b'P', 2),
+    (b'C', 0),
+    (b'S', 0),
+    (b'E', 1),
+    (b'G', 1),
+    (b'X', 0),
+    (b'R', 0),
+    (b'H', 2),
+    (b'V', 2),
+];
 
 /// The drill as a program.
 pub struct Drill;
@@ -43,6 +55,8 @@ impl Program for Drill {
             (b'E', 1) => Call::WriteBack { line: a },
             (b'G', 1) => Call::Read { cell: a },
             (b'R', 0) => Call::Recovery,
+            (b'H', 2) => Call::Take { worker: a, lock: b },
+            (b'V', 2) => Call::GiveBack { worker: a, lock: b },
             _ => return Err(fields.other_form(&FORMS)),
         };
         Ok(Command::Call(call))

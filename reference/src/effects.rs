@@ -4,6 +4,7 @@ use crate::bits::{self, LineBits, BIT_WORDS, NO_LINES};
 use crate::board::{Condition, Phase, Rows, State, Store, UndoStep, Update};
 use crate::call::Call;
 use crate::line::{backup_at, cells, header, line_of, line_words, mark_at, record_at, LINE_WORDS};
+use crate::locks::{ALL_FREE, NOBODY};
 use crate::mistake::Mistake;
 
 /// Take a call that no cause turns down; gives the value read or counted, 0 for all others.
@@ -32,6 +33,8 @@ pub fn take(call: &Call, state: &mut State, rows: &mut Rows, mistake: Option<Mis
         Call::GoAway { worker } => state.worker[worker as usize] = Condition::Away,
         Call::ComeBack { worker } => state.worker[worker as usize] = back(mistake),
         Call::Count => return foretold(state, mistake),
+        Call::Take { worker, lock } => state.holders[lock as usize] = worker as u8,
+        Call::GiveBack { lock, .. } => state.holders[lock as usize] = NOBODY,
     }
     0
 }
@@ -97,7 +100,7 @@ fn free_workers(state: &mut State, away_too: bool) {
     }
 }
 
-/// "The start copies memory to cache"; no bit is set.
+/// "The start copies memory to cache"; no bit is set, and no lock held.
 fn start_recovery(state: &mut State, rows: &mut Rows, mistake: Option<Mistake>) {
     rows.cache.copy_from_slice(rows.memory);
     if mistake == Some(Mistake::RecoveryZeros) {
@@ -106,9 +109,11 @@ fn start_recovery(state: &mut State, rows: &mut Rows, mistake: Option<Mistake>) 
     if mistake == Some(Mistake::RecoveryClearsSpare) {
         rows.cache.chunks_exact_mut(LINE_WORDS).skip(1).for_each(|line| line[6..].fill(0));
     }
-    let kept = if mistake == Some(Mistake::RecoveryKeepsBits) { state.line_bits } else { NO_LINES };
+    let bits = if mistake == Some(Mistake::RecoveryKeepsBits) { state.line_bits } else { NO_LINES };
+    let holders = if mistake == Some(Mistake::LocksKept) { state.holders } else { ALL_FREE };
     *state = State::started(Phase::Recovering, rows.memory[1] as u16, rows.memory[2] as u8);
-    state.line_bits = kept;
+    state.line_bits = bits;
+    state.holders = holders;
 }
 
 /// "a cell whose mark equals the epoch takes three steps ..., any other ... one step that stores nothing"

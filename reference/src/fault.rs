@@ -15,7 +15,7 @@ use crate::text::{Fields, Unread};
 pub enum Command {
     /// A letter of the drill, or a call that the drill has no letter for: `f`, a format's start alone, `a`, `b` and `n`.
     Drill(drill::Command),
-    /// `W M N Q B K`
+    /// `W M N Q B K O`
     Damage(Damage),
     /// `T`
     Checksum,
@@ -41,7 +41,7 @@ pub const MOST_ROOM: u64 = 70_000;
 pub const BYTE_BEFORE: u8 = 0xAA;
 
 /// The letters that the drill has not, and how many numbers each has.
-pub const FORMS: [(u8, usize); 12] = [
+pub const FORMS: [(u8, usize); 13] = [
     (b'f', 2),
     (b'W', 2),
     (b'M', 2),
@@ -49,6 +49,7 @@ pub const FORMS: [(u8, usize); 12] = [
     (b'Q', 2),
     (b'B', 2),
     (b'K', 5),
+    (b'O', 2),
     (b'T', 0),
     (b'p', 1),
     (b'a', 1),
@@ -78,6 +79,7 @@ impl Program for Fault {
             (b'Q', 2) => Damage::Bits { at: a, word: b },
             (b'B', 2) => Damage::Field { k: a, number: b },
             (b'K', 5) => Damage::Worker { worker: a, numbers: [b, c, d, e] },
+            (b'O', 2) => Damage::Holder { lock: a, holder: b },
             (letter, _) if FORMS.iter().any(|(known, _)| *known == letter) => return Err(fields.other_form(&FORMS)),
             _ => return Ok(Command::Drill(Drill::command(fields)?)),
         };

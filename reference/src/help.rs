@@ -12,6 +12,7 @@ pub const USAGE: &str = "usage: reference drill
        reference script --fault SEED LINES
        reference script --bits SEED LINES
        reference script --foreign SEED LINES
+       reference script --locks SEED LINES
        reference script --page SEED LINES
        reference explore SEED COUNT [--mistake NAME] [--only CHECK]
        reference explore --exhaustive [--mistake NAME] [--only CHECK]
@@ -19,19 +20,20 @@ pub const USAGE: &str = "usage: reference drill
        reference help";
 
 /// Every command in a few words.
-const COMMANDS: [(&str, &str); 12] = [
+const COMMANDS: [(&str, &str); 13] = [
     ("drill", "01's drill: a script on standard input, its answers on standard output"),
     ("fault", "the same with damage, as fault.md says"),
     (
         "fault --reached",
         "how often the fault scripts of seeds 1 to SEEDS met each answer, each case of a worker away, of foreign \
-         memory and of line bits, and each ?",
+         memory, of line bits and of locks, and each ?",
     ),
     ("page", "the page of the board that a drill script on standard input leads to"),
     ("script", "a random script for the drill, on boards of any size or of L and W"),
     ("script --fault", "a random script for the fault program"),
     ("script --bits", "one of nothing but line bits: counts, checkpoints of several lines, bits that must not be set"),
     ("script --foreign", "one of nothing but memory from another kiosk: refused by 5 and 14, taken and worked on"),
+    ("script --locks", "one of nothing but locks: taken and given back, updates with and without them, holders W or more"),
     ("script --page", "a random script for the page, mostly ending on a board that runs"),
     (
         "explore",
@@ -41,7 +43,7 @@ const COMMANDS: [(&str, &str); 12] = [
     ("explore --exhaustive", "every state of the smallest board, from a format and from foreign memories"),
     (
         "bench",
-        "a workload's checksum: update, again, checkpoint, checkpoint-pairs, checkpoint-away, recovery, write-back, \
+        "a workload's checksum: update, again, checkpoint, checkpoint-pairs, checkpoint-away, recovery, write-back, locks, \
          page-equal, page-rising or page-random",
     ),
 ];

@@ -14,6 +14,7 @@ pub mod explore;
 pub mod fault;
 pub mod fault_script;
 pub mod line;
+pub mod locks;
 pub mod machine;
 pub mod mistake;
 pub mod page;

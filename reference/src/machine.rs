@@ -70,7 +70,8 @@ impl Machine {
                 self.steps = 0;
             }
             Call::WriteBack { line } => self.write_back(line),
-            Call::Read { .. } | Call::Page { .. } | Call::GoAway { .. } | Call::ComeBack { .. } | Call::Count => {}
+            Call::Read { .. } | Call::Page { .. } | Call::Count => {}
+            Call::GoAway { .. } | Call::ComeBack { .. } | Call::Take { .. } | Call::GiveBack { .. } => {}
         }
     }
 

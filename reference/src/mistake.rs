@@ -107,10 +107,34 @@ pub enum Mistake {
     BitOfLine0Passes,
     /// A bit past L is no cause.
     BitsPastLPass,
+    /// No lock asked at an update, and cause 9 dropped too.
+    NoLockAtUpdate,
+    /// Recovery's start leaves the locks with their holders.
+    LocksKept,
+    /// A cell's lock by its number mod 8.
+    LockMod8,
+    /// At an update another worker's lock is good enough.
+    AnyHolder,
+    /// A lock given back in the middle of an update under it.
+    GiveBackMidUpdate,
+    /// A free lock may be given back.
+    GiveBackFree,
+    /// One's own lock may be taken once more.
+    TakeOwnTwice,
+    /// 16 tested before 8.
+    Cause16First,
+    /// 9 tested before 16.
+    Cause9First,
+    /// A restart point under a lock.
+    RestartUnderLock,
+    /// Going away under a lock.
+    AwayUnderLock,
+    /// A holder W or more is no cause.
+    HolderW,
 }
 
 /// Every mistake with its name and a few words.
-pub const MISTAKES: [(&str, Mistake, &str); 52] = [
+pub const MISTAKES: [(&str, Mistake, &str); 64] = [
     ("mark-first", Mistake::MarkFirst, "an update stores the mark before the backup"),
     ("recovery-mark-first", Mistake::RecoveryMarkFirst, "recovery clears a mark before it restores the record"),
     ("recovery-cache-only", Mistake::RecoveryCacheOnly, "recovered lines are not written back"),
@@ -163,6 +187,18 @@ pub const MISTAKES: [(&str, Mistake, &str); 52] = [
     ("bit-of-last-line-refused", Mistake::BitOfLastLineRefused, "a bit of line L is cause 3 too"),
     ("bit-of-line-0-passes", Mistake::BitOfLine0Passes, "a bit of line 0 is no cause"),
     ("bits-past-l-pass", Mistake::BitsPastLPass, "a bit of a line past L is no cause"),
+    ("no-lock-at-update", Mistake::NoLockAtUpdate, "an update asks for no lock, and cause 9 is dropped too"),
+    ("locks-kept", Mistake::LocksKept, "recovery's start leaves the locks with their holders"),
+    ("lock-mod-8", Mistake::LockMod8, "a cell's lock is its number mod 8"),
+    ("any-holder", Mistake::AnyHolder, "at an update another worker's lock is good enough"),
+    ("give-back-mid-update", Mistake::GiveBackMidUpdate, "a lock is given back in the middle of an update under it"),
+    ("give-back-free", Mistake::GiveBackFree, "a free lock may be given back"),
+    ("take-own-twice", Mistake::TakeOwnTwice, "a worker may take its own lock once more"),
+    ("16-before-8", Mistake::Cause16First, "16 is tested before 8"),
+    ("9-before-16", Mistake::Cause9First, "9 is tested before 16"),
+    ("restart-under-lock", Mistake::RestartUnderLock, "a restart point is taken under a lock"),
+    ("away-under-lock", Mistake::AwayUnderLock, "a worker goes away under a lock"),
+    ("holder-w", Mistake::HolderW, "a holder W or more is no cause"),
 ];
 
 impl Mistake {

@@ -31,6 +31,8 @@ pub fn call_line(call: &Call) -> Vec<u8> {
         Call::GoAway { worker } => line('a', &[worker]),
         Call::ComeBack { worker } => line('b', &[worker]),
         Call::Count => line('n', &[]),
+        Call::Take { worker, lock } => line('H', &[worker, lock]),
+        Call::GiveBack { worker, lock } => line('V', &[worker, lock]),
     }
 }
 
@@ -43,6 +45,7 @@ pub fn damage_line(damage: &Damage) -> Vec<u8> {
         Damage::Bits { at, word } => line('Q', &[at, word]),
         Damage::Field { k, number } => line('B', &[k, number]),
         Damage::Worker { worker, numbers: [c, n, a, v] } => line('K', &[worker, c, n, a, v]),
+        Damage::Holder { lock, holder } => line('O', &[lock, holder]),
     }
 }
 

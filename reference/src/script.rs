@@ -101,7 +101,11 @@ impl Script {
         let (worker, cell) = (about(state.workers as u64), about(cells(state.lines as u64)));
         let lines = random.pick(&[0, 512, about(511) | 512, u64::MAX]);
         let (lines, workers) = random.pick(&[(lines, 1), (1, 2), (2, 4), (5, 9), (7, 0), (511, u64::MAX)]);
-        Command::Call(match random.below(10) {
+        let lock = random.pick(&[about(16), random.below(16)]);
+        Command::Call(match random.below(13) {
+            10 => Call::Take { worker, lock },
+            11 => Call::GiveBack { worker, lock },
+            12 => Call::Take { worker: random.below(8), lock: about(16) },
             0 => return Command::Format { lines, workers },
             1 => Call::Update { worker, cell: about(state.workers as u64), value: about(5) },
             2 => Call::Update { worker, cell, value: about(5) },

@@ -34,7 +34,7 @@ pub const UNREAD: [(Unread, &str); 12] = [
     (Unread::Extra, "a field too many"),
     (Unread::NoNumber, "a field that is no decimal number"),
     (Unread::PastWord, "a number past 2^64 - 1"),
-    (Unread::NoSuchPlace, "no such field, worker or condition"),
+    (Unread::NoSuchPlace, "no such field, worker, condition or lock"),
     (Unread::TooLarge, "a number too large for its field"),
     (Unread::PastRow, "an index past the row"),
     (Unread::NoRoom, "a length over the room"),

@@ -3,6 +3,7 @@
 use crate::board::{Condition, State};
 use crate::call::Call;
 use crate::line::cells;
+use crate::locks::{holds, holds_any, lock_of, LOCKS, NOBODY};
 use crate::random::Random;
 
 /// A call that brings a running board on: a request so many times in a thousand, and what a requested checkpoint needs.
@@ -22,14 +23,64 @@ pub fn good_call(random: &Random, state: &State, requests: u64, value: u64) -> C
         return Call::Step;
     };
     if state.worker[worker as usize] != Condition::Free {
-        return Call::Advance { worker };
+        return if random.chance(1, 30) { give_back(random, state, worker) } else { Call::Advance { worker } };
+    }
+    if holds_any(&state.holders, worker as u8) {
+        return under_locks(random, state, worker, value);
     }
     let restart_points = if state.requested { 4 } else { 1 };
     if random.chance(restart_points, 5) {
         return Call::RestartPoint { worker, value };
     }
-    let cell = workers + random.below(cells - workers);
-    Call::Update { worker, cell, value }
+    if random.chance(1, 25) {
+        return Call::Update { worker, cell: data_cell(random, state), value };
+    }
+    take(random, state, worker)
+}
+
+/// Any data cell.
+fn data_cell(random: &Random, state: &State) -> u64 {
+    let workers = state.workers as u64;
+    workers + random.below(cells(state.lines as u64) - workers)
+}
+
+/// The lock of a data cell taken, of one whose lock is free if there is one; seldom any lock.
+fn take(random: &Random, state: &State, worker: u64) -> Call {
+    if random.chance(1, 15) {
+        return Call::Take { worker, lock: random.below(LOCKS as u64) };
+    }
+    let (cell, workers) = (data_cell(random, state), state.workers as u64);
+    let after = (0..LOCKS as u64).map(|next| workers + (cell - workers + next) % (cells(state.lines as u64) - workers));
+    let mut free = after.filter(|cell| state.holders[lock_of(*cell)] == NOBODY);
+    Call::Take { worker, lock: lock_of(free.next().unwrap_or(cell)) as u64 }
+}
+
+/// A lock of this worker's given back, seldom any lock.
+fn give_back(random: &Random, state: &State, worker: u64) -> Call {
+    let first = random.below(LOCKS as u64);
+    let mut after = (0..LOCKS as u64).map(|next| (first + next) % LOCKS as u64);
+    let own = after.find(|lock| holds(&state.holders, worker, *lock as usize)).unwrap_or(first);
+    Call::GiveBack { worker, lock: if random.chance(1, 15) { first } else { own } }
+}
+
+/// What a free worker does that holds locks: updates under them, one more lock, a lock given back; seldom what it must not.
+fn under_locks(random: &Random, state: &State, worker: u64, value: u64) -> Call {
+    let patience = if state.requested { 10 } else { 50 };
+    match random.below(100) {
+        roll if roll >= patience + 15 => give_back(random, state, worker),
+        0 | 1 => Call::RestartPoint { worker, value },
+        2 | 3 => Call::Update { worker, cell: data_cell(random, state), value },
+        4 => Call::Take { worker, lock: random.below(LOCKS as u64) },
+        5..=9 => take(random, state, worker),
+        _ => {
+            let first = data_cell(random, state);
+            let mut after = (first..cells(state.lines as u64)).chain(state.workers as u64..first);
+            match after.find(|cell| holds(&state.holders, worker, lock_of(*cell))) {
+                Some(cell) => Call::Update { worker, cell, value },
+                None => give_back(random, state, worker),
+            }
+        }
+    }
 }
 
 /// How often a free worker goes away, and one that is away tries to come back, in a thousand calls.
@@ -46,7 +97,7 @@ pub fn good_call_with_away(random: &Random, state: &State, requests: u64, leave:
     let nobody = !state.requested && state.active_workers().iter().all(|condition| *condition == Condition::Away);
     let back = if nobody { leave.back.max(500) } else { leave.back };
     match state.worker[worker as usize] {
-        Condition::Free if random.chance(leave.away, 1000) => Call::GoAway { worker },
+        Condition::Free if random.chance(leave.away, 1000) => leaves(random, state, worker),
         Condition::Away if random.chance(back, 1000) => Call::ComeBack { worker },
         Condition::Away if random.chance(1, 20) => of_one_away(random, state, worker, value),
         _ if nobody => Call::Request,
@@ -54,11 +105,24 @@ pub fn good_call_with_away(random: &Random, state: &State, requests: u64, leave:
     }
 }
 
-/// An update, a restart point or an advance of a worker that is away.
+/// A worker goes away, after it gave its locks back, or seldom before that.
+fn leaves(random: &Random, state: &State, worker: u64) -> Call {
+    if holds_any(&state.holders, worker as u8) && random.chance(9, 10) {
+        return give_back(random, state, worker);
+    }
+    Call::GoAway { worker }
+}
+
+/// What a worker that is away must not do: an update, a restart point, an advance, a lock taken or given back.
 fn of_one_away(random: &Random, state: &State, worker: u64, value: u64) -> Call {
-    let (workers, cells) = (state.workers as u64, cells(state.lines as u64));
-    let cell = workers + random.below(cells - workers);
-    random.pick(&[Call::Update { worker, cell, value }, Call::RestartPoint { worker, value }, Call::Advance { worker }])
+    let (cell, lock) = (data_cell(random, state), random.below(LOCKS as u64));
+    random.pick(&[
+        Call::Update { worker, cell, value },
+        Call::RestartPoint { worker, value },
+        Call::Advance { worker },
+        Call::Take { worker, lock },
+        Call::GiveBack { worker, lock },
+    ])
 }
 
 /// Some W that a board of so many lines may have.

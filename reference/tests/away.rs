@@ -45,10 +45,11 @@ fn recovered(mut board: Board) -> Vec<u64> {
     (0..cells).map(|cell| board.perform(&Call::Read { cell }).value).collect()
 }
 
-/// An update of a cell that is not marked, with its three advances.
-fn update(worker: u64, cell: u64, value: u64) -> [Call; 4] {
-    let advance = Call::Advance { worker };
-    [Call::Update { worker, cell, value }, advance, advance, advance]
+/// An update of a cell that is not marked, with its three advances and its lock.
+fn update(worker: u64, cell: u64, value: u64) -> [Call; 6] {
+    let (advance, lock) = (Call::Advance { worker }, cell % 16);
+    let [take, give_back] = [Call::Take { worker, lock }, Call::GiveBack { worker, lock }];
+    [take, Call::Update { worker, cell, value }, advance, advance, advance, give_back]
 }
 
 /// A restart point on a cell that is not marked, with its three advances.

@@ -1,4 +1,4 @@
-//! K1 to K12 of 01.
+//! K1 to K12 of 01, with ticket 6's lock about each update.
 #![deny(warnings)]
 
 use reference::board::{Board, Phase};
@@ -44,17 +44,21 @@ fn read(board: &mut Board, cell: u64) -> u64 {
 
 const ADVANCE: Call = Call::Advance { worker: 0 };
 
-/// K4: an update and two advances.
+/// Lock 1, under which cell 1 lies.
+const TAKE: Call = Call::Take { worker: 0, lock: 1 };
+const GIVE_BACK: Call = Call::GiveBack { worker: 0, lock: 1 };
+
+/// K4: lock 1, an update and two advances.
 fn k4() -> Board {
     let (mut board, _) = formatted(1, 1);
-    taken(&mut board, &[Call::Update { worker: 0, cell: 1, value: 7 }, ADVANCE, ADVANCE]);
+    taken(&mut board, &[TAKE, Call::Update { worker: 0, cell: 1, value: 7 }, ADVANCE, ADVANCE]);
     board
 }
 
-/// K5: and the third.
+/// K5: and the third, and the lock given back.
 fn k5() -> Board {
     let mut board = k4();
-    taken(&mut board, &[ADVANCE]);
+    taken(&mut board, &[ADVANCE, GIVE_BACK]);
     board
 }
 
@@ -99,6 +103,8 @@ fn k4_two_advances() {
     let board = k4();
     assert_eq!(line(&board.cache, 1), [0, 0, 0, 0, 0, 1, 0, 0]);
     assert_eq!(board.state.line_bits, [2, 0, 0, 0, 0, 0, 0, 0]);
+    assert_eq!(board.state.holders, std::array::from_fn(|lock| if lock == 1 { 0 } else { 8 }));
+    assert_eq!(board.cause(&GIVE_BACK), 8);
 }
 
 #[test]
@@ -106,6 +112,7 @@ fn k5_third_advance() {
     let board = k5();
     assert_eq!(line(&board.cache, 1), [0, 0, 0, 7, 0, 1, 0, 0]);
     assert_eq!(line(&board.memory, 1), [0; 8]);
+    assert_eq!(board.state.holders, [8; 16]);
 }
 
 #[test]
@@ -119,7 +126,7 @@ fn k6_written_back_and_recovered() {
 #[test]
 fn k7_second_update_in_one_epoch() {
     let mut board = k5();
-    taken(&mut board, &[Call::Update { worker: 0, cell: 1, value: 9 }, ADVANCE]);
+    taken(&mut board, &[TAKE, Call::Update { worker: 0, cell: 1, value: 9 }, ADVANCE, GIVE_BACK]);
     assert_eq!(line(&board.cache, 1), [0, 0, 0, 9, 0, 1, 0, 0]);
     assert_eq!(board.perform(&ADVANCE).number, 8);
 }

@@ -42,8 +42,9 @@ fn refused(board: &Board, cause: u8) {
 /// Updates of these cells by worker 0, each to 1 more than its number.
 fn updated(board: &mut Board, cells: &[u64]) {
     for cell in cells {
-        let advance = Call::Advance { worker: 0 };
-        taken(board, &[Call::Update { worker: 0, cell: *cell, value: cell + 1 }, advance, advance, advance]);
+        let (advance, lock) = (Call::Advance { worker: 0 }, cell % 16);
+        taken(board, &[Call::Take { worker: 0, lock }, Call::Update { worker: 0, cell: *cell, value: cell + 1 }]);
+        taken(board, &[advance, advance, advance, Call::GiveBack { worker: 0, lock }]);
     }
 }
 
@@ -95,13 +96,15 @@ fn the_marks_store_sets_the_bit_and_no_other_does() {
         let before = board.state.line_bits;
         let mut after = before;
         set(&mut after, line);
-        taken(&mut board, &[Call::Update { worker: 0, cell, value: 5 }]);
+        let lock = cell % 16;
+        taken(&mut board, &[Call::Take { worker: 0, lock }, Call::Update { worker: 0, cell, value: 5 }]);
         for bits in [before, after, after] {
             taken(&mut board, &[Call::Advance { worker: 0 }]);
             assert_eq!(board.state.line_bits, bits, "cell {cell}");
         }
         taken(&mut board, &[Call::Update { worker: 0, cell, value: 6 }, Call::Advance { worker: 0 }]);
         assert_eq!(board.state.line_bits, after);
+        taken(&mut board, &[Call::GiveBack { worker: 0, lock }]);
     }
     assert_eq!(board.state.line_bits, [2, 3, 0, 0, 0, 0, 0, 1 << 63]);
     assert_eq!(counted(&board), 7);

@@ -2,7 +2,7 @@
 #![deny(warnings)]
 
 use reference::drill;
-use reference::explore::{exhaustive, explore, Options};
+use reference::explore::{exhaustive, explore, Options, Tally};
 use reference::script::script;
 
 #[test]
@@ -26,15 +26,27 @@ fn random_sequences_hold() {
         assert!([0, 2, 3, 4, 6, 8].iter().all(|number| tally.going_away[*number] > 20), "{tally}");
         assert!([0, 2, 3, 4, 6, 8, 13].iter().all(|number| tally.coming_back[*number] > 20), "{tally}");
         assert!([0, 2, 3, 4].iter().all(|number| tally.counts[*number] > 100), "{tally}");
+        locks_are_met(&tally);
         assert!(tally.foretold > 1000 && tally.in_pairs > 300, "{tally}");
         assert!(tally.in_words > 10 && tally.in_eighth > 0, "{tally}");
     }
 }
 
+/// Locks taken, given back and refused by each cause, updates under them, and starts on any board followed.
+fn locks_are_met(tally: &Tally) {
+    assert!([0, 2, 3, 4, 6, 8, 15, 16].iter().all(|number| tally.takes[*number] > 20), "{tally}");
+    assert!([0, 2, 3, 4, 6, 8, 15, 16].iter().all(|number| tally.gives[*number] > 20), "{tally}");
+    assert!([0, 2, 3, 4, 6, 7, 8, 16].iter().all(|number| tally.updates[*number] > 20), "{tally}");
+    assert!([0, 2, 3, 4, 6, 8, 16].iter().all(|number| tally.restart_points[*number] > 20), "{tally}");
+    assert!(tally.going_away[16] > 20 && tally.updates[9] > 5 && tally.restart_points[9] > 5, "{tally}");
+    assert!(tally.updates[0] > 5000 && tally.takes[0] > 5000 && tally.gives[0] > 5000, "{tally}");
+    assert!(tally.wild[0] > 100 && tally.wild[1] > 5000, "{tally}");
+}
+
 #[test]
 fn every_state_of_the_smallest_board_holds() {
     let reached = exhaustive::exhaust(None, None).expect("nothing is violated");
-    assert_eq!((reached.from_format, reached.states, reached.transitions), (120_457, 218_937, 1_341_112));
+    assert_eq!((reached.from_format, reached.states, reached.transitions), (150_240, 275_040, 2_069_998));
     assert_eq!((reached.taken_memories, reached.refused_memories), (464, 336));
 }
 

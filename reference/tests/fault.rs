@@ -46,10 +46,11 @@ fn sum_of(numbers: &[u64]) -> u64 {
     sum as u64
 }
 
-/// The numbers of a board after `F 1 1`: six fields, eight workers, eight words of bits, memory and cache.
+/// The numbers of a board after `F 1 1`: six fields, eight workers, eight words of bits, sixteen holders, memory and cache.
 fn small_board() -> Vec<u64> {
     let mut numbers = vec![0; 6 + 32 + 8];
     numbers[..3].copy_from_slice(&[3, 1, 1]);
+    numbers.extend([8; 16]);
     for _ in 0..2 {
         numbers.push(16);
         numbers.extend([1, 1, 1]);
@@ -69,8 +70,8 @@ fn small_board_with(changes: &[(usize, u64)]) -> u64 {
 
 #[test]
 fn the_drills_letters_mean_the_same() {
-    let script = "F 1 1\nU 0 1 7\nA 0\nA 0\nA 0\nE 1\nX\nR\nS\nS\nS\nS\nG 1\n";
-    let expected = "F 0 -,U 0 -,A 0 -,A 0 -,A 0 -,E 0 -,X 0 -,R 0 -,S 0 -,S 0 -,S 0 -,S 0 -,G 0 0";
+    let script = "F 1 1\nH 0 1\nU 0 1 7\nA 0\nA 0\nA 0\nV 0 1\nE 1\nX\nR\nS\nS\nS\nS\nG 1\n";
+    let expected = "F 0 -,H 0 -,U 0 -,A 0 -,A 0 -,A 0 -,V 0 -,E 0 -,X 0 -,R 0 -,S 0 -,S 0 -,S 0 -,S 0 -,G 0 0";
     assert_eq!(fault(script).join(","), expected);
 }
 
@@ -90,22 +91,23 @@ fn a_random_script_of_the_drill_gives_the_same_answers_where_the_drill_reads_it(
 
 /// The line begins with a letter that the drill has.
 fn drill_reads(line: &[u8]) -> bool {
-    line.first().is_some_and(|letter| b"FUAPCSEGXR".contains(letter))
+    line.first().is_some_and(|letter| b"FUAPCSEGXRHV".contains(letter))
 }
 
 #[test]
 fn the_checksum_of_the_empty_board() {
-    assert_eq!(sum(""), sum_of(&[0; 6 + 32 + 8 + 2]));
-    assert_eq!(last("T"), "T 0 11573569732163983077");
+    assert_eq!(sum(""), sum_of(&[[0; 6 + 32 + 8].as_slice(), &[8; 16], &[0; 2]].concat()));
+    assert_eq!(last("T"), "T 0 12380605887962233893");
 }
 
 #[test]
 fn the_checksum_of_a_small_board() {
-    assert_eq!(sum("F 1 1"), 18_386_614_857_926_583_702);
+    assert_eq!(sum("F 1 1"), 5_083_111_122_115_820_566);
     assert_eq!(sum("F 1 1"), sum_of(&small_board()));
-    assert_eq!(sum("F 1 1\nU 0 1 7"), small_board_with(&[(6, 2), (8, 1), (9, 7)]));
-    let marked = [(6, 2), (7, 2), (8, 1), (9, 7), (64 + 13, 1), (38, 2)];
-    assert_eq!(sum("F 1 1\nU 0 1 7\nA 0\nA 0"), small_board_with(&marked));
+    assert_eq!(sum("F 1 1\nH 0 1"), small_board_with(&[(47, 0)]));
+    assert_eq!(sum("F 1 1\nH 0 1\nU 0 1 7"), small_board_with(&[(6, 2), (8, 1), (9, 7), (47, 0)]));
+    let marked = [(6, 2), (7, 2), (8, 1), (9, 7), (80 + 13, 1), (38, 2), (47, 0)];
+    assert_eq!(sum("F 1 1\nH 0 1\nU 0 1 7\nA 0\nA 0"), small_board_with(&marked));
 }
 
 #[test]
@@ -123,8 +125,11 @@ fn each_field_is_summed_where_it_stands() {
         ("Q 0 18446744073709551615", 38, u64::MAX),
         ("Q 1 65536", 39, 65_536),
         ("Q 7 1", 45, 1),
-        ("M 15 18446744073709551615", 47 + 15, u64::MAX),
-        ("N 15 18446744073709551615", 64 + 15, u64::MAX),
+        ("O 0 0", 46, 0),
+        ("O 1 7", 47, 7),
+        ("O 15 3", 61, 3),
+        ("M 15 18446744073709551615", 63 + 15, u64::MAX),
+        ("N 15 18446744073709551615", 80 + 15, u64::MAX),
     ] {
         assert_eq!(fault(&format!("F 1 1\n{line}"))[1], format!("{} 0 -", &line[..1]));
         assert_eq!(sum(&format!("F 1 1\n{line}")), small_board_with(&[(at, number)]), "{line}");
@@ -161,9 +166,9 @@ fn a_worker_put_away() {
     assert_eq!(number("F 1 1\nK 0 3 0 0 0\nB 6 1\nB 4 2\nb 0"), "13");
     assert_eq!(number("F 1 1\nK 0 3 0 0 0\nB 6 1\nB 4 3\nb 0"), "3");
     let released = "F 1 1\nK 0 3 0 0 0\nK 7 3 0 0 0\nK 6 1 0 0 0\nC\nS\nS\nS";
-    assert_eq!(sum(released), small_board_with(&[(0, 3), (6, 3), (34, 3), (47, 2), (64, 2)]));
+    assert_eq!(sum(released), small_board_with(&[(0, 3), (6, 3), (34, 3), (63, 2), (80, 2)]));
     let recovered = format!("{released}\nK 7 3 0 0 0\nX\nR\nS\nS");
-    assert_eq!(sum(&recovered), small_board_with(&[(47, 2), (64, 2)]));
+    assert_eq!(sum(&recovered), small_board_with(&[(63, 2), (80, 2)]));
     assert_eq!(sum("F 1 1\nK 7 3 0 0 0\nB 0 2\nB 4 1\nS"), sum("F 1 1"));
 }
 
@@ -185,7 +190,7 @@ fn a_formats_start_alone() {
 
 #[test]
 fn a_format_makes_the_rows_anew() {
-    let dirty = "F 1 1\nQ 0 9\nQ 7 9\nM 6 5\nN 15 5\nB 4 7\nK 5 1 0 0 0";
+    let dirty = "F 1 1\nQ 0 9\nQ 7 9\nM 6 5\nN 15 5\nB 4 7\nK 5 1 0 0 0\nO 3 0\nO 4 7";
     assert_eq!(sum(&format!("{dirty}\nF 1 1")), sum("F 1 1"));
     assert_eq!(sum(&format!("{dirty}\nW 17 3\nF 1 1")), sum("F 1 1"));
     assert_eq!(sum(&format!("{dirty}\nF 1 2")), sum(dirty));
@@ -193,16 +198,18 @@ fn a_format_makes_the_rows_anew() {
 
 #[test]
 fn a_cut_leaves_all_of_the_record_but_the_phase() {
-    let board = "F 1 1\nU 0 1 7\nA 0\nA 0\nC\nQ 7 5";
-    let kept = [(0, 0), (5, 1), (6, 2), (7, 2), (8, 1), (9, 7), (38, 2), (45, 5), (64, 0), (65, 0), (66, 0)];
+    let board = "F 1 1\nH 0 1\nU 0 1 7\nA 0\nA 0\nC\nQ 7 5\nO 15 7";
+    let bits_and_holders = [(38, 2), (45, 5), (47, 0), (61, 7)];
+    let kept = [(0, 0), (5, 1), (6, 2), (7, 2), (8, 1), (9, 7), (80, 0), (81, 0), (82, 0)];
+    let kept: Vec<(usize, u64)> = kept.into_iter().chain(bits_and_holders).collect();
     assert_eq!(sum(&format!("{board}\nX")), small_board_with(&kept));
 }
 
 #[test]
 fn rows_keep_the_words_that_stay() {
     assert_eq!(sum("F 1 1\nW 4104 4104\nW 16 16"), sum("F 1 1"));
-    assert_eq!(sum("F 1 1\nW 2 16\nW 16 16"), small_board_with(&[(49, 0)]));
-    assert_eq!(sum("F 1 1\nW 16 0\nW 16 16"), small_board_with(&[(64, 0), (65, 0), (66, 0)]));
+    assert_eq!(sum("F 1 1\nW 2 16\nW 16 16"), small_board_with(&[(65, 0)]));
+    assert_eq!(sum("F 1 1\nW 16 0\nW 16 16"), small_board_with(&[(80, 0), (81, 0), (82, 0)]));
     assert_eq!(sum("F 1 1\nQ 0 3\nW 0 0\nW 16 16\nF 1 1"), sum("F 1 1"));
 }
 
@@ -211,7 +218,8 @@ fn a_number_that_cannot_be_put_there_does_nothing() {
     let lines = "W 4105 0,W 0 4105,W 18446744073709551615 0,M 16 1,N 16 1,Q 8 1,Q 9 0,Q 18446744073709551615 0,\
         M 18446744073709551615 1,N 4294967296 1,Q 65536 1,B 0 4,B 1 65536,B 2 256,B 3 0,B 3 1,B 4 65536,B 5 3,B 6 2,\
         B 7 0,B 18446744073709551615 0,K 8 0 0 0 0,K 256 0 0 0 0,K 0 4 0 0 0,K 0 3 1 0 0,K 0 3 0 1 0,K 0 3 0 0 1,K 0 2 3 0 0,K 0 2 0 65536 0,K 0 0 1 0 0,\
-        K 0 0 0 1 0,K 0 0 0 0 1,K 0 1 1 0 0,K 0 1 0 1 0,K 0 1 0 0 1,M 0 18446744073709551616,Q 0 18446744073709551616,W 16 4105";
+        K 0 0 0 1 0,K 0 0 0 0 1,K 0 1 1 0 0,K 0 1 0 1 0,K 0 1 0 0 1,O 16 0,O 16 8,O 255 0,O 18446744073709551615 8,O 0 9,O 15 9,O 0 255,O 0 256,\
+        O 0 18446744073709551615,H 0 18446744073709551616,M 0 18446744073709551616,Q 0 18446744073709551616,W 16 4105";
     for line in lines.split(',').map(str::trim) {
         let answers = fault(&format!("F 1 1\n{line}\nT"));
         assert_eq!(answers[1], "? ? -", "{line}");
@@ -223,7 +231,7 @@ fn a_number_that_cannot_be_put_there_does_nothing() {
 fn lines_of_another_form_do_nothing() {
     let lines =
         "f 1,f 1 1 1,W 16,W 16 16 2,M 0,M 0 0 0,N 0,N 0 0 0,Q 0,Q 0 0 0,B 0,B 0 0 0,K 0 0 0 0,K 0 0 0 0 0 0,\
-        K 0 0,T 0,p,p 0 0,p 204 ,p +204,P,a,b,a 0 0,b 0 0,n 0,N,H 0 0,V 0 0,O 0 0,u 0 1 7,w 16 16,m 0 0,q 0 0,k 0 0 0 0 0,t,TT,M +1 0,M 0x1 0,\
+        K 0 0,T 0,p,p 0 0,p 204 ,p +204,P,a,b,a 0 0,b 0 0,n 0,N,H 0,V 0,O 0,H 0 0 0,V 0 0 0,O 0 0 0,H,V,O,h 0 0,v 0 0,o 0 0,u 0 1 7,w 16 16,m 0 0,q 0 0,k 0 0 0 0 0,t,TT,M +1 0,M 0x1 0,\
         B 0 3 ,K  0 0 0 0";
     for line in lines.split(',').map(|line| line.trim_start_matches("        ")) {
         let answers = fault(&format!("F 1 1\n{line}\nT"));
@@ -294,7 +302,7 @@ fn a_page_is_refused_by_the_first_cause_that_holds() {
 #[test]
 fn a_count_of_the_set_bits() {
     assert_eq!([last("n"), last("F 1 1\nn"), last("F 1 1\nQ 0 2\nn")], ["n 2 0", "n 0 3", "n 0 4"]);
-    assert_eq!(last("F 1 1\nU 0 1 7\nA 0\nA 0\nA 0\nC\nP 0 3\nA 0\nA 0\nA 0\nn"), "n 0 4");
+    assert_eq!(last("F 1 1\nH 0 1\nU 0 1 7\nA 0\nA 0\nA 0\nV 0 1\nC\nP 0 3\nA 0\nA 0\nA 0\nn"), "n 0 4");
     for (line, refused) in [("Q 0 1", 3), ("Q 0 3", 3), ("Q 0 4", 3), ("Q 7 1", 3), ("W 16 15", 4), ("B 0 2", 2)] {
         assert_eq!(last(&format!("F 1 1\nQ 0 2\n{line}\nn")), format!("n {refused} 0"), "{line}");
     }
@@ -333,4 +341,49 @@ fn foreign_memory() {
     }
     assert_eq!(last(&format!("{board}\nM 0 9\nM 11 5\nM 12 6\nM 13 9\nR\nS\nS\nS\nS\nG 1")), "G 0 6");
     assert_eq!(number("W 4104 4104\nM 0 1\nM 1 512\nM 2 1\nR"), "4");
+}
+
+#[test]
+fn locks_taken_given_back_and_put_there() {
+    let script =
+        "F 2 2\nH 0 3\nH 1 3\nU 1 3 9\nU 0 3 7\nV 0 3\na 0\nA 0\nA 0\nA 0\nP 0 1\na 0\nV 0 3\na 0\nH 0 3\nV 0 3\nb 0";
+    let expected = "F 0,H 0,H 16,U 16,U 0,V 8,a 8,A 0,A 0,A 0,P 16,a 16,V 0,a 0,H 8,V 16,b 0";
+    assert_eq!(fault(script).join(",").replace(" -", ""), expected);
+    assert_eq!(sum("F 1 1\nH 0 1\nV 0 1"), sum("F 1 1"));
+    assert_eq!(sum("F 1 1\nH 0 15"), sum("F 1 1\nO 15 0"));
+    assert_eq!(sum("F 1 1\nO 15 0\nO 15 8"), sum("F 1 1"));
+    for (line, number_of_cause) in [("B 0 2", "2"), ("B 1 0", "3"), ("W 16 15", "4"), ("O 7 1", "3"), ("O 0 7", "3")] {
+        for call in ["H 0 1", "V 0 1", "H 1 16", "V 1 16"] {
+            assert_eq!(number(&format!("F 1 1\n{line}\n{call}")), number_of_cause, "{line} {call}");
+        }
+    }
+    for lock in ["16", "255", "256", "65536", "18446744073709551615"] {
+        assert_eq!([number(&format!("F 1 1\nH 0 {lock}")), number(&format!("F 1 1\nV 0 {lock}"))], ["15", "15"]);
+        assert_eq!([number(&format!("F 1 1\nH 1 {lock}")), number(&format!("F 1 1\nV 1 {lock}"))], ["6", "6"]);
+    }
+}
+
+#[test]
+fn a_holder_w_or_more_is_3_in_every_phase_and_no_start_minds() {
+    for call in ["S", "U 0 1 1", "P 0 1", "A 0", "C", "E 0", "G 0", "p 204", "a 0", "b 0", "n", "H 0 0", "V 0 0"] {
+        assert_eq!(number(&format!("F 1 1\nO 9 1\n{call}")), "3", "{call}");
+        assert_eq!(number(&format!("F 1 1\nO 9 7\n{call}")), "3", "{call}");
+        assert_ne!(number(&format!("F 1 1\nO 9 0\n{call}")), "3", "{call}");
+    }
+    for phase in ["1", "2"] {
+        assert_eq!(number(&format!("F 1 1\nB 0 {phase}\nO 0 1\nS")), "3");
+        assert_eq!(number(&format!("F 1 1\nB 0 {phase}\nO 0 0\nS")), "0");
+    }
+    assert_eq!(number("F 1 1\nO 0 1\nB 0 2\nE 0"), "3");
+    assert_eq!(number("F 1 1\nB 0 0\nO 0 1\nS"), "2");
+    assert_eq!(sum("F 1 1\nO 9 7\nR\nS\nS"), sum("F 1 1"));
+    assert_eq!(sum("F 1 1\nO 9 7\nf 1 1\nS\nS\nS"), sum("F 1 1"));
+}
+
+#[test]
+fn release_and_the_ends_of_format_and_recovery_leave_the_holders() {
+    let released = "F 1 1\nK 0 1 0 0 0\nO 4 0\nC\nS\nS\nS";
+    assert_eq!(sum(released), small_board_with(&[(50, 0), (63, 2), (80, 2)]));
+    assert_eq!(sum("F 1 1\nO 4 0\nB 0 2\nB 4 1\nS"), small_board_with(&[(50, 0)]));
+    assert_eq!(sum("F 1 1\nO 4 0\nB 0 1\nB 4 2\nS"), small_board_with(&[(50, 0)]));
 }

@@ -9,10 +9,10 @@ use reference::explore::answered;
 use reference::explore::check::Checks;
 use reference::explore::table::parts;
 use reference::fault::{Command, Fault};
-use reference::fault_script::{bits_script, foreign_script, script};
+use reference::fault_script::{bits_script, foreign_script, locks_script, script};
 use reference::mistake::{Mistake, MISTAKES};
 use reference::program::{answer, Program};
-use reference::reached::{orders, reached, CASES, CAUSES, LINES, MEMORIES};
+use reference::reached::{orders, reached, CASES, CAUSES, KEPT, LINES, LOCKS, MEMORIES};
 use reference::say::{call_line, damage_line, drill_line};
 use reference::text::{fields, UNREAD};
 
@@ -23,8 +23,8 @@ fn lines(text: &[u8]) -> Vec<&[u8]> {
 
 #[test]
 fn two_hundred_scripts_reach_every_cause_of_every_call_and_every_kind_of_question_mark() {
-    let reached = reached(200, 400);
-    assert_eq!(reached.lines, 80_000);
+    let reached = reached(200, 500);
+    assert_eq!(reached.lines, 100_000);
     for (letter, causes) in CAUSES {
         for (number, count) in reached.answers[letter as usize].iter().enumerate() {
             let possible = causes.contains(&(number as u8));
@@ -32,7 +32,7 @@ fn two_hundred_scripts_reach_every_cause_of_every_call_and_every_kind_of_questio
             assert!(!possible || *count >= 20, "{} answers {number} only {count} times", letter as char);
         }
     }
-    for letter in *b"XWMNQBKT" {
+    for letter in *b"XWMNQBKOT" {
         assert!(reached.answers[letter as usize][0] >= 100, "{}", letter as char);
     }
     for number in [0, 2, 3, 4, 12] {
@@ -45,18 +45,19 @@ fn two_hundred_scripts_reach_every_cause_of_every_call_and_every_kind_of_questio
 }
 
 /// Each part of a cause, and the calls whose answer can hang on it alone.
-const PARTS: [(&str, &[u8]); 32] = [
+const PARTS: [(&str, &[u8]); 39] = [
     ("a format's L or W", b"f"),
-    ("phase", b"SUPACEGpabn"),
-    ("a worker's cell", b"SUPACEGpabn"),
-    ("place in a checkpoint", b"SUPACEGpabn"),
+    ("phase", b"SUPACEGpabnHV"),
+    ("a worker's cell", b"SUPACEGpabnHV"),
+    ("place in a checkpoint", b"SUPACEGpabnHV"),
     ("place in a recovery", b"SE"),
     ("place in a format", b"S"),
-    ("a bit past L", b"SUPACEGpabn"),
-    ("a bit of line 0", b"SUPACEGpabn"),
-    ("record's L or W", b"SUPACEGpabn"),
-    ("cache's length", b"fSUPACEGpabn"),
-    ("memory's length", b"fSUPACEGpabn"),
+    ("a holder W or more", b"SUPACEGpabnHV"),
+    ("a bit past L", b"SUPACEGpabnHV"),
+    ("a bit of line 0", b"SUPACEGpabnHV"),
+    ("record's L or W", b"SUPACEGpabnHV"),
+    ("cache's length", b"fSUPACEGpabnHV"),
+    ("memory's length", b"fSUPACEGpabnHV"),
     ("cache's length at recovery", b"R"),
     ("memory's length at recovery", b"R"),
     ("header's words 3 to 7", b"R"),
@@ -64,14 +65,20 @@ const PARTS: [(&str, &[u8]); 32] = [
     ("header's L", b"R"),
     ("header's epoch", b"R"),
     ("a mark past the epoch", b"R"),
-    ("worker W or more", b"UPAab"),
+    ("worker W or more", b"UPAabHV"),
     ("line over L", b"E"),
     ("cell 2L or more", b"UG"),
     ("cell under W", b"U"),
+    ("lock 16 or more", b"HV"),
+    ("an unfinished update under the lock", b"V"),
     ("worker without update", b"A"),
-    ("worker not free", b"UPa"),
+    ("worker not free", b"UPaH"),
     ("worker not away", b"b"),
     ("a checkpoint under way", b"b"),
+    ("lock not held", b"V"),
+    ("lock not free", b"H"),
+    ("a lock held", b"Pa"),
+    ("the cell's lock not held", b"U"),
     ("another's update of the cell", b"UP"),
     ("a worker not waiting", b"S"),
     ("no request", b"S"),
@@ -82,10 +89,10 @@ const PARTS: [(&str, &[u8]); 32] = [
 
 #[test]
 fn two_hundred_scripts_reach_every_part_of_every_cause_by_itself() {
-    let reached = reached(200, 400);
+    let reached = reached(200, 500);
     assert!(parts().all(|(_, part)| PARTS.iter().any(|(known, _)| *known == part)));
     for (part, letters) in PARTS {
-        for letter in *b"fRSUPACEGpabn" {
+        for letter in *b"fRSUPACEGpabnHV" {
             let count = reached.part(part, letter);
             assert_eq!(count > 0, letters.contains(&letter), "{part}, {}: {count}", letter as char);
         }
@@ -94,7 +101,7 @@ fn two_hundred_scripts_reach_every_part_of_every_cause_by_itself() {
 
 #[test]
 fn two_hundred_scripts_show_the_order_of_every_two_causes() {
-    let reached = reached(200, 400);
+    let reached = reached(200, 500);
     for (letter, first, other) in orders() {
         let count = reached.order(letter, first, other);
         assert!(count > 0, "{}: {first} over {other}", letter as char);
@@ -103,7 +110,7 @@ fn two_hundred_scripts_show_the_order_of_every_two_causes() {
 
 #[test]
 fn two_hundred_scripts_have_every_case_of_a_worker_that_is_away() {
-    let reached = reached(200, 400);
+    let reached = reached(200, 500);
     for ((words, _), count) in CASES.iter().zip(reached.cases) {
         assert!(count >= 20, "{words}: {count}");
     }
@@ -113,7 +120,7 @@ fn two_hundred_scripts_have_every_case_of_a_worker_that_is_away() {
 
 #[test]
 fn two_hundred_scripts_have_every_case_of_foreign_memory() {
-    let reached = reached(200, 400);
+    let reached = reached(200, 500);
     assert!(reached.answers[b'R' as usize][14] >= 50);
     for ((words, _), count) in MEMORIES.iter().zip(reached.memories) {
         assert!(count >= 40, "{words}: {count}");
@@ -122,9 +129,38 @@ fn two_hundred_scripts_have_every_case_of_foreign_memory() {
 
 #[test]
 fn two_hundred_scripts_have_every_case_of_line_bits() {
-    let reached = reached(200, 400);
+    let reached = reached(200, 500);
     for ((words, _), count) in LINES.iter().zip(reached.lines_set) {
         assert!(count >= 20, "{words}: {count}");
+    }
+}
+
+#[test]
+fn two_hundred_scripts_have_every_case_of_locks() {
+    let reached = reached(200, 500);
+    for ((words, _), count) in LOCKS.iter().chain(&KEPT).zip(reached.locks.iter().chain(&reached.kept)) {
+        assert!(*count >= 20, "{words}: {count}");
+    }
+}
+
+#[test]
+fn a_script_of_locks_takes_gives_back_and_updates_under_them() {
+    for seed in 1..=4 {
+        let mut answers: HashMap<(u8, u8), u64> = HashMap::new();
+        let mut board = Board::empty(None);
+        for line in lines(&locks_script(seed, 4000)) {
+            if let Ok(reply) = answer::<Fault>(&mut board, line) {
+                *answers.entry((line[0], reply.number)).or_default() += 1;
+            }
+        }
+        let count = |letter: u8, number: u8| answers.get(&(letter, number)).copied().unwrap_or(0);
+        for (letter, numbers) in
+            [(b'H', &[0, 8, 15, 16][..]), (b'V', &[0, 8, 15, 16]), (b'U', &[0, 16, 9]), (b'P', &[0, 16])]
+        {
+            assert!(numbers.iter().all(|number| count(letter, *number) >= 5), "seed {seed}: {answers:?}");
+        }
+        assert!(count(b'H', 0) > 150 && count(b'V', 0) > 150 && count(b'U', 0) > 100, "seed {seed}: {answers:?}");
+        assert!(count(b'a', 16) >= 5 && count(b'O', 0) >= 100, "seed {seed}: {answers:?}");
     }
 }
 
@@ -167,7 +203,7 @@ fn a_script_of_foreign_memories_has_no_format_and_takes_and_refuses_them() {
 
 #[test]
 fn a_script_is_a_function_of_seed_and_lines() {
-    for script in [script, bits_script, foreign_script] {
+    for script in [script, bits_script, foreign_script, locks_script] {
         made_the_same_again(script);
     }
 }
@@ -204,7 +240,7 @@ fn a_checksum_comes_every_few_lines() {
 fn every_call_of_every_script_answers_as_the_table_says() {
     for seed in 1..=200 {
         let mut board = Board::empty(None);
-        for line in lines(&script(seed, 400)) {
+        for line in lines(&script(seed, 500)) {
             let command = fields(line).and_then(|fields| Fault::command(&fields));
             let before = board.clone();
             let reply = answer::<Fault>(&mut board, line);
@@ -225,7 +261,7 @@ fn every_call_of_every_script_answers_as_the_table_says() {
 #[test]
 fn a_command_said_is_the_command_read() {
     for seed in 1..20 {
-        for line in lines(&script(seed, 400)) {
+        for line in lines(&script(seed, 500)) {
             let Ok(command) = fields(line).and_then(|fields| Fault::command(&fields)) else { continue };
             let said = match &command {
                 Command::Drill(command) => drill_line(command),
@@ -262,7 +298,7 @@ fn two_hundred_scripts_have_pages_in_text_rows_of_every_kind() {
     let mut pages = HashSet::new();
     for seed in 1..=200 {
         let mut board = Board::empty(None);
-        for line in lines(&script(seed, 400)) {
+        for line in lines(&script(seed, 500)) {
             let words = (line.first() == Some(&b'p')).then(|| room_in_words(&board, line));
             let reply = answer::<Fault>(&mut board, line);
             if let Some(words) = words {
@@ -288,7 +324,7 @@ fn answers(text: &[u8], mistake: Option<Mistake>) -> Vec<Option<(u8, Option<u64>
 
 #[test]
 fn every_mistake_shows_in_many_scripts() {
-    let scripts: Vec<Vec<u8>> = (1..=200).map(|seed| script(seed, 400)).collect();
+    let scripts: Vec<Vec<u8>> = (1..=200).map(|seed| script(seed, 500)).collect();
     let of_boards = MISTAKES.iter().filter(|(_, mistake, _)| *mistake != Mistake::BeginWithRecords);
     for (name, mistake, _) in of_boards {
         let mistake = *mistake;

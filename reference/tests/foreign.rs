@@ -67,6 +67,10 @@ fn reads(board: &mut Board) -> Vec<u64> {
 const AWAY: Call = Call::GoAway { worker: 0 };
 const BACK: Call = Call::ComeBack { worker: 0 };
 
+/// Lock 3, under which cell 3 lies.
+const TAKE: Call = Call::Take { worker: 0, lock: 3 };
+const GIVE_BACK: Call = Call::GiveBack { worker: 0, lock: 3 };
+
 /// A checkpoint with nobody but worker 0, who is away, and no line set.
 const CHECKPOINT: [Call; 6] = [AWAY, Call::Request, Call::Step, Call::Step, Call::Step, BACK];
 
@@ -148,7 +152,8 @@ fn words_6_and_7_stay_until_a_format() {
     let mut board = board(memory(5, 1, &[[10, 11, 5], [20, 21, 4], [30, 31, 0], [40, 41, 5]]), None);
     recovered(&mut board);
     let advance = Call::Advance { worker: 0 };
-    taken(&mut board, &[Call::Update { worker: 0, cell: 3, value: 9 }, advance, advance, advance, AWAY, Call::Request]);
+    taken(&mut board, &[TAKE, Call::Update { worker: 0, cell: 3, value: 9 }, advance, advance, advance, GIVE_BACK]);
+    taken(&mut board, &[AWAY, Call::Request]);
     taken(&mut board, &[Call::Step, Call::Step, Call::Step, Call::Step, Call::WriteBack { line: 1 }]);
     for line in [1, 2] {
         assert_eq!(board.memory[8 * line + 6..8 * line + 8], [6, 7]);
@@ -177,7 +182,7 @@ fn after_an_unlogged_update() -> Board {
     let mut board = board(words, Some(Mistake::NoCause14));
     recovered(&mut board);
     taken(&mut board, &CHECKPOINT);
-    taken(&mut board, &[Call::Update { worker: 0, cell: 3, value: 50 }, Call::Advance { worker: 0 }]);
+    taken(&mut board, &[TAKE, Call::Update { worker: 0, cell: 3, value: 50 }, Call::Advance { worker: 0 }]);
     board
 }
 
@@ -187,6 +192,7 @@ fn without_14_an_update_goes_unlogged_and_a_checkpoint_loses_it() {
     assert_eq!(board.perform(&Call::Advance { worker: 0 }).number, 8, "one store, where three log it");
     assert_eq!(board.state.line_bits, [0; 8], "its line is not set");
     assert_eq!(reads(&mut board), [10, 20, 30, 50]);
+    taken(&mut board, &[GIVE_BACK]);
     taken(&mut board, &CHECKPOINT);
     assert_eq!(board.memory[0], 3);
     recovered(&mut board);
@@ -215,8 +221,8 @@ fn without_14_the_search_finds_the_tickets_story() {
     for (mistake, check, events) in [
         (Mistake::NoCause14, Recovery, 18),
         (Mistake::NoCause14, Reads, 12),
-        (Mistake::Cause14LastCell, Recovery, 19),
-        (Mistake::Cause14LastCell, Reads, 12),
+        (Mistake::Cause14LastCell, Recovery, 21),
+        (Mistake::Cause14LastCell, Reads, 13),
     ] {
         let caught = exhaust(Some(mistake), Some(check)).expect_err("a wrong value is read");
         let trace = &caught.trace;

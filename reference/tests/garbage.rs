@@ -27,6 +27,9 @@ fn calls() -> Vec<Call> {
         calls.extend([Call::Advance { worker: a }, Call::WriteBack { line: a }, Call::Read { cell: a }]);
         calls.push(Call::RestartPoint { worker: a, value: 5 });
         calls.extend([Call::GoAway { worker: a }, Call::ComeBack { worker: a }]);
+        for lock in [0, 3, 15, 16, u64::MAX] {
+            calls.extend([Call::Take { worker: a, lock }, Call::GiveBack { worker: a, lock }]);
+        }
         for b in [0, 1, 3, 255, 65_535, u64::MAX] {
             calls.push(Call::Format { lines: a, workers: b });
             calls.push(Call::Update { worker: b, cell: a, value: 5 });
@@ -51,12 +54,12 @@ fn sound_boards() -> Vec<Board> {
     let scripts = [
         "T",
         "F 1 1",
-        "F 2 3\nU 0 3 7\nA 0\nA 0\nP 1 4",
-        "F 2 3\nU 0 3 7\nA 0\nA 0\nC\nK 0 1 0 0 0\nK 1 1 0 0 0\nK 2 1 0 0 0",
+        "F 2 3\nH 0 3\nU 0 3 7\nA 0\nA 0\nP 1 4\nH 2 15",
+        "F 2 3\nH 0 3\nU 0 3 7\nA 0\nA 0\nC\nO 3 8\nK 0 1 0 0 0\nK 1 1 0 0 0\nK 2 1 0 0 0",
         "F 4 8\nf 4 8\nS\nS",
         "F 2 2\nM 10 1\nM 13 1\nR\nS",
         "F 511 8",
-        "F 2 3\nU 0 3 7\nA 0\nA 0\nA 0\na 0\na 2\nC\nP 1 4\nA 1\nA 1\nA 1\nS",
+        "F 2 3\nH 0 3\nU 0 3 7\nA 0\nA 0\nA 0\nV 0 3\na 0\na 2\nC\nP 1 4\nA 1\nA 1\nA 1\nS",
     ];
     scripts.map(board).into()
 }
@@ -86,6 +89,9 @@ fn damages() -> Vec<Damage> {
     }
     for word in [0, 1, 2, 4, 6, 8, 16, 1 << 63, u64::MAX - 1, u64::MAX] {
         damages.extend([0, 1, 7].map(|at| Damage::Bits { at, word }));
+    }
+    for holder in [0, 1, 3, 8] {
+        damages.extend([3, 15].map(|lock| Damage::Holder { lock, holder }));
     }
     damages
 }
@@ -119,6 +125,8 @@ fn two_places_damaged() {
         Call::GoAway { worker: 0 },
         Call::ComeBack { worker: 0 },
         Call::ComeBack { worker: 7 },
+        Call::Take { worker: 0, lock: 15 },
+        Call::GiveBack { worker: 0, lock: 3 },
         Call::Recovery,
         Call::Format { lines: 2, workers: 3 },
     ];

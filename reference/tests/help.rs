@@ -25,7 +25,7 @@ fn help_lists_commands_checks_and_mistakes() {
         assert_eq!(ended(words), (Some(0), help.clone(), String::new()), "{words:?}");
     }
     let names = CHECKS.iter().map(|check| check.0).chain(MISTAKES.iter().map(|mistake| mistake.0));
-    let scripts = ["script --fault", "script --bits", "script --foreign", "script --page"];
+    let scripts = ["script --fault", "script --bits", "script --foreign", "script --locks", "script --page"];
     let commands = ["drill", "fault", "fault --reached", "page", "explore --exhaustive", "bench"];
     for name in names.chain(scripts).chain(commands) {
         assert!(help.contains(&format!("\n  {name} ")), "{name}");
@@ -44,7 +44,7 @@ fn an_unknown_check_or_mistake_lists_the_known_ones() {
 
 #[test]
 fn an_unknown_command_prints_the_usage() {
-    let unknown: [&[&str]; 20] = [
+    let unknown: [&[&str]; 21] = [
         &[],
         &["dril"],
         &["drill", "1"],
@@ -59,6 +59,7 @@ fn an_unknown_command_prints_the_usage() {
         &["script", "--fault", "1", "x"],
         &["script", "--foreign", "1"],
         &["script", "--bits", "1"],
+        &["script", "--locks", "1"],
         &["bench", "checkpoint", "1", "1", "2", "1", "1"],
         &["explore", "1"],
         &["explore", "1", "2", "--only"],
@@ -81,6 +82,8 @@ fn scripts_and_counts_are_printed() {
     assert_eq!(script, reference::fault_script::foreign_script(5, 40));
     let script = run(&["script", "--bits", "5", "40"]).stdout;
     assert_eq!(script, reference::fault_script::bits_script(5, 40));
+    let script = run(&["script", "--locks", "5", "40"]).stdout;
+    assert_eq!(script, reference::fault_script::locks_script(5, 40));
     let script = run(&["script", "--page", "5", "40"]).stdout;
     assert_eq!(script, reference::page_script::script(5, 40));
     let (code, counts, _) = ended(&["fault", "--reached", "3", "40"]);

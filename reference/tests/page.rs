@@ -107,7 +107,8 @@ fn equal_marks_by_rising_cell_number() {
 }
 
 /// A checkpoint with 7 in cell 1 and restart point 3, and a restart point 4 in the epoch after it.
-const EPOCHS: &str = "F 2 1\nU 0 1 7\nA 0\nA 0\nA 0\nC\nP 0 3\nA 0\nA 0\nA 0\nS\nS\nS\nS\nP 0 4\nA 0\nA 0\nA 0";
+const EPOCHS: &str =
+    "F 2 1\nH 0 1\nU 0 1 7\nA 0\nA 0\nA 0\nV 0 1\nC\nP 0 3\nA 0\nA 0\nA 0\nS\nS\nS\nS\nP 0 4\nA 0\nA 0\nA 0\nH 0 1";
 
 #[test]
 fn the_cache_and_not_memory_at_each_store_of_an_update() {

@@ -54,9 +54,17 @@ fn the_checksums_are_those_of_the_last_page_and_of_the_reads() {
 
 #[test]
 fn sizes_are_tested_as_for_other_workloads() {
-    for name in
-        ["update", "checkpoint", "checkpoint-pairs", "checkpoint-away", "page-equal", "page-rising", "page-random"]
-    {
+    for name in [
+        "update",
+        "again",
+        "locks",
+        "checkpoint",
+        "checkpoint-pairs",
+        "checkpoint-away",
+        "page-equal",
+        "page-rising",
+        "page-random",
+    ] {
         let workload = Workload::named(name).unwrap();
         assert!(run(workload, 1, 1, 1, 1, 1).is_some(), "{name}");
         for (lines, workers, n, seed) in

@@ -33,9 +33,10 @@ cell               record               backup                 mark
    1                    7                    0                    1
    0                    0                    0                    0
 ";
-    assert_eq!(taken("F 1 1\nU 0 1 7\nA 0\nA 0\nA 0\n"), expected);
-    assert_eq!(taken("F 511 8\nF 1 1\nU 0 1 7\nA 0\nA 0\nA 0\n"), expected);
-    assert_eq!(taken("F 1 1\nU 0 1 7\nA 0\nA 0\nA 0\nE 1\nX\nR\nS\nS\nS\nS\nU 0 1 7\nA 0\nA 0\nA 0\n"), expected);
+    assert_eq!(taken("F 1 1\nH 0 1\nU 0 1 7\nA 0\nA 0\nA 0\n"), expected);
+    assert_eq!(taken("F 511 8\nF 1 1\nH 0 1\nU 0 1 7\nA 0\nA 0\nA 0\nV 0 1\n"), expected);
+    let recovered = "F 1 1\nH 0 1\nU 0 1 7\nA 0\nA 0\nA 0\nE 1\nX\nR\nS\nS\nS\nS\n";
+    assert_eq!(taken(&format!("{recovered}H 0 1\nU 0 1 7\nA 0\nA 0\nA 0\n")), expected);
 }
 
 #[test]
@@ -45,8 +46,8 @@ cell               record               backup                 mark
    1                   12                    0                    1
    0                    0                    0                    0
 ";
-    assert_eq!(taken("F 1 1\nU 0 1 12\nA 0\nA 0\nA 0"), expected);
-    assert_ne!(taken("F 1 1\nU 0 1 12\nA 0\nA 0"), expected);
+    assert_eq!(taken("F 1 1\nH 0 1\nU 0 1 12\nA 0\nA 0\nA 0"), expected);
+    assert_ne!(taken("F 1 1\nH 0 1\nU 0 1 12\nA 0\nA 0"), expected);
 }
 
 #[test]

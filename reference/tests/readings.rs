@@ -55,6 +55,7 @@ fn workers_from_w_on_are_never_looked_at() {
     board.state.worker[1] = updating(60_000, Store::Mark);
     assert_eq!(board.perform(&Call::Read { cell: 0 }).number, 0);
     board.state.worker[1] = updating(1, Store::Mark);
+    board.state.holders[1] = 0;
     assert_eq!(board.perform(&Call::Update { worker: 0, cell: 1, value: 1 }).number, 0);
 }
 

@@ -6,6 +6,7 @@ use crate::bits::NO_LINES;
 use crate::board::{Phase, Rows, State};
 use crate::call::{perform, Answer, Call};
 use crate::line::{cells, line_of, mark_at, row_words, sizes_allowed};
+use crate::locks::lock_of;
 pub use page::Marks;
 
 /// What one round is.
@@ -13,7 +14,8 @@ pub use page::Marks;
 pub enum Round {
     /// a format's start and its L + 2 steps
     Format,
-    /// the data cells below n updated in rising order, each to its own number: a start and three advances each
+    /// the data cells below n updated in rising order, each to its own number: its lock taken, a start, three advances,
+    /// the lock given back
     Fill,
     /// n - W data cells updated in the same way, each the first cell of a line that has no restart cell
     Spread,
@@ -21,9 +23,10 @@ pub enum Round {
     Wait,
     /// a request, then a restart point of worker 0, after which it waits; all others go away
     Leave,
-    /// an update of an unmarked cell: a start and three advances; the host then takes the mark and all bits back
+    /// an update of an unmarked cell: its lock taken, a start, three advances, the lock given back; the host then takes
+    /// the mark and all bits back
     Update,
-    /// an update of a marked cell: a start and one advance
+    /// an update of a marked cell: its lock taken, a start, one advance, the lock given back
     Again,
     /// a checkpoint of n cells, the data cells alone in their lines, W/2 + n - W + 3 steps (W/2 rounded up); the host
     /// then puts the state record back
@@ -38,6 +41,8 @@ pub enum Round {
     WriteBack,
     /// a read of every cell
     Reads,
+    /// the lock of a random cell taken and given back
+    Locks,
 }
 
 /// What is measured.
@@ -58,6 +63,7 @@ impl Workload {
             "checkpoint-away" => Workload::Rounds(Round::CheckpointAway),
             "recovery" => Workload::Rounds(Round::Recovery),
             "write-back" => Workload::Rounds(Round::WriteBack),
+            "locks" => Workload::Rounds(Round::Locks),
             "page-equal" => Workload::Pages(Marks::Equal),
             "page-rising" => Workload::Pages(Marks::Rising),
             "page-random" => Workload::Pages(Marks::Random),
@@ -102,15 +108,20 @@ fn restart_lines(plan: Plan) -> u64 {
     plan.workers.div_ceil(2)
 }
 
+/// How many calls an update of an unmarked cell has, and one of a marked cell.
+const UPDATE_CALLS: u64 = 6;
+const AGAIN_CALLS: u64 = 4;
+
 /// How many calls a round has.
 fn calls_in(round: Round, plan: Plan) -> u64 {
     match round {
         Round::Format => 1 + plan.lines + 2,
-        Round::Fill | Round::Spread => 4 * (plan.n - plan.workers),
+        Round::Fill | Round::Spread => UPDATE_CALLS * (plan.n - plan.workers),
         Round::Wait => 1 + 4 * plan.workers,
         Round::Leave => 4 + plan.workers,
-        Round::Update => 4,
-        Round::Again => 2,
+        Round::Update => UPDATE_CALLS,
+        Round::Again => AGAIN_CALLS,
+        Round::Locks => 2,
         Round::Checkpoint => restart_lines(plan) + plan.n - plan.workers + 3,
         Round::CheckpointPairs => plan.n.div_ceil(2) + 3,
         Round::CheckpointAway => plan.n - plan.workers + 4,
@@ -120,19 +131,36 @@ fn calls_in(round: Round, plan: Plan) -> u64 {
     }
 }
 
-/// Call number `k` of an update: its start, and advances.
-fn update_call(worker: u64, k: u64, cell: u64, value: u64) -> Call {
-    if k == 0 {
-        Call::Update { worker, cell, value }
-    } else {
-        Call::Advance { worker }
+/// Call number `k` of an update of so many calls: its cell's lock taken, its start, advances, the lock given back.
+fn update_call(worker: u64, k: u64, calls: u64, cell: u64, value: u64) -> Call {
+    let lock = lock_of(cell) as u64;
+    match k {
+        0 => Call::Take { worker, lock },
+        1 => Call::Update { worker, cell, value },
+        _ if k + 1 < calls => Call::Advance { worker },
+        _ => Call::GiveBack { worker, lock },
     }
 }
 
-/// Call number `k` of a spread: four calls for each first cell of the lines after the restart cells'.
+/// Call number `k` of a fill: an update for each data cell.
+fn fill_call(plan: Plan, k: u64) -> Call {
+    let cell = plan.workers + k / UPDATE_CALLS;
+    update_call(plan.worker, k % UPDATE_CALLS, UPDATE_CALLS, cell, cell)
+}
+
+/// Call number `k` of a spread: an update for each first cell of the lines after the restart cells'.
 fn spread_call(plan: Plan, k: u64) -> Call {
-    let cell = 2 * (restart_lines(plan) + k / 4);
-    update_call(plan.worker, k % 4, cell, cell)
+    let cell = 2 * (restart_lines(plan) + k / UPDATE_CALLS);
+    update_call(plan.worker, k % UPDATE_CALLS, UPDATE_CALLS, cell, cell)
+}
+
+/// A lock taken, then given back.
+fn lock_call(worker: u64, k: u64, lock: u64) -> Call {
+    if k == 0 {
+        Call::Take { worker, lock }
+    } else {
+        Call::GiveBack { worker, lock }
+    }
 }
 
 /// Call number `k` of a wait: the request, and four calls of each worker in turn.
@@ -170,11 +198,13 @@ fn step_call(k: u64, start: Call) -> Call {
 fn call_at(round: Round, plan: Plan, k: u64, drawn: Drawn) -> Call {
     match round {
         Round::Format => step_call(k, Call::Format { lines: plan.lines, workers: plan.workers }),
-        Round::Fill => update_call(plan.worker, k % 4, plan.workers + k / 4, plan.workers + k / 4),
+        Round::Fill => fill_call(plan, k),
         Round::Spread => spread_call(plan, k),
         Round::Wait => wait_call(k),
         Round::Leave => leave_call(k),
-        Round::Update | Round::Again => update_call(plan.worker, k, drawn.cell, drawn.random),
+        Round::Update => update_call(plan.worker, k, UPDATE_CALLS, drawn.cell, drawn.random),
+        Round::Again => update_call(plan.worker, k, AGAIN_CALLS, drawn.cell, drawn.random),
+        Round::Locks => lock_call(plan.worker, k, lock_of(drawn.cell) as u64),
         Round::Checkpoint | Round::CheckpointPairs | Round::CheckpointAway => Call::Step,
         Round::Recovery => step_call(k, Call::Recovery),
         Round::WriteBack => Call::WriteBack { line: line_of(drawn.cell as usize) as u64 },

@@ -33,10 +33,16 @@ pub enum Check {
     Lines,
     /// A line's bit is set exactly where a cell of it is marked.
     Bits,
+    /// Ticket 6: who holds each lock after a call.
+    Holders,
+    /// Ticket 6: who updates a data cell holds its lock; who waits, is away or at a restart point holds none.
+    Held,
+    /// Ticket 6: from a taken start on no call is answered by 9.
+    Conflict,
 }
 
 /// Every check with its name and a few words.
-pub const CHECKS: [(&str, Check, &str); 15] = [
+pub const CHECKS: [(&str, Check, &str); 18] = [
     ("causes", Check::Causes, "the table of causes; a refused call leaves all as it was"),
     ("outcome", Check::Outcome, "the complete outcome of a taken call"),
     ("reads", Check::Reads, "a taken read gives the machine's current value"),
@@ -52,6 +58,13 @@ pub const CHECKS: [(&str, Check, &str); 15] = [
     ("foretold", Check::Foretold, "the count learned before a checkpoint's first step is the number of its steps"),
     ("lines", Check::Lines, "a checkpoint's steps write each set line once, rising, then line 0"),
     ("bits", Check::Bits, "a line's bit is set exactly where a cell of it is marked"),
+    ("holders", Check::Holders, "who holds each lock after a call"),
+    (
+        "held",
+        Check::Held,
+        "who updates a data cell holds its lock; who waits, is away or at a restart point holds none",
+    ),
+    ("conflict", Check::Conflict, "from a taken start on no call is answered by 9"),
 ];
 
 impl Check {

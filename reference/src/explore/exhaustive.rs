@@ -16,8 +16,8 @@ use crate::mistake::Mistake;
 /// "three epochs": no request is made in this one.
 const LAST_EPOCH: u64 = 3;
 
-/// Every call of the smallest board with two values, refused ones too.
-const CALLS: [Call; 21] = [
+/// Every call of the smallest board with two values and two locks, refused ones too.
+const CALLS: [Call; 27] = [
     Call::Format { lines: 1, workers: 1 },
     Call::Recovery,
     Call::Step,
@@ -39,6 +39,12 @@ const CALLS: [Call; 21] = [
     Call::GoAway { worker: 0 },
     Call::ComeBack { worker: 0 },
     Call::Count,
+    Call::Take { worker: 0, lock: 1 },
+    Call::Take { worker: 0, lock: 15 },
+    Call::Take { worker: 0, lock: 16 },
+    Call::GiveBack { worker: 0, lock: 1 },
+    Call::GiveBack { worker: 0, lock: 15 },
+    Call::GiveBack { worker: 0, lock: 16 },
 ];
 
 /// How much was seen.
@@ -194,11 +200,12 @@ impl Search {
     }
 }
 
-/// A cut that leaves zeros and the bit of line 1: the next taken call is a start, which looks at memory alone.
+/// A cut that leaves zeros, the bit of line 1 and lock 1 held: the next taken call is a start, which looks at memory alone.
 fn forget(board: &mut Board) {
     board.cache.fill(0);
     board.state = State::started(Phase::Off, 1, 1);
     board.state.line_bits[0] = 2;
+    board.state.holders[1] = 0;
 }
 
 /// The smallest board after a format.

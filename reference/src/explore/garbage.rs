@@ -5,6 +5,7 @@ use crate::board::{Board, Condition, Phase, State, Store, UndoStep, Update};
 use crate::call::Call;
 use crate::fault::MOST_ROOM;
 use crate::line::{header, LINE_WORDS};
+use crate::locks::{lock_of, Holders, LOCKS, NOBODY};
 use crate::page::page_bytes;
 use crate::random::Random;
 use crate::work::some_workers;
@@ -52,6 +53,10 @@ pub fn cut(random: &Random, board: &mut Board) {
     if random.chance(1, 2) {
         board.state.line_bits = any_bits(random);
     }
+    if random.chance(1, 2) {
+        let most = random.pick(&[NOBODY, board.state.workers.min(NOBODY)]);
+        board.state.holders = some_holders(random, most.into());
+    }
     match random.below(4) {
         0 => {}
         1 => board.state.phase = Phase::Off,
@@ -86,7 +91,52 @@ fn state(random: &Random, lines: u64, workers: u64) -> State {
     for slot in &mut state.worker {
         *slot = if still { random.pick(&waiting) } else { condition(random, cells) };
     }
+    state.holders = some_holders(random, workers);
+    match random.below(3) {
+        0 => hold_for_updates(&mut state),
+        1 if !still => contend(random, &mut state),
+        _ => {}
+    }
     state
+}
+
+/// Holders among so many workers: nobody at all, or somebody of each lock so many times in four.
+pub fn some_holders(random: &Random, workers: u64) -> Holders {
+    let held = random.pick(&[0, 1, 3, 4]);
+    let holder = || if random.chance(held, 4) { random.below(workers.max(1)) as u8 } else { NOBODY };
+    std::array::from_fn(|_| holder())
+}
+
+/// A free worker and another one that updates the cell which the first may begin with: a data cell whose lock it holds, or its
+/// own restart cell, it holding none.
+fn contend(random: &Random, state: &mut State) {
+    let (workers, cells) = (state.active_workers().len() as u64, 2 * state.lines as u64);
+    if workers < 2 {
+        return;
+    }
+    let free = random.below(workers);
+    let other = (free + 1 + random.below(workers - 1)) % workers;
+    let cell = random.pick(&[free, workers + random.below((cells - workers).max(1))]);
+    let next = random.pick(&[Store::Backup, Store::Mark, Store::Record]);
+    state.worker[free as usize] = Condition::Free;
+    state.worker[other as usize] = Condition::Updating(Update { cell: cell as u16, value: word(random), next });
+    if cell == free {
+        state.holders.iter_mut().filter(|holder| u64::from(**holder) == free).for_each(|holder| *holder = NOBODY);
+    } else {
+        state.holders[lock_of(cell)] = free as u8;
+    }
+}
+
+/// Each worker under W in the middle of an update of a data cell holds that cell's lock, the last of several.
+fn hold_for_updates(state: &mut State) {
+    let workers = state.active_workers().len();
+    for worker in 0..workers {
+        if let Condition::Updating(update) = state.worker[worker] {
+            if usize::from(update.cell) >= workers {
+                state.holders[lock_of(update.cell.into())] = worker as u8;
+            }
+        }
+    }
 }
 
 /// Any eight words.
@@ -142,7 +192,7 @@ fn condition(random: &Random, cells: u64) -> Condition {
 /// Put one field of a state record at or past its limit.
 fn spoil_state(random: &Random, state: &mut State) {
     let cells = 2 * state.lines as u64;
-    match random.below(6) {
+    match random.below(7) {
         0 => state.lines = random.pick(&[0, 511, 512, random.word() as u16]),
         1 => state.workers = random.pick(&[0, 8, 9, cells as u8, random.word() as u8]),
         2 => spoil_bits(random, state),
@@ -151,6 +201,10 @@ fn spoil_state(random: &Random, state: &mut State) {
             state.place = random.pick(&[about(random, n + 2), about(random, cells)]) as u16;
         }
         4 => state.phase = random.pick(&[Phase::Off, Phase::Formatting, Phase::Recovering, Phase::Running]),
+        5 => {
+            let past = state.workers.min(7);
+            state.holders[random.below(LOCKS as u64) as usize] = random.pick(&[past, past, 7, NOBODY]);
+        }
         _ => {
             let cell = about(random, cells) as u16;
             let next = random.pick(&[Store::Backup, Store::Mark, Store::Record]);
@@ -218,7 +272,7 @@ pub fn spoil_words(random: &Random, board: &mut Board) {
 pub fn call(random: &Random, state: &State) -> Call {
     let (lines, workers) = (state.lines as u64, state.workers as u64);
     let worker = about(random, workers);
-    match random.below(14) {
+    match random.below(18) {
         0 => Call::Format {
             lines: random.pick(&[lines, lines, about(random, lines), about(random, 511)]),
             workers: about(random, 8),
@@ -226,6 +280,9 @@ pub fn call(random: &Random, state: &State) -> Call {
         1 => Call::Recovery,
         2 => Call::Step,
         3 => Call::Update { worker, cell: about(random, 2 * lines), value: word(random) },
+        14 | 15 => under_its_lock(random, state),
+        16 => Call::Take { worker, lock: about(random, LOCKS as u64) },
+        17 => Call::GiveBack { worker, lock: about(random, LOCKS as u64) },
         4 => Call::RestartPoint { worker, value: word(random) },
         5 => Call::Advance { worker },
         6 => Call::Request,
@@ -235,5 +292,24 @@ pub fn call(random: &Random, state: &State) -> Call {
         10 => Call::ComeBack { worker },
         11 | 12 => Call::Count,
         _ => Call::Page { room: room(random, lines) },
+    }
+}
+
+/// What the worker that may do it does with a cell that somebody updates, or with any: an update by the holder of its lock,
+/// a restart point on a restart cell, or a lock given back.
+fn under_its_lock(random: &Random, state: &State) -> Call {
+    let (cells, workers) = (2 * state.lines as u64, state.workers as u64);
+    let any = workers + random.below(cells.saturating_sub(workers).max(1));
+    let updated = state.active_workers().iter().find_map(|condition| match condition {
+        Condition::Updating(update) if random.chance(2, 3) => Some(update.cell.into()),
+        _ => None,
+    });
+    let (cell, value) = (updated.unwrap_or(any), word(random));
+    let lock = lock_of(cell);
+    let worker = if state.holders[lock] == NOBODY { random.below(8) } else { state.holders[lock].into() };
+    match random.below(3) {
+        0 => Call::GiveBack { worker, lock: lock as u64 },
+        _ if cell < workers => Call::RestartPoint { worker: cell, value },
+        _ => Call::Update { worker, cell, value },
     }
 }

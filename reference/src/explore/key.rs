@@ -1,4 +1,4 @@
-//! A watched board of one line and one worker in 64 bytes, and back.
+//! A watched board of one line and one worker in 66 bytes, and back.
 //! What can no longer be read is left out: steps that nothing counts. What words 6 and 7 are to be is what memory has, as
 //! they were checked when the state was reached.
 
@@ -9,7 +9,7 @@ use crate::board::{Condition, Phase, State, Store, UndoStep, Update};
 use crate::machine::Unfinished;
 
 /// A state of board, machine and promise.
-pub type Key = [u8; 64];
+pub type Key = [u8; 66];
 
 const PHASES: [Phase; 4] = [Phase::Off, Phase::Formatting, Phase::Recovering, Phase::Running];
 const STORES: [Store; 3] = [Store::Backup, Store::Mark, Store::Record];
@@ -51,7 +51,7 @@ impl Reader<'_> {
 
 /// The board in bytes.
 pub fn encode(watched: &Watched) -> Key {
-    let mut out = Writer { key: [0; 64], at: 0 };
+    let mut out = Writer { key: [0; 66], at: 0 };
     let board = &watched.board;
     board.memory.iter().chain(&board.cache).for_each(|word| out.put(*word));
     encode_state(&board.state, &mut out);
@@ -83,6 +83,8 @@ fn encode_state(state: &State, out: &mut Writer) {
         Condition::Away => (3, 0, 0, 0),
     };
     [tag, cell, value, next].into_iter().for_each(|number| out.put(number));
+    let held = |first: usize| (0..8).map(|bit| u64::from(state.holders[first + bit] == 0) << bit).sum();
+    [held(0), held(8)].into_iter().for_each(|locks| out.put(locks));
 }
 
 /// The machine in bytes.
@@ -150,6 +152,10 @@ fn decode_state(input: &mut Reader) -> State {
         3 => Condition::Away,
         _ => Condition::Updating(Update { cell, value, next }),
     };
+    for first in [0, 8] {
+        let locks = input.get();
+        (0..8).filter(|bit| locks >> bit & 1 == 1).for_each(|bit| state.holders[first + bit] = 0);
+    }
     state
 }
 

@@ -10,6 +10,7 @@ pub mod foreign;
 pub(crate) mod garbage;
 mod invariant;
 mod key;
+mod locks;
 mod outcome;
 mod page;
 mod promise;
@@ -17,6 +18,7 @@ mod stores;
 pub mod table;
 mod tally;
 mod watched;
+mod wild;
 
 use std::collections::HashMap;
 use std::io::{stderr, Write};
@@ -101,9 +103,10 @@ impl Explorer {
     fn sequence(&mut self, most: u64) -> Result<(), Violation> {
         self.trace.clear();
         let lines = match self.random.below(2000) {
-            0..=3 => 511,
-            4..=9 => 60 + self.random.below(451),
-            10..=29 => 10 + self.random.below(30),
+            0..=4 => 511,
+            5..=13 => 60 + self.random.below(451),
+            14..=29 => 10 + self.random.below(30),
+            30..=189 => 5 + self.random.below(8),
             _ => 1 + self.random.below(4),
         };
         let (beginning, mut watched) = self.begin(lines)?;
@@ -116,6 +119,7 @@ impl Explorer {
                 Choice::Call(call) if watched.cut && !call.is_start() => self.probe_after_cut(&call, &watched)?,
                 Choice::Call(call) => self.call(&call, beginning, &mut watched)?,
                 Choice::Cut => self.cut(&mut watched)?,
+                Choice::Probe if self.random.chance(1, 60) => self.wild()?,
                 Choice::Probe => self.probe()?,
             }
         }

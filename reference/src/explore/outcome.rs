@@ -163,6 +163,16 @@ impl Told<'_> {
         std::array::from_fn(|at| if emptied { 0 } else { self.board.state.line_bits[at] | new(at) })
     }
 
+    /// Each lock's holder, 8 for nobody: "Both starts free all locks."
+    fn holders(&self) -> [u8; 16] {
+        std::array::from_fn(|index| match self.call {
+            Call::Format { .. } | Call::Recovery => 8,
+            Call::Take { worker, lock } if lock == index as u64 => worker as u8,
+            Call::GiveBack { lock, .. } if lock == index as u64 => 8,
+            _ => self.board.state.holders[index],
+        })
+    }
+
     /// Each field of the state record.
     fn state(&self) -> State {
         let (old, memory) = (&self.board.state, &self.board.memory);
@@ -176,7 +186,8 @@ impl Told<'_> {
         let requested = !dropped && (old.requested || self.call == Call::Request);
         let (place, undo) = self.place();
         let worker = std::array::from_fn(|index| self.condition(index));
-        State { phase, lines, workers, place, undo, requested, worker, line_bits: self.line_bits() }
+        let (line_bits, holders) = (self.line_bits(), self.holders());
+        State { phase, lines, workers, place, undo, requested, worker, line_bits, holders }
     }
 
     /// "A request, a release and the end of a format or recovery set the place to 0."

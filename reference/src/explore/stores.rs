@@ -8,9 +8,9 @@ use crate::line::{header, line_words, LINE_WORDS};
 /// What a taken call did to the rows.
 pub fn rows_changed(call: &Call, before: &Board, after: &Board) -> Finding {
     match call {
-        Call::Format { .. } | Call::Page { .. } | Call::GoAway { .. } | Call::ComeBack { .. } | Call::Count => {
-            unchanged(call, before, after)
-        }
+        Call::Format { .. } | Call::Page { .. } | Call::Count => unchanged(call, before, after),
+        Call::GoAway { .. } | Call::ComeBack { .. } => unchanged(call, before, after),
+        Call::Take { .. } | Call::GiveBack { .. } => unchanged(call, before, after),
         Call::Step if before.state.phase == Phase::Formatting => format_line(before, after),
         Call::Recovery => ensure(after.memory == before.memory && after.cache == before.memory, || {
             "a recovery's start copied something else than memory to cache".into()
@@ -26,7 +26,7 @@ pub fn rows_changed(call: &Call, before: &Board, after: &Board) -> Finding {
     }
 }
 
-/// "The start changes no row", nor does a page, a count or a worker that goes away or comes back.
+/// "The start changes no row", nor does a page, a count, a lock taken or given back, or a worker that goes away or comes back.
 fn unchanged(call: &Call, before: &Board, after: &Board) -> Finding {
     ensure(before.memory == after.memory && before.cache == after.cache, || format!("{call:?} changed a row"))
 }

@@ -14,8 +14,8 @@ struct Case<'a> {
 /// A part of a cause: the cause's number, a few words, and whether it holds.
 type Part = (u8, &'static str, fn(&Case) -> bool);
 
-/// The causes in the order in which they are tested: rising, "after 8" for 13, "after 5" for 14.
-pub const ORDER: [u8; 14] = [1, 2, 3, 4, 5, 14, 6, 7, 8, 13, 9, 10, 11, 12];
+/// The causes in the order in which they are tested: rising, "after 5" for 14, "after 7" for 15, "after 8" for 13 and 16.
+pub const ORDER: [u8; 16] = [1, 2, 3, 4, 5, 14, 6, 7, 15, 8, 13, 16, 9, 10, 11, 12];
 
 /// Where a cause stands in that order, from 1; 0 for none.
 pub fn rank(cause: u8) -> usize {
@@ -23,7 +23,7 @@ pub fn rank(cause: u8) -> usize {
 }
 
 /// Every part of every cause.
-const TABLE: [Part; 32] = [
+const TABLE: [Part; 39] = [
     (12, "text row", |case| matches!(case.call, Call::Page { room } if (room as u128) < 68 * (case.two_l() + 1))),
     (11, "the last epoch", |case| {
         case.rows.cache.first() == Some(&u64::MAX) && (case.call == Call::Request || case.at_epoch_store())
@@ -36,6 +36,20 @@ const TABLE: [Part; 32] = [
     (9, "another's update of the cell", |case| {
         case.begins().is_some_and(|(worker, cell)| case.updates().any(|(w, u)| w != worker && u.cell as u64 == cell))
     }),
+    (
+        16,
+        "the cell's lock not held",
+        |case| matches!(case.call, Call::Update { worker, cell, .. } if case.holder(cell % 16) != Some(worker)),
+    ),
+    (16, "a lock held", |case| {
+        case.needed_lockless().is_some_and(|worker| (0..16).any(|k| case.holder(k) == Some(worker)))
+    }),
+    (16, "lock not free", |case| matches!(case.call, Call::Take { lock, .. } if case.holder(lock).is_some())),
+    (
+        16,
+        "lock not held",
+        |case| matches!(case.call, Call::GiveBack { worker, lock } if case.holder(lock) != Some(worker)),
+    ),
     (13, "a checkpoint under way", |case| {
         matches!(case.call, Call::ComeBack { .. }) && case.state.requested && case.state.place != 0
     }),
@@ -49,6 +63,15 @@ const TABLE: [Part; 32] = [
         8,
         "worker without update",
         |case| matches!(case.call, Call::Advance { worker } if !case.updates().any(|(w, _)| w == worker)),
+    ),
+    (8, "an unfinished update under the lock", |case| match case.call {
+        Call::GiveBack { worker, lock } => case.data_updates().any(|(w, cell)| w == worker && cell % 16 == lock),
+        _ => false,
+    }),
+    (
+        15,
+        "lock 16 or more",
+        |case| matches!(case.call, Call::Take { lock, .. } | Call::GiveBack { lock, .. } if lock > 15),
     ),
     (7, "cell under W", |case| matches!(case.call, Call::Update { cell, .. } if cell < case.w())),
     (
@@ -76,6 +99,9 @@ const TABLE: [Part; 32] = [
     (3, "record's L or W", |case| case.not_start() && !limits(case.l() as u128, case.w() as u128)),
     (3, "a bit of line 0", |case| case.not_start() && case.is_set(0)),
     (3, "a bit past L", |case| case.not_start() && (case.l() + 1..512).any(|line| case.is_set(line))),
+    (3, "a holder W or more", |case| {
+        case.not_start() && (0..16).filter_map(|lock| case.holder(lock)).any(|holder| holder >= case.w())
+    }),
     (3, "place in a format", |case| case.misplaced(Phase::Formatting)),
     (3, "place in a recovery", |case| case.misplaced(Phase::Recovering)),
     (3, "place in a checkpoint", |case| case.misplaced(Phase::Running)),
@@ -166,8 +192,28 @@ impl Case<'_> {
         match self.call {
             Call::Update { worker, .. } | Call::RestartPoint { worker, .. } | Call::Advance { worker } => Some(worker),
             Call::GoAway { worker } | Call::ComeBack { worker } => Some(worker),
+            Call::Take { worker, .. } | Call::GiveBack { worker, .. } => Some(worker),
             _ => None,
         }
+    }
+
+    /// The worker that holds this lock, none for a free lock or one that there is not.
+    fn holder(&self, lock: u64) -> Option<u64> {
+        let holder = self.state.holders.get(usize::try_from(lock).ok()?)?;
+        (*holder != 8).then_some((*holder).into())
+    }
+
+    /// The worker that must hold no lock for this call.
+    fn needed_lockless(&self) -> Option<u64> {
+        match self.call {
+            Call::RestartPoint { worker, .. } | Call::GoAway { worker } => Some(worker),
+            _ => None,
+        }
+    }
+
+    /// Each worker under W in the middle of an update of a data cell, and that cell.
+    fn data_updates(&self) -> impl Iterator<Item = (u64, u64)> + '_ {
+        self.updates().map(|(worker, update)| (worker, update.cell.into())).filter(|(_, cell)| *cell >= self.w())
     }
 
     /// The worker and the cell of an update's or restart point's start.
@@ -182,7 +228,7 @@ impl Case<'_> {
     /// The worker that must be free for this call.
     fn needed_free(&self) -> Option<u64> {
         match self.call {
-            Call::GoAway { worker } => Some(worker),
+            Call::GoAway { worker } | Call::Take { worker, .. } => Some(worker),
             _ => self.begins().map(|(worker, _)| worker),
         }
     }

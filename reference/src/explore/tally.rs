@@ -8,8 +8,8 @@ use crate::board::{Condition, State};
 use crate::call::Call;
 use crate::line::{mark_at, LINE_WORDS};
 
-/// How many answers there are: 0, and the causes 1 to 14.
-const ANSWERS: usize = 15;
+/// How many answers there are: 0, and the causes 1 to 16.
+const ANSWERS: usize = 17;
 
 /// The first and the last epochs.
 pub const EDGES: [u64; 4] = [1, 2, u64::MAX - 1, u64::MAX];
@@ -42,6 +42,12 @@ pub struct Tally {
     pub going_away: [u64; ANSWERS],
     pub coming_back: [u64; ANSWERS],
     pub counts: [u64; ANSWERS],
+    pub updates: [u64; ANSWERS],
+    pub restart_points: [u64; ANSWERS],
+    pub takes: [u64; ANSWERS],
+    pub gives: [u64; ANSWERS],
+    /// Sequences from a start on a made-up board, and calls in them.
+    pub wild: [u64; 2],
     /// Checkpoints whose steps were those that a count had foretold, and of them those with lines set in several words,
     /// with one in the eighth word, and with both cells of a line marked.
     pub foretold: u64,
@@ -81,6 +87,10 @@ impl Tally {
             Call::GoAway { .. } => self.going_away[number as usize] += 1,
             Call::ComeBack { .. } => self.coming_back[number as usize] += 1,
             Call::Count => self.counts[number as usize] += 1,
+            Call::Update { .. } => self.updates[number as usize] += 1,
+            Call::RestartPoint { .. } => self.restart_points[number as usize] += 1,
+            Call::Take { .. } => self.takes[number as usize] += 1,
+            Call::GiveBack { .. } => self.gives[number as usize] += 1,
             _ => {}
         }
     }
@@ -129,6 +139,12 @@ impl fmt::Display for Tally {
         writeln!(out, "going away: {}", met(&self.going_away))?;
         writeln!(out, "coming back: {}", met(&self.coming_back))?;
         writeln!(out, "counts: {}", met(&self.counts))?;
+        writeln!(out, "updates: {}", met(&self.updates))?;
+        writeln!(out, "restart points: {}", met(&self.restart_points))?;
+        writeln!(out, "locks taken: {}", met(&self.takes))?;
+        writeln!(out, "locks given back: {}", met(&self.gives))?;
+        let [wild, calls] = self.wild;
+        writeln!(out, "starts on made-up boards followed {wild}, calls after them {calls}")?;
         let (words, eighth, pairs) = (self.in_words, self.in_eighth, self.in_pairs);
         writeln!(out, "checkpoints foretold {}, of them with lines in several words {words},", self.foretold)?;
         writeln!(out, "with a line in the eighth word {eighth}, with both cells of a line marked {pairs}")

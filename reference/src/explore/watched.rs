@@ -3,7 +3,7 @@
 use super::check::{ensure, Check, Checks, Finding, Violation};
 use super::count::{self, Foretold};
 use super::promise::{Finished, Promise};
-use super::{away, bits, foreign, invariant, outcome, page, stores, table};
+use super::{away, bits, foreign, invariant, locks, outcome, page, stores, table};
 use crate::board::{Board, Phase};
 use crate::call::{Answer, Call};
 use crate::line::{cells, header, LINE_WORDS};
@@ -80,6 +80,9 @@ impl Watched {
         self.remember();
         let answer = self.board.perform(call);
         answered(self.checks, call, &self.before, &self.board, answer)?;
+        if !self.cut {
+            self.checks.run(Check::Conflict, || locks::no_conflict(call, answer.number))?;
+        }
         if answer.number != 0 {
             let owed = *call == Call::Step && !self.cut && self.promise.owes_step(&self.before);
             let owed = owed || (*call == Call::Recovery && !self.promise.broken_format);
@@ -87,7 +90,7 @@ impl Watched {
             self.checks.run(Check::Progress, finding)?;
             return Ok(Done { answer, finished: None, foretold: None });
         }
-        self.machine.taken(call);
+        self.tell_machine(call)?;
         self.cut &= !call.is_start();
         let finished = self.promise.taken(call, &self.before, &self.machine);
         self.after_taken(call, answer, finished)?;
@@ -98,6 +101,14 @@ impl Watched {
         }
         self.after_event(format_step)?;
         Ok(Done { answer, finished, foretold })
+    }
+
+    /// A taken call for the machine, to which a lock is nothing.
+    fn tell_machine(&mut self, call: &Call) -> Result<(), Violation> {
+        let of_lock = matches!(call, Call::Take { .. } | Call::GiveBack { .. });
+        let before = of_lock.then(|| self.machine.clone());
+        self.machine.taken(call);
+        before.map_or(Ok(()), |before| self.checks.run(Check::Holders, || locks::machine_stays(&before, &self.machine)))
     }
 
     /// A format's step at this place: 0 is what that line's words 6 and 7 are to be from now on.
@@ -180,6 +191,9 @@ impl Watched {
         }
         self.checks.run(Check::Progress, || self.promise.can_recover(&self.board))?;
         self.checks.run(Check::Bits, || bits::check(&self.board, &self.machine, self.cut))?;
+        if !self.cut {
+            self.checks.run(Check::Held, || locks::held(&self.board.state))?;
+        }
         self.checks.run(Check::Invariant, || invariant::check(&self.board, &self.machine, self.cut))
     }
 
@@ -235,10 +249,11 @@ pub fn answered(checks: Checks, call: &Call, before: &Board, after: &Board, answ
     }
     checks.run(Check::Stores, || stores::rows_changed(call, before, after))?;
     checks.run(Check::Away, || away::after_call(call, before, after))?;
+    checks.run(Check::Holders, || locks::after_call(call, before, after))?;
     checks.run(Check::Outcome, || outcome::complete(call, before, after))
 }
 
-/// "Then running, all free", and no bit: the board of a finished format.
+/// "Then running, all free", no bit and no lock held: the board of a finished format.
 fn formatted(board: &Board) -> Finding {
     let (lines, workers) = (board.state.lines, board.state.workers);
     let state = crate::board::State::started(Phase::Running, lines, workers);

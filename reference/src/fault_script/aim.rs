@@ -9,6 +9,7 @@ use crate::call::Call;
 use crate::damage::Damage;
 use crate::explore::garbage::allowed_bits;
 use crate::explore::table::rank;
+use crate::locks::lock_of;
 use crate::reached::CAUSES;
 use crate::work::some_workers;
 
@@ -23,7 +24,9 @@ impl Script {
     /// later causes before the earlier, so that repairs uncover one after the other.
     fn target(&self) -> (u8, Vec<u8>) {
         let random = &self.random;
-        let (one, other) = (random.pick(&CAUSES), random.pick(&CAUSES));
+        let begins = random.pick(b"UP");
+        let begins = CAUSES.into_iter().find(|(letter, _)| *letter == begins).unwrap_or(CAUSES[0]);
+        let (one, other) = (random.pick(&CAUSES), random.pick(&[begins, random.pick(&CAUSES), random.pick(&CAUSES)]));
         let (letter, causes) = if one.1.len() < other.1.len() && random.chance(1, 2) { other } else { one };
         let later = if random.chance(1, 3) { random.pick(causes) } else { 0 };
         let first = random.pick(causes);
@@ -32,7 +35,7 @@ impl Script {
             if rank(first) > rank(8) { random.pick(&[0, 1, 1, 2]) } else { random.pick(&[0, 0, 0, 1, 1, 2, 3]) };
         let mut aims = vec![first];
         (0..others).for_each(|_| aims.push(random.pick(causes)));
-        aims.sort_by_key(|cause| Reverse(if matches!(cause, 6 | 7) { usize::MAX } else { rank(*cause) }));
+        aims.sort_by_key(|cause| Reverse(if matches!(cause, 6 | 7 | 15) { usize::MAX } else { rank(*cause) }));
         (letter, aims)
     }
 
@@ -91,19 +94,24 @@ impl Script {
             b'R' => self.prepare_recovery(),
             b'S' => self.prepare_step(aims),
             b'U' => {
+                let cell = self.data_cell();
                 self.make_free(worker);
-                let cell = workers + self.random.below((self.cells() - workers).max(1));
+                self.hold(worker, lock_of(cell) as u64);
                 Call::Update { worker, cell, value: self.word() }
             }
             b'P' => {
                 self.make_free(worker);
+                self.let_go(worker);
                 Call::RestartPoint { worker, value: self.word() }
             }
             b'A' => self.prepare_advance(worker),
             b'a' => {
                 self.make_free(worker);
+                self.let_go(worker);
                 Call::GoAway { worker }
             }
+            b'H' => self.prepare_take(worker),
+            b'V' => self.prepare_give_back(worker),
             b'b' => self.prepare_back(worker),
             b'C' => self.prepare_request(),
             b'n' => self.prepare_count(),
@@ -144,6 +152,7 @@ impl Script {
         let cell = workers + self.random.below(self.cells() - workers);
         if self.random.chance(1, 2) {
             self.make_free(worker);
+            self.hold(worker, lock_of(cell) as u64);
             self.call(Call::Update { worker, cell, value: 7 });
         } else {
             let cell = self.random.pick(&[cell, worker]);
@@ -209,7 +218,7 @@ impl Script {
             3 => return self.record_fault(call),
             4 => return self.rows_fault(call),
             5 => return vec![self.header_damage()],
-            6 | 7 => *call = self.bad_arguments(cause, *call),
+            6 | 7 | 15 => *call = self.bad_arguments(cause, *call),
             8 => return self.wrong_condition(call),
             9 => return self.same_cell(call),
             10 => return self.request_fault(call),
@@ -217,6 +226,7 @@ impl Script {
             12 => *call = Call::Page { room: self.too_short() },
             13 => return self.under_way(),
             14 => return self.mark_past(),
+            16 => return self.wrong_lock(call),
             _ => {}
         }
         Vec::new()
@@ -241,7 +251,7 @@ impl Script {
         }
     }
 
-    /// A worker, a cell or a line past its limit, some of them small again when cut to fewer bits.
+    /// A worker, a cell, a line or a lock past its limit, some of them small again when cut to fewer bits.
     fn bad_arguments(&self, cause: u8, call: Call) -> Call {
         let random = &self.random;
         let past =
@@ -257,19 +267,28 @@ impl Script {
             Call::Advance { .. } => Call::Advance { worker: past(workers) },
             Call::GoAway { .. } => Call::GoAway { worker: past(workers) },
             Call::ComeBack { .. } => Call::ComeBack { worker: past(workers) },
+            Call::Take { worker, .. } if cause == 15 => Call::Take { worker, lock: self.lock_past() },
+            Call::Take { lock, .. } => Call::Take { worker: past(workers), lock },
+            Call::GiveBack { worker, .. } if cause == 15 => Call::GiveBack { worker, lock: self.lock_past() },
+            Call::GiveBack { lock, .. } => Call::GiveBack { worker: past(workers), lock },
             Call::WriteBack { .. } => Call::WriteBack { line: past(self.lines() + 1) },
             Call::Read { .. } => Call::Read { cell: past(cells) },
             other => other,
         }
     }
 
-    /// A worker that is not free, for an advance one without an update, for coming back one that is not away.
+    /// A worker that is not free, for an advance one without an update, for coming back one that is not away, for a lock
+    /// given back one in the middle of an update under it.
     fn wrong_condition(&mut self, call: &Call) -> Vec<Damage> {
         let cell = self.random.below(self.cells().max(1));
         let updating = [2, self.random.below(3), cell, 1];
         let (worker, among) = match *call {
             Call::Update { worker, .. } | Call::RestartPoint { worker, .. } => (worker, [WAITING, updating, AWAY]),
-            Call::GoAway { worker } => (worker, [WAITING, updating, AWAY]),
+            Call::GoAway { worker } | Call::Take { worker, .. } => (worker, [WAITING, updating, AWAY]),
+            Call::GiveBack { worker, lock } => {
+                let first = self.workers() + (lock + 16 - self.workers() % 16) % 16;
+                (worker, [[2, self.random.below(3), first.min(65_535), 1]; 3])
+            }
             Call::Advance { worker } => (worker, [FREE, WAITING, AWAY]),
             Call::ComeBack { worker } => (worker, [FREE, WAITING, updating]),
             _ => return Vec::new(),
@@ -315,9 +334,9 @@ impl Script {
         let word = self.random.pick(&[u64::MAX, u64::MAX, u64::MAX, u64::MAX - 1]);
         let mut damages = vec![Damage::Cache { at: 0, word }];
         if *call == Call::Step {
-            let place = self.random.pick(&[0, 0, 0, 0, 1, 2]);
+            let place = self.random.pick(&[0, 0, 0, 0, 0, 0, 1, 2]);
             damages.push(Damage::Field { k: 4, number: self.n() + place });
-            if self.random.chance(1, 3) {
+            if self.random.chance(1, 5) {
                 damages.push(self.not_waiting());
             }
         }

@@ -21,6 +21,7 @@ impl Script {
     pub(super) fn prepare_back(&mut self, worker: u64) -> Call {
         if self.random.chance(1, 2) {
             self.make_free(worker);
+            self.let_go(worker);
             self.call(Call::GoAway { worker });
         } else {
             self.damage(Damage::Worker { worker, numbers: AWAY });
@@ -46,6 +47,7 @@ impl Script {
         for worker in 0..self.workers() {
             if all || self.random.chance(1, 2) {
                 self.make_free(worker);
+                self.let_go(worker);
                 self.call(Call::GoAway { worker });
             }
         }
@@ -85,6 +87,7 @@ impl Script {
         for worker in 0..self.workers() {
             let busy = |script: &Script| matches!(script.board.state.worker[worker as usize], Condition::Updating(_));
             if self.board.state.worker[worker as usize] == Condition::Free {
+                self.let_go(worker);
                 self.call(Call::RestartPoint { worker, value: self.word() });
             }
             for _ in 0..3 {
@@ -110,7 +113,10 @@ impl Script {
         let worker = self.random.below(self.workers().max(1));
         let value = self.word();
         let cell = self.workers() + self.random.below((self.cells() - self.workers()).max(1));
-        self.call(match self.random.below(10) {
+        let lock = self.random.below(16);
+        self.call(match self.random.below(12) {
+            10 => Call::Take { worker, lock },
+            11 => Call::GiveBack { worker, lock },
             0 => Call::GoAway { worker },
             1 => Call::Update { worker, cell, value },
             2 => Call::RestartPoint { worker, value },

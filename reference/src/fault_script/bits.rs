@@ -83,8 +83,8 @@ impl Script {
     /// A bit that must not be set, or another reason to refuse a count, calls on such a board, and counts once it is
     /// repaired.
     fn refused_counts(&mut self) {
-        let damage = match self.random.below(5) {
-            0 => self.lengths_fault(),
+        let damage = match self.random.below(6) {
+            0 | 5 => self.lengths_fault(),
             1 => Damage::Field { k: 0, number: self.random.below(3) },
             _ => self.bit_astray(),
         };
@@ -152,8 +152,7 @@ impl Script {
         let last = self.cells() - 1 - self.random.below(4.min(self.cells() - workers));
         let (cell, value) = (self.random.pick(&[any, any, last]), self.word());
         for cell in [cell, (cell ^ 1).max(workers)] {
-            self.call(Call::Update { worker: 0, cell, value });
-            (0..3).for_each(|_| self.call(Call::Advance { worker: 0 }));
+            self.locked_update(0, cell, value, 3);
             if self.random.chance(1, 2) {
                 return;
             }

@@ -100,6 +100,10 @@ impl Script {
             self.field(self.random.pick(&[1, 2, 4]), 255);
         }
         if self.random.chance(1, 3) {
+            let damage = self.odd_holder();
+            self.damage(damage);
+        }
+        if self.random.chance(1, 3) {
             self.damage(Damage::Bits { at: self.random.below(8), word: self.word() });
         }
     }

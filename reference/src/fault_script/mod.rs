@@ -5,6 +5,7 @@ mod aim;
 mod away;
 mod bits;
 mod foreign;
+mod locks;
 mod odd;
 mod other_form;
 mod page;
@@ -48,6 +49,11 @@ pub fn foreign_script(seed: u64, lines: u64) -> Vec<u8> {
 /// A script of nothing but line bits: checkpoints of several lines in several words, counts, bits that must not be set.
 pub fn bits_script(seed: u64, lines: u64) -> Vec<u8> {
     write(seed, lines, |_| {}, Script::line_bits)
+}
+
+/// A script of nothing but locks: taken, given back, updates with and without them, holders that must not be.
+pub fn locks_script(seed: u64, lines: u64) -> Vec<u8> {
+    write(seed, lines, |_| {}, Script::locks)
 }
 
 /// So many lines, the last a checksum; those of odd seeds end without a line feed.

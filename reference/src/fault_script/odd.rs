@@ -10,12 +10,13 @@ use crate::record::FIELDS;
 impl Script {
     /// One damage of any kind.
     pub(super) fn odd_damage(&mut self) {
-        let damage = match self.random.below(8) {
+        let damage = match self.random.below(9) {
             0 => self.lengths_fault(),
             1 | 2 => self.odd_field(),
             3 => self.odd_worker(),
             4 => self.header_damage(),
             5 => self.odd_bits(),
+            8 => self.odd_holder(),
             6 => Damage::Memory { at: self.index(self.board.memory.len()), word: self.word() },
             _ => Damage::Cache { at: self.index(self.board.cache.len()), word: self.word() },
         };
@@ -63,6 +64,11 @@ impl Script {
         Damage::Worker { worker, numbers }
     }
 
+    /// Any lock with any holder.
+    pub(super) fn odd_holder(&self) -> Damage {
+        Damage::Holder { lock: self.random.below(16), holder: self.random.below(9) }
+    }
+
     /// A worker that is not under W, if there is one, in the middle of an update or away.
     pub(super) fn worker_from_w_on(&mut self) -> Damage {
         let workers = self.workers().min(7);
@@ -77,7 +83,11 @@ impl Script {
             self.ground(0);
         }
         for _ in 0..1 + self.random.below(7) {
-            let damage = if self.random.chance(3, 5) { self.odd_field() } else { self.odd_worker() };
+            let damage = match self.random.below(10) {
+                0..=5 => self.odd_field(),
+                6 => self.odd_holder(),
+                _ => self.odd_worker(),
+            };
             self.damage(damage);
         }
         self.sum();

@@ -62,7 +62,7 @@ impl Script {
 
     /// A letter that no line has today: one of a later ticket, of the other case, or of two bytes.
     fn unknown_letter(&self) -> Vec<u8> {
-        let letter = self.random.pick(b"HVOuxcsegrtwmqkLZ09?\xff");
+        let letter = self.random.pick(b"hvouxcsegrtwmqkLZ09?\xff");
         let mut text = self.small(letter, self.random.below(3) as usize);
         if self.random.chance(1, 4) {
             text.insert(1, self.form().0);
@@ -89,10 +89,12 @@ impl Script {
         format!("{}\t{}", letter as char, fields.join("\t")).into_bytes()
     }
 
-    /// A field of the record that is no more or past the last, a worker past the eighth, a condition past the fourth.
+    /// A field of the record that is no more or past the last, a worker past the eighth, a condition past the fourth, a
+    /// lock past the sixteenth.
     fn no_such_place(&self) -> Vec<u8> {
         let past = self.random.pick(&[0, 0, 1, 249, 250, 65_536, u64::MAX - 9]);
-        match self.random.below(4) {
+        match self.random.below(5) {
+            4 => line('O', &[16 + past, self.random.below(9)]),
             0 => line('B', &[7 + past, self.random.below(2)]),
             3 => line('B', &[3, self.random.pick(&[0, 1, self.n(), 65_535])]),
             1 => line('K', &[8 + past, self.random.below(2), 0, 0, 0]),
@@ -104,7 +106,8 @@ impl Script {
     fn too_large(&self) -> Vec<u8> {
         let past = self.random.pick(&[0, 0, 1, 65_536, 1 << 32, u64::MAX - 65_536]);
         let (k, limit) = self.random.pick(&[(0, 4), (1, 65_536), (2, 256), (4, 65_536), (5, 3), (6, 2)]);
-        match self.random.below(8) {
+        match self.random.below(10) {
+            8 | 9 => line('O', &[self.random.below(16), 9 + past]),
             0..=5 => line('B', &[k, limit + past]),
             6 => line('K', &[self.random.below(8), 2, 3 + past, 0, self.word()]),
             _ => line('K', &[self.random.below(8), 2, self.random.below(3), 65_536 + past, self.word()]),

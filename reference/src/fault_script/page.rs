@@ -49,7 +49,8 @@ impl Script {
         self.put_marks();
         self.page();
         for _ in 0..self.random.below(4) {
-            match self.random.below(5) {
+            match self.random.below(6) {
+                5 => self.no_row_fits(),
                 0 => self.odd_damage(),
                 1 => self.any_call(),
                 2 => self.page_of_another_form(),
@@ -57,6 +58,15 @@ impl Script {
             }
             self.page();
         }
+    }
+
+    /// Rows that do not fit, and a text row that is too short as well, until the rows are put right.
+    fn no_row_fits(&mut self) {
+        let damage = self.lengths_fault();
+        let repair = damage.repair(&self.board);
+        self.damage(damage);
+        self.call(Call::Page { room: self.too_short() });
+        self.damage(repair);
     }
 
     /// A page that the board takes, of marks put there or as they are.

@@ -6,14 +6,14 @@ use crate::call::Call;
 use crate::damage::Damage;
 
 impl Script {
-    /// A field of the record, or a worker's cell, outside its limits; at the last epoch place and bits stay.
+    /// A field of the record, a holder, or a worker's cell, outside its limits; at the last epoch place and bits stay.
     pub(super) fn record_fault(&mut self, call: &Call) -> Vec<Damage> {
         let (lines, workers, cells) = (self.lines(), self.workers(), self.cells());
         let random = &self.random;
         let far = random.pick(&[32_768, 65_535]);
         let kind = match call {
-            Call::Step if self.board.cache.first() == Some(&u64::MAX) => random.pick(&[0, 1, 4]),
-            _ => random.below(5),
+            Call::Step if self.board.cache.first() == Some(&u64::MAX) => random.pick(&[0, 1, 4, 5]),
+            _ => random.pick(&[0, 1, 2, 2, 3, 4, 5]),
         };
         match kind {
             0 => vec![Damage::Field { k: 1, number: random.pick(&[0, 512, far, workers / 2, lines | 512]) }],
@@ -23,6 +23,7 @@ impl Script {
             }],
             2 => vec![self.bit_astray()],
             3 => self.place_fault(far),
+            4 => vec![self.holder_astray()],
             _ => {
                 let worker = random.below(workers.clamp(1, 8));
                 let cell = random.pick(&[cells, cells, cells + 1, far]).min(65_535);

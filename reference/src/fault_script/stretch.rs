@@ -12,19 +12,20 @@ use crate::work::{good_call_with_away, some_workers, Leave};
 impl Script {
     /// One stretch, and a checksum after it.
     pub(super) fn stretch(&mut self) {
-        match self.random.below(51) {
+        match self.random.below(72) {
             0..=5 => self.work(40),
-            6..=23 => self.aimed(),
+            6..=23 | 58..=66 | 71 => self.aimed(),
             24 | 25 => self.odd_record(),
             26..=28 => self.marked_cells(),
             29 => self.foreign_board(),
             30 => self.broken_format(),
             31 | 32 => self.other_forms(),
-            33 | 34 | 46 => self.pages(),
+            33 | 34 | 46 | 69 => self.pages(),
             35 | 36 => self.leaving(),
-            37 => self.odd_away(),
-            38 | 39 => self.foreign_memory(),
+            37 | 68 => self.odd_away(),
+            38 | 39 | 67 | 70 => self.foreign_memory(),
             40..=45 => self.line_bits(),
+            51..=57 => self.locks(),
             _ => self.odd_places(),
         }
         self.sum();
@@ -138,14 +139,13 @@ impl Script {
     fn update(&mut self, cell: u64) {
         let (workers, value) = (self.workers(), self.word());
         let worker = if cell < workers { cell } else { self.random.below(workers) };
-        self.call(if cell < workers {
-            Call::RestartPoint { worker, value }
-        } else {
-            Call::Update { worker, cell, value }
-        });
-        for _ in 0..self.random.below(4) {
-            self.call(Call::Advance { worker });
+        let advances = self.random.below(4);
+        if cell >= workers {
+            return self.locked_update(worker, cell, value, advances);
         }
+        self.let_go(worker);
+        self.call(Call::RestartPoint { worker, value });
+        (0..advances).for_each(|_| self.call(Call::Advance { worker }));
     }
 
     /// Rows and a header put there word by word, then a start and its steps.

@@ -1,9 +1,10 @@
-//! What random fault scripts reach: how often each call got each answer, each case of tickets 2, 4 and 5, and each kind
-//! of `?`.
+//! What random fault scripts reach: how often each call got each answer, each case of tickets 2, 4, 5 and 6, and each
+//! kind of `?`.
 
 mod away;
 mod bits;
 mod foreign;
+mod locks;
 
 use std::collections::HashMap;
 use std::fmt;
@@ -20,27 +21,30 @@ pub use away::CASES;
 pub use bits::LINES;
 use foreign::Origin;
 pub use foreign::MEMORIES;
+pub use locks::{KEPT, LOCKS};
 
 /// The letters of calls with the answers that the table has for each.
-pub const CAUSES: [(u8, &[u8]); 14] = [
+pub const CAUSES: [(u8, &[u8]); 16] = [
     (b'f', &[0, 1, 4]),
     (b'F', &[0, 1]),
     (b'R', &[0, 4, 5, 14]),
     (b'S', &[0, 2, 3, 4, 10, 11]),
-    (b'U', &[0, 2, 3, 4, 6, 7, 8, 9]),
-    (b'P', &[0, 2, 3, 4, 6, 8, 9]),
+    (b'U', &[0, 2, 3, 4, 6, 7, 8, 16, 9]),
+    (b'P', &[0, 2, 3, 4, 6, 8, 16, 9]),
     (b'A', &[0, 2, 3, 4, 6, 8]),
     (b'C', &[0, 2, 3, 4, 10, 11]),
     (b'E', &[0, 2, 3, 4, 7]),
     (b'G', &[0, 2, 3, 4, 7]),
     (b'p', &[0, 2, 3, 4, 12]),
-    (b'a', &[0, 2, 3, 4, 6, 8]),
+    (b'a', &[0, 2, 3, 4, 6, 8, 16]),
     (b'b', &[0, 2, 3, 4, 6, 8, 13]),
     (b'n', &[0, 2, 3, 4]),
+    (b'H', &[0, 2, 3, 4, 6, 15, 8, 16]),
+    (b'V', &[0, 2, 3, 4, 6, 15, 8, 16]),
 ];
 
-/// How many answers there are: 0, and the causes 1 to 14.
-const ANSWERS: usize = 15;
+/// How many answers there are: 0, and the causes 1 to 16.
+const ANSWERS: usize = 17;
 
 /// The counts over some scripts.
 #[derive(Clone, PartialEq, Eq, Debug)]
@@ -61,6 +65,9 @@ pub struct Reached {
     pub memories: [u64; MEMORIES.len()],
     /// For each case of ticket 5 in the order of `LINES`, how often it was met.
     pub lines_set: [u64; LINES.len()],
+    /// For each case of ticket 6 in the order of `LOCKS` and `KEPT`, how often it was met.
+    pub locks: [u64; LOCKS.len()],
+    pub kept: [u64; KEPT.len()],
     /// Where the memory of the script under way comes from.
     origin: Origin,
     /// `K` with the condition away: taken, and with a number that it has no use for.
@@ -79,6 +86,8 @@ pub fn reached(seeds: u64, lines: u64) -> Reached {
         cases: [0; CASES.len()],
         memories: [0; MEMORIES.len()],
         lines_set: [0; LINES.len()],
+        locks: [0; LOCKS.len()],
+        kept: [0; KEPT.len()],
         origin: Origin::default(),
         put_away: [0; 2],
     };
@@ -131,6 +140,8 @@ impl Reached {
             let scene = Scene { call, number, before: &before, after: &board.state };
             self.cases.iter_mut().zip(CASES).for_each(|(count, (_, holds))| *count += holds(&scene) as u64);
             self.lines_set.iter_mut().zip(LINES).for_each(|(count, (_, holds))| *count += holds(&scene) as u64);
+            self.locks.iter_mut().zip(LOCKS).for_each(|(count, (_, holds))| *count += holds(&scene) as u64);
+            self.kept.iter_mut().zip(KEPT).for_each(|(count, (_, holds))| *count += holds(&scene) as u64);
             let scene = foreign::Scene { call, number, before: &before, board, origin: self.origin };
             self.memories.iter_mut().zip(MEMORIES).for_each(|(count, (_, holds))| *count += holds(&scene) as u64);
         }
@@ -182,7 +193,7 @@ impl Reached {
 
     /// For each part of a cause, the calls whose answer hung on it alone.
     fn write_parts(&self, out: &mut fmt::Formatter) -> fmt::Result {
-        let letters = b"fRSUPACEGpabn";
+        let letters = b"fRSUPACEGpabnHV";
         let head = letters.iter().map(|letter| format!(" {} |", *letter as char)).collect::<String>();
         writeln!(out, "| answer | hung alone on |{head}")?;
         writeln!(out, "|---|---|{}", "---|".repeat(letters.len()))?;
@@ -205,7 +216,7 @@ impl Reached {
         writeln!(out)
     }
 
-    /// The cases of tickets 4 and 5.
+    /// The cases of tickets 4, 5 and 6.
     fn write_memories(&self, out: &mut fmt::Formatter) -> fmt::Result {
         writeln!(out, "| case of foreign memory | lines |\n|---|---|")?;
         for ((words, _), count) in MEMORIES.iter().zip(self.memories) {
@@ -215,13 +226,26 @@ impl Reached {
         for ((words, _), count) in LINES.iter().zip(self.lines_set) {
             writeln!(out, "| {words} | {count} |")?;
         }
+        writeln!(out, "\n| case of locks | lines |\n|---|---|")?;
+        let counts = self.locks.iter().chain(&self.kept);
+        for ((words, _), count) in LOCKS.iter().chain(&KEPT).zip(counts) {
+            writeln!(out, "| {words} | {count} |")?;
+        }
         writeln!(out)
     }
 }
 
-/// Two causes of one call that cannot both hold: a step is a checkpoint's only when running.
+/// Two causes of one call of which the first cannot answer while the other holds: a step is a checkpoint's only when
+/// running; a worker from W on that holds a lock is 3; it has no update that counts; a lock past the last lies over no cell
+/// and has no holder.
 fn apart(letter: u8, first: u8, other: u8) -> bool {
-    letter == b'S' && first == 2 && other >= 10
+    match letter {
+        b'S' => first == 2 && other >= 10,
+        b'P' | b'a' => (first, other) == (6, 16),
+        b'V' => matches!((first, other), (6 | 15, 8)),
+        b'H' => (first, other) == (15, 16),
+        _ => false,
+    }
 }
 
 /// Each letter of a call with every two of its causes that can both hold, the earlier first.
