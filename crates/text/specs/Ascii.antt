@@ -40,6 +40,9 @@ abbrev pub 'F' : ℕ
 abbrev pub 'G' : ℕ
 'G' = 71
 
+abbrev pub 'H' : ℕ
+'H' = 72
+
 abbrev pub 'K' : ℕ
 'K' = 75
 
@@ -48,6 +51,9 @@ abbrev pub 'M' : ℕ
 
 abbrev pub 'N' : ℕ
 'N' = 78
+
+abbrev pub 'O' : ℕ
+'O' = 79
 
 abbrev pub 'P' : ℕ
 'P' = 80
@@ -66,6 +72,9 @@ abbrev pub 'T' : ℕ
 
 abbrev pub 'U' : ℕ
 'U' = 85
+
+abbrev pub 'V' : ℕ
+'V' = 86
 
 abbrev pub 'W' : ℕ
 'W' = 87
