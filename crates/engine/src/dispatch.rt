@@ -40,13 +40,9 @@ pub fn perform(call: Call, state: State, memory: &mut [u64], cache: &mut [u64]) 
         (lent (r .state) (now (memory .exit)) (now (cache .exit))) ⌝ }
 {
     match call {
-        Call::FormatStart { lines, workers } => unread(format_start(
-            state,
-            memory,
-            cache,
-            lines,
-            workers,
-        )),
+        Call::FormatStart { lines, workers } => {
+            unread(format_start(state, memory, cache, lines, workers))
+        }
         Call::RecoveryStart => unread(recovery_start(state, memory, cache)),
         Call::Step => unread(step(state, memory, cache)),
         Call::Update {
@@ -54,13 +50,9 @@ pub fn perform(call: Call, state: State, memory: &mut [u64], cache: &mut [u64]) 
             cell,
             value,
         } => unread(update(state, memory, cache, worker, cell, value)),
-        Call::RestartPoint { worker, value } => unread(restart_point(
-            state,
-            memory,
-            cache,
-            worker,
-            value,
-        )),
+        Call::RestartPoint { worker, value } => {
+            unread(restart_point(state, memory, cache, worker, value))
+        }
         Call::Advance { worker } => unread(advance(state, memory, cache, worker)),
         Call::Request => unread(request(state, memory, cache)),
         Call::WriteBack { line } => unread(write_back(state, memory, cache, line)),
@@ -69,12 +61,8 @@ pub fn perform(call: Call, state: State, memory: &mut [u64], cache: &mut [u64]) 
         Call::ComeBack { worker } => unread(come_back(state, memory, cache, worker)),
         Call::Count => count(state, memory, cache),
         Call::TakeLock { worker, lock } => unread(take_lock(state, memory, cache, worker, lock)),
-        Call::GiveBackLock { worker, lock } => unread(give_back_lock(
-            state,
-            memory,
-            cache,
-            worker,
-            lock,
-        )),
+        Call::GiveBackLock { worker, lock } => {
+            unread(give_back_lock(state, memory, cache, worker, lock))
+        }
     }
 }
