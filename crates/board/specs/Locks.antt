@@ -3,11 +3,11 @@ use Prim.Native.Nat.{ℕ, _*_, _%_, _≤_, _<_}
 use mathlib.Core.Path.{_≡_}
 use mathlib.Core.Logic.{_⊎_, _↔_}
 use mathlib.Core.List.{List}
-use mathlib.Core.Bool.{Bool, true, false, _||_}
+use mathlib.Core.Bool.{true, false}
 use Rattle.locks.specs.Holders.{unheld, holds}
 use Rattle.board.specs.declared.State.{State}
 use Rattle.board.specs.declared.Call.{Call}
-use Rattle.board.specs.declared.Call.the-variants.{FormatStart, RecoveryStart, Step, Update, RestartPoint, Advance, Request, WriteBack, Read, GoAway, ComeBack, Count, TakeLock, GiveBackLock}
+use Rattle.board.specs.declared.Call.the-variants.{Update, RestartPoint, TakeLock, GiveBackLock}
 use Rattle.board.specs.declared.Condition.the-variants.{Free, Waiting, Updating, Away}
 use Rattle.board.specs.declared.Store.{Store}
 use Rattle.board.specs.Board.{Board}
@@ -104,23 +104,7 @@ GivesLockBack =
     (w k : ℕ) (b : Board) → Taken (GiveBackLock w k) b →
     (holds (b .state .holders) w k ≡ true) × (unheld (next (GiveBackLock w k) b .state .holders) k ≡ true) × OthersHeld k b (next (GiveBackLock w k) b) × OnlyHolders b (next (GiveBackLock w k) b)
 
--- A call that takes a lock or gives one back.
-abbrev pub moves : Call → Bool
-moves (FormatStart l w) = false
-moves RecoveryStart = false
-moves Step = false
-moves (Update w c v) = false
-moves (RestartPoint w v) = false
-moves (Advance w) = false
-moves Request = false
-moves (WriteBack l) = false
-moves (Read c) = false
-moves (GoAway w) = false
-moves (ComeBack w) = false
-moves Count = false
-moves (TakeLock w k) = true
-moves (GiveBackLock w k) = true
-
 -- No other call but the two starts, which free all locks (`Begun`), changes a lock's holder: a release and the end of a format or recovery leave them too.
 abbrev pub HoldersStay : Type 0
-HoldersStay = (k : Call) (b : Board) → isStart (kind k) || moves k ≡ false → next k b .state .holders ≡ b .state .holders
+HoldersStay =
+    (k : Call) (b : Board) → isStart (kind k) ≡ false → ((w j : ℕ) → k ≡ TakeLock w j → ⊥) → ((w j : ℕ) → k ≡ GiveBackLock w j → ⊥) → next k b .state .holders ≡ b .state .holders

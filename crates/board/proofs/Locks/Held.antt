@@ -21,11 +21,11 @@ use Rattle.board.specs.Board.{Board, workersOf}
 use Rattle.board.specs.State.{allFree, conditionOf, conditioned, isFree, updates, updatesUnder, lockOf, afterRelease, released}
 use Rattle.board.specs.Causes.{causes, badRecord}
 use Rattle.board.specs.Effects.{firstStore, afterLast, advance, advanceOf, effect}
-use Rattle.board.specs.Next.{Taken, kind, isStart}
+use Rattle.board.specs.Next.{Taken, Kind, startsFormat, startsRecovery, stepping, writing, counting, other, reading, kind, isStart}
 use Rattle.board.specs.Locks.{FromStart, starts, performs, pages}
 use Rattle.board.proofs.Laws.Bools.{on, split, clash, or-left, and-left, and-both, not-off}
 use Rattle.board.proofs.Laws.Count.{at-each}
-use Rattle.board.proofs.Laws.Taken.{standsAt, passed, performed-taken, performed-refused, page-board, record-within, workers-in}
+use Rattle.board.proofs.Laws.Taken.{standsAt, passed, of-kind, performed-taken, performed-refused, page-board, record-within, workers-in}
 use Rattle.board.proofs.Laws.Workers.{is-free, condition-at, condition-other, busy-within, free-condition, released-condition}
 use Rattle.board.proofs.Laws.Locks.{unheld-under, taken-under, given-back-under}
 use Rattle.board.proofs.Invariant.{HeldUnder}
@@ -162,11 +162,27 @@ advances-held Waiting w b i h f = i
 advances-held (Updating n c v) w b i h f = advance-held n w c v b i h f
 advances-held Away w b i h f = i
 
+-- A start frees all locks and all workers.
+start-locks : (k : Call) (b : Board) → isStart (kind k) ≡ true → LockInv (effect k b .state)
+unfolding effect
+start-locks k b e = go (kind k) refl e
+  where
+    go : (d : Kind) → kind k ≡ d → isStart d ≡ true → LockInv (effect k b .state)
+    go startsFormat p q =
+        let f = of-kind k startsFormat p in
+        subst (λ (x : Call). LockInv (effect x b .state)) (sym (f .2)) (freed _ refl (unheld-under (f .1)))
+    go startsRecovery p q = subst (λ (x : Call). LockInv (effect x b .state)) (sym (of-kind k startsRecovery p)) (freed _ refl (unheld-under (workersOf (b .memory))))
+    go stepping p q = absurd (false≢true q)
+    go writing p q = absurd (false≢true q)
+    go counting p q = absurd (false≢true q)
+    go other p q = absurd (false≢true q)
+    go (reading c) p q = absurd (false≢true q)
+
 -- Every taken call keeps it.
 pub keeps-locks : (k : Call) (b : Board) → LockInv (b .state) → Taken k b → LockInv (effect k b .state)
 unfolding standsAt causes effect
-keeps-locks (FormatStart l w) b i t = freed _ refl (unheld-under w)
-keeps-locks RecoveryStart b i t = freed _ refl (unheld-under (workersOf (b .memory)))
+keeps-locks (FormatStart l w) b i t = start-locks (FormatStart l w) b refl
+keeps-locks RecoveryStart b i t = start-locks RecoveryStart b refl
 keeps-locks Step b i t =
     step-record LockInv b i (λ place undo. record { eight = i .eight; under = i .under; holding = i .holding }) (λ dirty. freed _ refl (i .under)) (released-holding (b .state) i)
 keeps-locks (Update w c v) b i t =
@@ -213,24 +229,6 @@ keeps-locks (GiveBackLock w k) b i t =
     }
 
 -- ---- from a taken start on
-
--- A taken start frees all locks and all workers.
-start-locks : (k : Call) (b : Board) → isStart (kind k) ≡ true → LockInv (effect k b .state)
-unfolding effect
-start-locks (FormatStart l w) b e = freed _ refl (unheld-under w)
-start-locks RecoveryStart b e = freed _ refl (unheld-under (workersOf (b .memory)))
-start-locks Step b e = absurd (false≢true e)
-start-locks (Update w c v) b e = absurd (false≢true e)
-start-locks (RestartPoint w v) b e = absurd (false≢true e)
-start-locks (Advance w) b e = absurd (false≢true e)
-start-locks Request b e = absurd (false≢true e)
-start-locks (WriteBack l) b e = absurd (false≢true e)
-start-locks (Read c) b e = absurd (false≢true e)
-start-locks (GoAway w) b e = absurd (false≢true e)
-start-locks (ComeBack w) b e = absurd (false≢true e)
-start-locks Count b e = absurd (false≢true e)
-start-locks (TakeLock w k) b e = absurd (false≢true e)
-start-locks (GiveBackLock w k) b e = absurd (false≢true e)
 
 -- Every board that calls from a taken start led to has the invariant.
 pub locks-inv : {b : Board} → FromStart b → LockInv (b .state)

@@ -2,7 +2,7 @@
 use Prim.Native.Nat.{ℕ, _+_}
 use mathlib.Core.Path.{_≡_, refl, sym, subst}
 use mathlib.Core.List.{List}
-use mathlib.Core.Bool.{false, _||_, true≢false}
+use mathlib.Core.Bool.{false, true≢false}
 use lib.Dec.{leb}
 use Rattle.board.specs.declared.State.{State}
 use Rattle.board.specs.declared.Condition.{Condition}
@@ -18,7 +18,7 @@ use Rattle.board.specs.Board.{Board}
 use Rattle.board.specs.State.{conditionOf, placed, opened, released, dirtyCount}
 use Rattle.board.specs.Effects.{Act, performAct, pastCell, formatStep, step, advance, advanceOf, effect}
 use Rattle.board.specs.Next.{next, taken, kind, isStart}
-use Rattle.board.specs.Locks.{moves, HoldersStay}
+use Rattle.board.specs.Locks.{HoldersStay}
 use Rattle.board.proofs.Laws.Bools.{on}
 use Rattle.board.proofs.Recovery.Board.{recovery-cases, past-cases}
 use Rattle.board.proofs.Checkpoint.Acts.{act-cases, effect-acts}
@@ -60,24 +60,24 @@ advances-holders (Updating n c v) w b = advance-holders n w c v b
 advances-holders Away w b = refl
 
 -- What a taken call does to the holders.
-effect-holders : (k : Call) (b : Board) → isStart (kind k) || moves k ≡ false → effect k b .state .holders ≡ b .state .holders
+effect-holders : (k : Call) (b : Board) → isStart (kind k) ≡ false → ((w j : ℕ) → k ≡ TakeLock w j → ⊥) → ((w j : ℕ) → k ≡ GiveBackLock w j → ⊥) → effect k b .state .holders ≡ b .state .holders
 unfolding effect
-effect-holders (FormatStart l w) b o = absurd (true≢false o)
-effect-holders RecoveryStart b o = absurd (true≢false o)
-effect-holders Step b o = step-record (λ (x : State). x .holders ≡ b .state .holders) b refl (λ place undo. refl) (λ dirty. refl) refl
-effect-holders (Update w c v) b o = refl
-effect-holders (RestartPoint w v) b o = refl
-effect-holders (Advance w) b o = advances-holders (conditionOf (b .state) w) w b
-effect-holders Request b o = refl
-effect-holders (WriteBack l) b o = refl
-effect-holders (Read c) b o = refl
-effect-holders (GoAway w) b o = refl
-effect-holders (ComeBack w) b o = refl
-effect-holders Count b o = refl
-effect-holders (TakeLock w k) b o = absurd (true≢false o)
-effect-holders (GiveBackLock w k) b o = absurd (true≢false o)
+effect-holders (FormatStart l w) b s t g = absurd (true≢false s)
+effect-holders RecoveryStart b s t g = absurd (true≢false s)
+effect-holders Step b s t g = step-record (λ (x : State). x .holders ≡ b .state .holders) b refl (λ place undo. refl) (λ dirty. refl) refl
+effect-holders (Update w c v) b s t g = refl
+effect-holders (RestartPoint w v) b s t g = refl
+effect-holders (Advance w) b s t g = advances-holders (conditionOf (b .state) w) w b
+effect-holders Request b s t g = refl
+effect-holders (WriteBack l) b s t g = refl
+effect-holders (Read c) b s t g = refl
+effect-holders (GoAway w) b s t g = refl
+effect-holders (ComeBack w) b s t g = refl
+effect-holders Count b s t g = refl
+effect-holders (TakeLock w k) b s t g = absurd (t w k refl)
+effect-holders (GiveBackLock w k) b s t g = absurd (g w k refl)
 
 -- Only the starts and the two calls change a lock's holder.
 pub holders-stay : HoldersStay
 unfolding next
-holders-stay k b o = on (λ (d : Board). d .state .holders ≡ b .state .holders) (taken k b) (effect k b) b (λ t. effect-holders k b o) (λ t. refl)
+holders-stay k b s t g = on (λ (d : Board). d .state .holders ≡ b .state .holders) (taken k b) (effect k b) b (λ e. effect-holders k b s t g) (λ e. refl)
