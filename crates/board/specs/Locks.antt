@@ -10,10 +10,12 @@ use Rattle.board.specs.declared.Call.{Call}
 use Rattle.board.specs.declared.Call.the-variants.{Update, RestartPoint, TakeLock, GiveBackLock}
 use Rattle.board.specs.declared.Condition.the-variants.{Free, Waiting, Updating, Away}
 use Rattle.board.specs.declared.Store.{Store}
+use Rattle.board.specs.declared.Phase.the-variants.{Running}
 use Rattle.board.specs.Board.{Board}
 use Rattle.board.specs.State.{conditionOf, isRunning}
+use Rattle.board.specs.Causes.{cause}
 use Rattle.board.specs.Next.{Taken, next, Performed, kind, isStart}
-use Rattle.board.specs.Page.{PagePerformed}
+use Rattle.board.specs.Page.{PagePerformed, pageCause}
 use Rattle.board.specs.Sequence.{Run, History}
 use Rattle.board.specs.Statements.{HoldsNone}
 
@@ -49,6 +51,20 @@ OneHolder = (holders w v k : ℕ) → holds holders w k ≡ true → holds holde
 -- Nobody holds a lock exactly where no worker does.
 abbrev pub HeldOrFree : Type 0
 HeldOrFree = (holders k : ℕ) → (unheld holders k ≡ true) ↔ ((w : ℕ) → holds holders w k ≡ false)
+
+-- A lock is held by a worker that is not there, W or one past it: a record that no calls lead to.
+pub record StrayHolder (s : State) : Type 0 where
+  pub lock : ℕ
+  pub worker : ℕ
+  pub one : lock < 16
+  pub past : s .workers ≤ worker
+  pub held : holds (s .holders) worker lock ≡ true
+
+-- "a worker under W or none, else cause 3": on a running board such a holder turns down every call but the two starts, and every page.
+abbrev pub StrayHolders : Type 0
+StrayHolders =
+    (b : Board) → b .state .phase ≡ Running → StrayHolder (b .state) →
+    ((k : Call) → isStart (kind k) ≡ false → cause k b ≡ 3) × ((text : List ℕ) → pageCause b text ≡ 3)
 
 -- ---- 3. when a call is taken
 

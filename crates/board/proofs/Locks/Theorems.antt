@@ -2,7 +2,8 @@
 use Prim.Native.Nat.{ℕ, _*_, _%_, _≤_, _<_}
 use mathlib.Core.Path.{_≡_, refl, sym, ap, subst, _∙_}
 use mathlib.Core.Logic.{_⊎_, inl, inr, _↔_}
-use mathlib.Core.Bool.{Bool, true, false, cond, not, _&&_, true≢false}
+use mathlib.Core.List.{List, _∷_}
+use mathlib.Core.Bool.{Bool, true, false, cond, not, _&&_, _||_, true≢false}
 use native.Mathlib.Omega.{arith}
 use lib.Dec.{leb, ltb, eqb}
 use borrow.Author.Tests.{leb-false, ltb-false, lt-leb, le-ltb, le-leb, leb-true, eq-eqb, ne-eqb, eqb-true}
@@ -13,17 +14,20 @@ use Rattle.board.specs.declared.Condition.{Condition}
 use Rattle.board.specs.declared.Condition.the-variants.{Free, Waiting, Updating, Away}
 use Rattle.board.specs.declared.Store.{Store}
 use Rattle.board.specs.declared.Call.{Call}
-use Rattle.board.specs.declared.Call.the-variants.{FormatStart, RecoveryStart, Update, RestartPoint, TakeLock, GiveBackLock}
+use Rattle.board.specs.declared.Phase.{Phase}
+use Rattle.board.specs.declared.Phase.the-variants.{Running}
+use Rattle.board.specs.declared.Call.the-variants.{FormatStart, RecoveryStart, Step, Update, RestartPoint, Advance, Request, WriteBack, Read, GoAway, ComeBack, Count, TakeLock, GiveBackLock}
 use Rattle.board.specs.Board.{Board, cells}
-use Rattle.board.specs.State.{conditionOf, isFree, updates, updatesUnder, lockOf, locked}
-use Rattle.board.specs.Causes.{causes}
+use Rattle.board.specs.State.{conditionOf, isFree, updates, isOff, isFormatting, isRunning, updatesUnder, lockOf, locked}
+use Rattle.board.specs.Causes.{Cause, row, badRecord, causes, firstStanding, cause}
 use Rattle.board.specs.Effects.{stated, effect}
 use Rattle.board.specs.Next.{Taken, next, Performed, kind, isStart}
+use Rattle.board.specs.Page.{pageCauses, pageCause}
 use Rattle.board.specs.Sequence as sequence
 use Rattle.board.specs.Machine.{Machine}
 use Rattle.board.specs.Sequence.{Run, Takes, Begins, History, called, takenCall, unfed}
-use Rattle.board.specs.Locks.{FromStart, starts, performs, pages, NoConflict, LocksHeld, OneHolder, HeldOrFree, FreeWorker, NoneUnder, LockAnswers, OnlyHolders, TakesLock, GivesLockBack}
-use Rattle.board.proofs.Laws.Bools.{decide, split, clash, or-left, or-right, or-none, and-both, and-if, not-off, not-on}
+use Rattle.board.specs.Locks.{FromStart, starts, performs, pages, NoConflict, LocksHeld, OneHolder, HeldOrFree, StrayHolder, StrayHolders, FreeWorker, NoneUnder, LockAnswers, OnlyHolders, TakesLock, GivesLockBack}
+use Rattle.board.proofs.Laws.Bools.{chosen, passedOver, decide, split, clash, or-left, or-right, or-none, and-both, and-if, not-off, not-on}
 use Rattle.board.proofs.Laws.Taken.{Clear, take, standsAt, passed, performed-number, taken-next, record-within, workers-in}
 use Rattle.board.proofs.Laws.Workers.{is-free}
 use Rattle.board.proofs.Laws.Reading.{Passes, running-passes}
@@ -61,6 +65,49 @@ one-holder-each holders w v k p q = one-holder holders w v k p q
 
 pub held-or-free : HeldOrFree
 held-or-free holders k = (λ t w. free-none holders w k t, none-free holders k)
+
+-- ---- a holder that is not there
+
+-- A table whose row of cause 3 is the second answers 3 where that row stands and the phase's does not.
+third : (phase bad : Bool) (ks : List Cause) → phase ≡ false → bad ≡ true → firstStanding (row 2 phase ∷ row 3 bad ∷ ks) ≡ 3
+unfolding firstStanding
+third phase bad ks off on = passedOver phase 2 _ off ∙ chosen bad 3 (firstStanding ks) on
+
+module _ (b : Board) (running : b .state .phase ≡ Running) (bad : badRecord (b .state) ≡ true) where
+  runs : not (isRunning (b .state .phase)) ≡ false
+  runs = ap (λ (p : Phase). not (isRunning p)) running
+
+  -- Cause 3 bars every call of a running board but the starts.
+  bars : (k : Call) → isStart (kind k) ≡ false → cause k b ≡ 3
+  unfolding cause causes
+  bars (FormatStart l w) s = absurd (true≢false s)
+  bars RecoveryStart s = absurd (true≢false s)
+  bars Step s = third _ _ _ (ap isOff running) bad
+  bars (Update w c v) s = third _ _ _ runs bad
+  bars (RestartPoint w v) s = third _ _ _ runs bad
+  bars (Advance w) s = third _ _ _ runs bad
+  bars Request s = third _ _ _ runs bad
+  bars (WriteBack l) s = third _ _ _ (ap (λ (p : Phase). isOff p || isFormatting p) running) bad
+  bars (Read c) s = third _ _ _ runs bad
+  bars (GoAway w) s = third _ _ _ runs bad
+  bars (ComeBack w) s = third _ _ _ runs bad
+  bars Count s = third _ _ _ runs bad
+  bars (TakeLock w k) s = third _ _ _ runs bad
+  bars (GiveBackLock w k) s = third _ _ _ runs bad
+
+  -- And every page.
+  bars-page : (text : List ℕ) → pageCause b text ≡ 3
+  unfolding pageCause pageCauses
+  bars-page text = third _ _ _ runs bad
+
+-- A lock's holder that is not there is cause 3.
+stray-bad : (s : State) → StrayHolder s → badRecord s ≡ true
+stray-bad s x =
+    split (badRecord s) (λ t. t)
+    (λ f. let under = from-under (s .holders) (s .workers) (record-within s f .4) (x .worker) (x .lock) (x .one) (x .held) in absurd (omega (arith, x .past)))
+
+pub stray-holders : StrayHolders
+stray-holders b e x = let bad = stray-bad (b .state) x in (bars b e bad, bars-page b e bad)
 
 -- ---- a history leads from a taken start
 
