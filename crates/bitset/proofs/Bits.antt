@@ -12,10 +12,10 @@ use lib.Pow.{pow-pos, pow-mono, pow-lt, pow-add, shr-shr, shr-lt, split as divid
 use lib.Bits.{bitOr, or-lt, or-step, or-block, or-shr, or-zero-r}
 use lib.Count.{ones, ones-step, trailingZeros}
 use borrow.Author.Tests.{eqb-true, eqb-false, eq-eqb}
-use Rattle.text.proofs.Bools.{split, chosen, passedOver}
-use Rattle.bitset.specs.Passing.{countUnder, nthUnder}
+use Rattle.predicate.proofs.Bools.{split, chosen, passedOver}
+use Rattle.predicate.specs.Passing.{countUnder, nthUnder}
 use Rattle.bitset.specs.Words.{bitOf, withBit, bitsIn}
-use Rattle.bitset.proofs.Passing.{oneIf, one-on, one-off, count-none, count-shift, nthShifted, nth-shifted}
+use Rattle.predicate.proofs.Passing.{oneIf, one-on, one-off, count-none, count-shift, nthShifted, nth-shifted}
 
 -- ---- a word shifted
 

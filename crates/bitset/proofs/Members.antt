@@ -9,10 +9,10 @@ use lib.Dec.{ltb}
 use lib.ListN.{length, getD, set, getD-replicate}
 use lib.Seq.{set-out, getD-set-same, getD-set-other}
 use borrow.Author.Tests.{ltb-false, le-ltb}
-use Rattle.text.proofs.Bools.{split, clash, or-left, or-right, or-none}
-use Rattle.bitset.specs.Passing.{anyUnder, countUnder}
+use Rattle.predicate.proofs.Bools.{split, clash, or-left, or-right, or-none}
+use Rattle.predicate.specs.Passing.{anyUnder, countUnder}
 use Rattle.bitset.specs.Words.{bitOf, withBit, capacity, empty, contains, inserted, size, nth, strays}
-use Rattle.bitset.proofs.Passing.{none-under, under-none, one-off, count-most, count-shift, count-past, Nth, nth-found}
+use Rattle.predicate.proofs.Passing.{none-under, under-none, one-off, count-most, count-shift, count-past, Nth, nth-found}
 use Rattle.bitset.proofs.Bits.{with-small, none-from, from-none}
 use Rattle.bitset.proofs.Words.{contains-word, size-count}
 

@@ -10,10 +10,10 @@ use lib.Bits.{bitAnd, and-block, and-self, and-shifted, shifted-even}
 use lib.Dec.{eqb}
 use lib.Count.{trailingZeros}
 use borrow.Author.Tests.{eqb-true, eqb-false}
-use Rattle.text.proofs.Bools.{split}
-use Rattle.bitset.specs.Passing.{countUnder, nthUnder}
+use Rattle.predicate.proofs.Bools.{split}
+use Rattle.predicate.specs.Passing.{countUnder, nthUnder}
 use Rattle.bitset.specs.Words.{bitOf}
-use Rattle.bitset.proofs.Passing.{Nth, one-on, count-next, count-past, count-mono, count-less, nth-found, nth-unique}
+use Rattle.predicate.proofs.Passing.{Nth, one-on, count-next, count-past, count-mono, count-less, nth-found, nth-unique}
 use Rattle.bitset.proofs.Bits.{bit-shift, trailing}
 
 -- The word with the bits below `at` cleared.

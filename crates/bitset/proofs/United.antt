@@ -12,9 +12,9 @@ use lib.Seq.{getD-drop}
 use lib.Bits.{bitOr, bitAnd, or-zero-l, or-add-and, and-le-l, and-le-r}
 use lib.Pow.{shr-shr, pow-mono}
 use borrow.Author.Tests.{ltb-false, le-ltb, eqb-true, eqb-false}
-use Rattle.text.proofs.Bools.{split, not-to, not-on}
-use Rattle.bitset.specs.Passing.{anyUnder}
-use Rattle.bitset.proofs.Passing.{none-under, under-none}
+use Rattle.predicate.proofs.Bools.{split, not-to, not-on}
+use Rattle.predicate.specs.Passing.{anyUnder}
+use Rattle.predicate.proofs.Passing.{none-under, under-none}
 
 -- Words united, one after the other.
 abbrev pub united : ℕ → List ℕ → ℕ

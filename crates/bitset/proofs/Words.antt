@@ -10,10 +10,10 @@ use lib.Dec.{eqb}
 use lib.ListN.{length, getD, set, length-set, getD-replicate, List·getD-eq-default}
 use lib.Seq.{set-out, getD-set-same, getD-set-other}
 use borrow.Author.Tests.{eqb-true, eqb-false}
-use Rattle.text.proofs.Bools.{split}
-use Rattle.bitset.specs.Passing.{countUnder, nthUnder}
+use Rattle.predicate.proofs.Bools.{split}
+use Rattle.predicate.specs.Passing.{countUnder, nthUnder}
 use Rattle.bitset.specs.Words.{bitOf, withBit, bitsIn, capacity, contains, inserted, empty, size, nth}
-use Rattle.bitset.proofs.Passing.{count-most, count-alike, count-split, nth-found, nth-unique}
+use Rattle.predicate.proofs.Passing.{count-most, count-alike, count-split, nth-found, nth-unique}
 use Rattle.bitset.proofs.Bits.{bit-zero, bits-count, with-own, with-other}
 
 -- ---- a number that is put in

@@ -1,3 +1,2 @@
--- The definitions that the contracts of crate `bitset` cite: numbers that pass a test, and a set of numbers below 512 in eight words.
-pub mod Passing
+-- The definitions that the contracts of crate `bitset` cite: a set of numbers below 512 in eight words.
 pub mod Words

@@ -4,7 +4,7 @@ use mathlib.Core.Bool.{Bool, cond, _||_}
 use mathlib.Core.List.{List}
 use lib.Dec.{ltb, eqb}
 use lib.ListN.{getD, set, replicate}
-use Rattle.bitset.specs.Passing.{anyUnder, nthUnder}
+use Rattle.predicate.specs.Passing.{anyUnder, nthUnder}
 
 -- Bit `b` of a word is set.
 unfoldable pub bitOf : ℕ → ℕ → Bool

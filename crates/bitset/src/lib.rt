@@ -4,7 +4,7 @@ ghost use mathlib.Core.List.{[], _∷_};
 ghost use Prim.Native.Nat.{_+_, _-_, _*_, _/_, _^_, _≤_, _<_};
 ghost use lib.ListN.{getD};
 ghost use lib.Dec.{ltb};
-ghost use Rattle.bitset.specs.Passing.{anyUnder, countUnder, nthUnder};
+ghost use Rattle.predicate.specs.Passing.{anyUnder, countUnder, nthUnder};
 ghost use Rattle.bitset.specs.Words.{bitOf, withBit, inserted, size, nth, strays};
 
 // How many bits of a word are set.

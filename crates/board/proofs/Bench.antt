@@ -2,13 +2,14 @@
 use mathlib.Core.Path.{_≡_, refl}
 use mathlib.Core.List.{List, [], _∷_}
 use mathlib.Core.Bool.{Bool, true, false, _&&_, false≢true}
-use Rattle.bitset.specs.Passing.{anyUnder, countUnder, nthFrom, nthUnder}
+use Rattle.predicate.specs.Passing.{anyUnder, countUnder, nthFrom, nthUnder, numbersUnder}
 use Rattle.bitset.specs.Words.{bitsIn, bitOf, withBit, contains, inserted as added, size, nth, strays}
 use Rattle.locks.specs.Holders.{digitOf, unheld, holds as held, holdsAny, heldFrom, withDigit}
 use Rattle.line.specs.Line.{lineOf, withLine}
 use Rattle.line.specs.Cell.{fieldIndex, fieldOf, withField}
 use Rattle.board.specs.Causes.{badRecord, causes, firstStanding, cause}
-use Rattle.board.specs.Effects.{formatStep, recoveryStep, actAt, performAct, step, advance, advanceOf, effect}
+use Rattle.board.specs.Effects.{formatStep, recoveryStep, performAct, performFirst, step, advance, advanceOf, effect}
+use Rattle.board.specs.Checkpoint.{acts, storesEpoch}
 use Rattle.board.specs.Next.{next, valueRead, valueCounted}
 use Rattle.board.specs.Bench.{Case, same, allTakenIn, afterEvents, runsIn, sees, allSeen, holds, table, Each, BenchHolds}
 
@@ -28,7 +29,7 @@ each [] e = tt
 each (k ∷ ks) e = (both (holds k) (allHold ks) e .0, each ks (both (holds k) (allHold ks) e .1))
 
 tested : allHold table ≡ true
-unfolding allHold table holds same allTakenIn afterEvents runsIn sees allSeen next valueRead cause causes firstStanding badRecord anyUnder effect step formatStep recoveryStep actAt performAct advance advanceOf lineOf withLine fieldIndex fieldOf withField countUnder nthFrom nthUnder bitsIn bitOf withBit contains added size nth strays valueCounted digitOf unheld held holdsAny heldFrom withDigit
+unfolding allHold table holds same allTakenIn afterEvents runsIn sees allSeen next valueRead cause causes firstStanding badRecord anyUnder effect step formatStep recoveryStep acts numbersUnder performAct performFirst storesEpoch advance advanceOf lineOf withLine fieldIndex fieldOf withField countUnder nthFrom nthUnder bitsIn bitOf withBit contains added size nth strays valueCounted digitOf unheld held holdsAny heldFrom withDigit
 tested = refl
 
 -- K1 to K11 hold of the definitions.

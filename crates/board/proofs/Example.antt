@@ -4,16 +4,18 @@ use mathlib.Core.Path.{_≡_, refl}
 use mathlib.Core.List.{List, [], _∷_}
 use native.Mathlib.Omega.{arith}
 use lib.ListN.{replicate}
-use Rattle.bitset.specs.Passing.{anyUnder, countUnder, nthFrom, nthUnder}
+use Rattle.predicate.specs.Passing.{anyUnder, countUnder, nthFrom, nthUnder, numbersUnder}
 use Rattle.bitset.specs.Words.{bitsIn, bitOf, withBit, contains, inserted as added, size, nth, strays}
 use Rattle.locks.specs.Holders.{digitOf, unheld, holds as held, holdsAny, heldFrom, withDigit}
 use Rattle.line.specs.Line.{lineOf, withLine}
 use Rattle.line.specs.Cell.{fieldIndex, fieldOf, withField}
 use Rattle.board.specs.declared.Call.{Call}
 use Rattle.board.specs.declared.Call.the-variants.{FormatStart, Step, Update, RestartPoint, Advance, Request, WriteBack, Read, TakeLock, GiveBackLock}
-use Rattle.board.specs.Board.{Board, linesOf}
+use Rattle.board.specs.Board.{Board, shaped, linesOf}
 use Rattle.board.specs.Causes.{badRecord, causes, firstStanding, cause}
-use Rattle.board.specs.Effects.{formatStep, recoveryStep, actAt, performAct, step, advance, advanceOf, effect}
+use Rattle.board.specs.Location.{cell, changedAt}
+use Rattle.board.specs.Effects.{formatStep, recoveryStep, performAct, performFirst, step, advance, advanceOf, effect}
+use Rattle.board.specs.Checkpoint.{acts, storesEpoch}
 use Rattle.board.specs.Next.{next, Performed}
 use Rattle.board.specs.Page.{pageCauses, pageCause, pageLeft}
 use Rattle.board.specs.Machine.{beginning, changed, fewer, advanced, checkpointStep, stepped, writeBackSeen, feed}
@@ -39,7 +41,7 @@ calls =
 
 -- The run that the history leads to.
 pub run : Run
-run = madeAll calls (opening fresh (beginning 1))
+run = madeAll calls (opening fresh (beginning (shaped 1)))
 
 -- What the cut leaves beside a state record of no sense: words of no meaning in the cache.
 cutCache : List ℕ
@@ -55,7 +57,7 @@ recoveredBoard = cutAndPlayed run garbage cutCache recoveryCalls
 
 -- ---- the history is one, and the recovery is finished
 
-begins-fresh : Begins fresh (beginning 1)
+begins-fresh : Begins fresh (beginning (shaped 1))
 unfolding fresh afterCalls takesTest byKind next cause causes firstStanding badRecord anyUnder effect step formatStep withLine countUnder nthFrom nthUnder bitsIn bitOf withBit contains added size nth strays digitOf unheld held holdsAny heldFrom withDigit
 begins-fresh =
     formatted 1 1 _ (blankFor 1) _ fresh (performing (FormatStart 1 1) (blankFor 1) refl refl refl) (tested 3 (Step ∷ Step ∷ Step ∷ []) (next (FormatStart 1 1) (blankFor 1)) refl)
@@ -63,7 +65,7 @@ begins-fresh =
 -- The run is one that the theorems speak of.
 pub run-history : History run
 unfolding run
-run-history = calls-history calls (opening fresh (beginning 1)) refl (begun begins-fresh)
+run-history = calls-history calls (opening fresh (beginning (shaped 1))) refl (begun begins-fresh)
 
 -- A page of it carries the history on and leaves the run as it was.
 pub paged-history : (text : List ℕ) → History run
@@ -71,17 +73,17 @@ paged-history text = further run-history (pages text (pageLeft (run .board) text
 
 -- With 204 bytes the page is taken, with one fewer it is refused.
 pub paged : (pageCause (run .board) (replicate 204 170) ≡ 0) × (pageCause (run .board) (replicate 203 170) ≡ 12)
-unfolding run calls fresh made madeAll afterCalls next cause causes firstStanding badRecord anyUnder effect step formatStep recoveryStep actAt performAct advance advanceOf lineOf withLine fieldIndex fieldOf withField feed changed countUnder fewer advanced checkpointStep stepped writeBackSeen pageCause pageCauses nthFrom nthUnder bitsIn bitOf withBit contains added size nth strays digitOf unheld held holdsAny heldFrom withDigit
+unfolding run calls fresh made madeAll afterCalls next cause causes firstStanding badRecord anyUnder effect step formatStep recoveryStep acts numbersUnder performAct performFirst storesEpoch advance advanceOf lineOf withLine fieldIndex fieldOf withField feed changed changedAt countUnder fewer advanced checkpointStep stepped writeBackSeen pageCause pageCauses nthFrom nthUnder bitsIn bitOf withBit contains added size nth strays digitOf unheld held holdsAny heldFrom withDigit
 paged = (refl, refl)
 
 -- The recovery's start is taken, and then six steps, with two taken write-backs and a refused read among them.
 run-takes : PlayedRecovery run garbage cutCache recoveryCalls 6
-unfolding takesTest byKind undoSteps recoveryCalls run calls cutCache fresh made madeAll afterCalls next cause causes firstStanding badRecord anyUnder effect step formatStep recoveryStep actAt performAct advance advanceOf lineOf withLine fieldIndex fieldOf withField feed changed countUnder fewer advanced checkpointStep stepped writeBackSeen nthFrom nthUnder bitsIn bitOf withBit contains added size nth strays digitOf unheld held holdsAny heldFrom withDigit
+unfolding takesTest byKind undoSteps recoveryCalls run calls cutCache fresh made madeAll afterCalls next cause causes firstStanding badRecord anyUnder effect step formatStep recoveryStep acts numbersUnder performAct performFirst storesEpoch advance advanceOf lineOf withLine fieldIndex fieldOf withField feed changed changedAt countUnder fewer advanced checkpointStep stepped writeBackSeen nthFrom nthUnder bitsIn bitOf withBit contains added size nth strays digitOf unheld held holdsAny heldFrom withDigit
 run-takes = record { sameLength = refl; test = refl; count = refl }
 
 -- What the machine held at the last completed checkpoint: 7 in cell 1, on a board of one line.
-run-values : (linesOf (run .board .memory) ≡ 1) × (run .machine .checkpointed 1 ≡ 7)
-unfolding run calls fresh made madeAll afterCalls next cause causes firstStanding badRecord anyUnder effect step formatStep actAt performAct advance advanceOf lineOf withLine fieldIndex fieldOf withField feed changed countUnder fewer advanced checkpointStep stepped writeBackSeen nthFrom nthUnder bitsIn bitOf withBit contains added size nth strays digitOf unheld held holdsAny heldFrom withDigit
+run-values : (linesOf (run .board .memory) ≡ 1) × (run .machine .checkpointed (cell 1) ≡ 7)
+unfolding run calls fresh made madeAll afterCalls next cause causes firstStanding badRecord anyUnder effect step formatStep acts numbersUnder performAct performFirst storesEpoch advance advanceOf lineOf withLine fieldIndex fieldOf withField feed changed changedAt countUnder fewer advanced checkpointStep stepped writeBackSeen nthFrom nthUnder bitsIn bitOf withBit contains added size nth strays digitOf unheld held holdsAny heldFrom withDigit
 run-values = (refl, refl)
 
 -- A read of cell 1 then returns 0 and gives 7.

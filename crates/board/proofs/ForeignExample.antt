@@ -4,16 +4,18 @@ use mathlib.Core.Path.{_≡_, refl}
 use mathlib.Core.List.{List, [], _∷_}
 use native.Mathlib.Omega.{arith}
 use lib.ListN.{getD, replicate}
-use Rattle.bitset.specs.Passing.{anyUnder, countUnder, nthFrom, nthUnder}
+use Rattle.predicate.specs.Passing.{anyUnder, countUnder, nthFrom, nthUnder, numbersUnder}
 use Rattle.bitset.specs.Words.{bitsIn, bitOf, withBit, contains, inserted as added, size, nth, strays}
 use Rattle.locks.specs.Holders.{digitOf, unheld, holds as held, holdsAny, heldFrom, withDigit}
 use Rattle.line.specs.Line.{lineOf, withLine}
 use Rattle.line.specs.Cell.{fieldIndex, fieldOf, withField}
 use Rattle.board.specs.declared.Call.{Call}
 use Rattle.board.specs.declared.Call.the-variants.{RecoveryStart, Step, Update, RestartPoint, Advance, Request, WriteBack, Read, TakeLock, GiveBackLock}
-use Rattle.board.specs.Board.{Board, linesOf}
+use Rattle.board.specs.Board.{Board, shapeIn, linesOf}
 use Rattle.board.specs.Causes.{badRecord, causes, firstStanding, cause}
-use Rattle.board.specs.Effects.{undo, recoveryStep, actAt, performAct, step, advance, advanceOf, effect}
+use Rattle.board.specs.Location.{cell, undo, changedAt}
+use Rattle.board.specs.Effects.{recoveryStep, performAct, performFirst, step, advance, advanceOf, effect}
+use Rattle.board.specs.Checkpoint.{acts, storesEpoch}
 use Rattle.board.specs.Next.{next, Performed}
 use Rattle.board.specs.Machine.{Machine, recoveryBeginning, changed, fewer, advanced, checkpointStep, stepped, writeBackSeen, feed}
 use Rattle.board.specs.Sequence.{Begins, recoveryStarted, Run, opening, History, begun, undoSteps}
@@ -36,7 +38,7 @@ start : Board
 start = next RecoveryStart foreign
 
 machine : Machine
-machine = recoveryBeginning (linesOf (foreign .memory)) (undo (foreign .memory))
+machine = recoveryBeginning (shapeIn (foreign .memory)) (undo (foreign .memory))
 
 begins : Begins start machine
 unfolding foreign start machine anyCache cause causes firstStanding anyUnder fieldIndex fieldOf countUnder nthFrom nthUnder bitsIn bitOf withBit contains added size nth strays digitOf unheld held holdsAny heldFrom withDigit
@@ -60,7 +62,7 @@ cut-takes : PlayedRecovery cutShort garbage anyCache (replicate 4 Step) 4
 unfolding cutShort start machine foreign anyCache made madeAll takesTest byKind undoSteps next cause causes firstStanding badRecord anyUnder effect step recoveryStep lineOf withLine fieldIndex fieldOf withField feed stepped writeBackSeen countUnder nthFrom nthUnder bitsIn bitOf withBit contains added size nth strays digitOf unheld held holdsAny heldFrom withDigit
 cut-takes = record { sameLength = refl; test = refl; count = refl }
 
-cut-values : (linesOf (cutShort .board .memory) ≡ 1) × (cutShort .machine .checkpointed 1 ≡ 6)
+cut-values : (linesOf (cutShort .board .memory) ≡ 1) × (cutShort .machine .checkpointed (cell 1) ≡ 6)
 unfolding cutShort start machine foreign anyCache made madeAll next cause causes firstStanding badRecord anyUnder effect step recoveryStep lineOf withLine fieldIndex fieldOf withField feed stepped writeBackSeen countUnder nthFrom nthUnder bitsIn bitOf withBit contains added size nth strays digitOf unheld held holdsAny heldFrom withDigit
 cut-values = (refl, refl)
 
@@ -89,12 +91,12 @@ unfolding worked
 worked-history = calls-history calls (opening start machine) refl (begun begins)
 
 worked-takes : PlayedRecovery worked garbage anyCache (replicate 4 Step) 4
-unfolding worked calls start machine foreign anyCache made madeAll takesTest byKind undoSteps next cause causes firstStanding badRecord anyUnder effect step recoveryStep actAt performAct advance advanceOf lineOf withLine fieldIndex fieldOf withField feed changed countUnder fewer advanced checkpointStep stepped writeBackSeen nthFrom nthUnder bitsIn bitOf withBit contains added size nth strays digitOf unheld held holdsAny heldFrom withDigit
+unfolding worked calls start machine foreign anyCache made madeAll takesTest byKind undoSteps next cause causes firstStanding badRecord anyUnder effect step recoveryStep acts numbersUnder performAct performFirst storesEpoch advance advanceOf lineOf withLine fieldIndex fieldOf withField feed changed changedAt countUnder fewer advanced checkpointStep stepped writeBackSeen nthFrom nthUnder bitsIn bitOf withBit contains added size nth strays digitOf unheld held holdsAny heldFrom withDigit
 worked-takes = record { sameLength = refl; test = refl; count = refl }
 
 -- At the cut 9 is checkpointed in cell 1, and words 6 and 7 of the module are still 77 and 88.
-pub worked-values : (linesOf (worked .board .memory) ≡ 1) × (worked .machine .checkpointed 1 ≡ 9) × (getD (worked .board .memory) 14 0 ≡ 77) × (getD (worked .board .memory) 15 0 ≡ 88)
-unfolding worked calls start machine foreign anyCache made madeAll next cause causes firstStanding badRecord anyUnder effect step recoveryStep actAt performAct advance advanceOf lineOf withLine fieldIndex fieldOf withField feed changed countUnder fewer advanced checkpointStep stepped writeBackSeen nthFrom nthUnder bitsIn bitOf withBit contains added size nth strays digitOf unheld held holdsAny heldFrom withDigit
+pub worked-values : (linesOf (worked .board .memory) ≡ 1) × (worked .machine .checkpointed (cell 1) ≡ 9) × (getD (worked .board .memory) 14 0 ≡ 77) × (getD (worked .board .memory) 15 0 ≡ 88)
+unfolding worked calls start machine foreign anyCache made madeAll next cause causes firstStanding badRecord anyUnder effect step recoveryStep acts numbersUnder performAct performFirst storesEpoch advance advanceOf lineOf withLine fieldIndex fieldOf withField feed changed changedAt countUnder fewer advanced checkpointStep stepped writeBackSeen nthFrom nthUnder bitsIn bitOf withBit contains added size nth strays digitOf unheld held holdsAny heldFrom withDigit
 worked-values = (refl, refl, refl, refl)
 
 -- A read of cell 1 then returns 0 and gives 9, the value of the last checkpoint.

@@ -1,5 +1,5 @@
 -- Each call keeps the invariant; `Every` is all of them over whole histories.
-pub mod OneCell
+pub mod OnePlace
 pub mod FormatStart
 pub mod FormatStep
 pub mod RecoveryStart

@@ -5,7 +5,7 @@ use mathlib.Core.List.{List, [], _∷_}
 use mathlib.Core.Bool.{true, false, _&&_}
 use native.Mathlib.Omega.{arith}
 use lib.ListN.{replicate}
-use Rattle.bitset.specs.Passing.{anyUnder, countUnder, nthFrom, nthUnder}
+use Rattle.predicate.specs.Passing.{anyUnder, countUnder, nthFrom, nthUnder, numbersUnder}
 use Rattle.bitset.specs.Words.{bitsIn, bitOf, withBit, contains, inserted as added, size, nth, strays}
 use Rattle.locks.specs.Holders.{digitOf, unheld, holds as held, holdsAny, heldFrom, withDigit}
 use Rattle.line.specs.Line.{lineOf, withLine}
@@ -14,10 +14,12 @@ use Rattle.board.specs.declared.Condition.the-variants.{Updating}
 use Rattle.board.specs.declared.Store.the-variants.{Record}
 use Rattle.board.specs.declared.Call.{Call}
 use Rattle.board.specs.declared.Call.the-variants.{RecoveryStart, Step, Update, RestartPoint, Advance, Request, WriteBack, Read, TakeLock}
-use Rattle.board.specs.Board.{Board, cells, epochOf}
+use Rattle.board.specs.Board.{Board, shaped, cells, epochOf}
 use Rattle.board.specs.State.{conditionOf}
 use Rattle.board.specs.Causes.{badRecord, causes, firstStanding, cause}
-use Rattle.board.specs.Effects.{recoveryStep, actAt, performAct, step, advance, advanceOf, effect}
+use Rattle.board.specs.Location.{cell, changedAt}
+use Rattle.board.specs.Effects.{recoveryStep, performAct, performFirst, step, advance, advanceOf, effect}
+use Rattle.board.specs.Checkpoint.{acts, storesEpoch}
 use Rattle.board.specs.Next.{Taken, taken, next, valueRead, valueOf}
 use Rattle.board.specs.Machine.{update, changed, fewer, advanced, checkpointStep, stepped, writeBackSeen, feed}
 use Rattle.board.specs.Sequence.{Run, takenCall, undoSteps, recoverySteps}
@@ -53,16 +55,16 @@ left = afterCalls (replicate 4 Step) (next RecoveryStart (run .board))
 leads : (r : Run) (ks : List Call) → r .crashed ≡ false → Leads r (madeAll ks r)
 leads r ks d = calls-carry (Leads r) (λ q q′ h e. onward h e) ks r d nothing
 
-seen-later : (epochOf (later .board .memory) ≡ 6) × Taken (Update 0 1 9) (later .board) × (feed (Update 0 1 9) (later .machine) .unfinished 0 ≡ update 1 9 3) × (conditionOf (next (Update 0 1 9) (later .board) .state) 0 ≡ Updating Record 1 9)
-unfolding later toCheckpoint swapped made madeAll next cause causes firstStanding badRecord anyUnder effect step recoveryStep actAt performAct advance advanceOf lineOf withLine fieldIndex fieldOf withField feed changed countUnder fewer advanced checkpointStep stepped nthFrom nthUnder bitsIn bitOf withBit contains added size nth strays digitOf unheld held holdsAny heldFrom withDigit
+seen-later : (epochOf (later .board .memory) ≡ 6) × Taken (Update 0 1 9) (later .board) × (feed (Update 0 1 9) (later .machine) .unfinished 0 ≡ update (cell 1) 9 3) × (conditionOf (next (Update 0 1 9) (later .board) .state) 0 ≡ Updating Record 1 9)
+unfolding later toCheckpoint swapped made madeAll next cause causes firstStanding badRecord anyUnder effect step recoveryStep acts numbersUnder performAct performFirst storesEpoch advance advanceOf lineOf withLine fieldIndex fieldOf withField feed changed changedAt countUnder fewer advanced checkpointStep stepped nthFrom nthUnder bitsIn bitOf withBit contains added size nth strays digitOf unheld held holdsAny heldFrom withDigit
 seen-later = (refl, refl, refl, refl)
 
-seen-run : (started .crashed ≡ false) × (taken RecoveryStart (run .board) && takesTest 4 (replicate 4 Step) (next RecoveryStart (run .board)) ≡ true) × (recoverySteps (run .board .memory) ≡ 4) × (run .machine .checkpointed 1 ≡ 7)
-unfolding run started later toCheckpoint swapped made madeAll takesTest byKind undoSteps next cause causes firstStanding badRecord anyUnder effect step recoveryStep actAt performAct advance advanceOf lineOf withLine fieldIndex fieldOf withField feed changed countUnder fewer advanced checkpointStep stepped writeBackSeen nthFrom nthUnder bitsIn bitOf withBit contains added size nth strays digitOf unheld held holdsAny heldFrom withDigit
+seen-run : (started .crashed ≡ false) × (taken RecoveryStart (run .board) && takesTest 4 (replicate 4 Step) (next RecoveryStart (run .board)) ≡ true) × (recoverySteps (run .board .memory) ≡ 4) × (run .machine .checkpointed (cell 1) ≡ 7)
+unfolding run started later toCheckpoint swapped made madeAll takesTest byKind undoSteps next cause causes firstStanding badRecord anyUnder effect step recoveryStep acts numbersUnder performAct performFirst storesEpoch advance advanceOf lineOf withLine fieldIndex fieldOf withField feed changed changedAt countUnder fewer advanced checkpointStep stepped writeBackSeen nthFrom nthUnder bitsIn bitOf withBit contains added size nth strays digitOf unheld held holdsAny heldFrom withDigit
 seen-run = (refl, refl, refl, refl)
 
 seen-left : (left .state .lines ≡ 1) × (cause (Read 1) left ≡ 0) × (valueOf (Read 1) left ≡ 3)
-unfolding left run started later toCheckpoint swapped made madeAll afterCalls valueOf valueRead next cause causes firstStanding badRecord anyUnder effect step recoveryStep actAt performAct advance advanceOf lineOf withLine fieldIndex fieldOf withField feed changed countUnder fewer advanced checkpointStep stepped writeBackSeen nthFrom nthUnder bitsIn bitOf withBit contains added size nth strays digitOf unheld held holdsAny heldFrom withDigit
+unfolding left run started later toCheckpoint swapped made madeAll afterCalls valueOf valueRead next cause causes firstStanding badRecord anyUnder effect step recoveryStep acts numbersUnder performAct performFirst storesEpoch advance advanceOf lineOf withLine fieldIndex fieldOf withField feed changed changedAt countUnder fewer advanced checkpointStep stepped writeBackSeen nthFrom nthUnder bitsIn bitOf withBit contains added size nth strays digitOf unheld held holdsAny heldFrom withDigit
 seen-left = (refl, refl, refl)
 
 refused : cause RecoveryStart swapped ≡ 14
@@ -91,5 +93,5 @@ later-mark =
       wrong = λ f. omega (arith, wrong-value f, seen-run .3);
     }
   where
-    wrong-value : ReadsCheckpointed (run .machine) left → 3 ≡ run .machine .checkpointed 1
-    wrong-value f = f 1 (subst (λ (l : ℕ). 1 < cells l) (sym (seen-left .0)) (omega arith)) 0 3 _ (performing (Read 1) left (seen-left .1) (sym (seen-left .2)) refl) .1
+    wrong-value : ReadsCheckpointed (run .machine) left → 3 ≡ run .machine .checkpointed (cell 1)
+    wrong-value f = f 1 (subst (λ (l : ℕ). 1 < cells (shaped l)) (sym (seen-left .0)) (omega arith)) 0 3 _ (performing (Read 1) left (seen-left .1) (sym (seen-left .2)) refl) .1

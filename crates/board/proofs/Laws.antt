@@ -1,8 +1,8 @@
 -- Laws that every proof here leans on.
-pub mod Bools
 pub mod Count
 pub mod Dirty
 pub mod View
+pub mod Only
 pub mod Rows
 pub mod Taken
 pub mod Workers
@@ -10,4 +10,5 @@ pub mod Locks
 pub mod Idle
 pub mod Takes
 pub mod Reading
+pub mod Parts
 pub mod Playing

@@ -1,13 +1,14 @@
 -- The worked page and the table of pages, computed.
 use mathlib.Core.Path.{refl}
 use mathlib.Core.List.{flatten}
-use Rattle.bitset.specs.Passing.{anyUnder, countUnder, nthFrom, nthUnder}
+use Rattle.predicate.specs.Passing.{anyUnder, countUnder, nthFrom, nthUnder}
 use Rattle.bitset.specs.Words.{bitsIn, bitOf, withBit, contains, inserted as added, size, nth, strays}
 use Rattle.locks.specs.Holders.{digitOf, unheld, holds as held, holdsAny, heldFrom, withDigit}
 use Rattle.text.specs.Numbers.{spelled}
 use Rattle.line.specs.Cell.{fieldIndex, fieldOf}
 use Rattle.board.specs.Causes.{badRecord, firstStanding}
-use Rattle.board.specs.Page.{lineText, before, inserted, ordered, numbersUnder, pageText, pageCauses, pageCause, pageLeft}
+use Rattle.board.specs.Page.{lineText, before, inserted, ordered, pageText, pageCauses, pageCause, pageLeft}
+use Rattle.predicate.specs.Passing.{numbersUnder}
 use Rattle.board.specs.Bench.{same}
 use Rattle.board.specs.Pages.{pageTable, pageGives, allPages, PagesHold}
 

@@ -1,5 +1,6 @@
 -- A recovery: what it leaves step by step, how many steps it has left, and what it reads at its end.
 pub mod Board
+pub mod Stops
 pub mod Rows
 pub mod Count
 pub mod Ends

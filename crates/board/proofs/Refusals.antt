@@ -2,20 +2,21 @@
 use mathlib.Core.Path.{_≡_, refl}
 use mathlib.Core.List.{flatten}
 use mathlib.Core.Bool.{true}
-use Rattle.bitset.specs.Passing.{anyUnder, countUnder, nthFrom, nthUnder}
+use Rattle.predicate.specs.Passing.{anyUnder, countUnder, nthFrom, nthUnder, numbersUnder}
 use Rattle.bitset.specs.Words.{bitsIn, bitOf, withBit, contains, inserted as added, size, nth, strays}
 use Rattle.locks.specs.Holders.{digitOf, unheld, holds as held, holdsAny, heldFrom, withDigit}
 use Rattle.line.specs.Line.{lineOf, withLine}
 use Rattle.line.specs.Cell.{fieldIndex, fieldOf, withField}
 use Rattle.board.specs.Causes.{badRecord, causes, firstStanding, cause}
-use Rattle.board.specs.Effects.{formatStep, recoveryStep, actAt, performAct, advance, advanceOf, step, effect}
+use Rattle.board.specs.Effects.{formatStep, recoveryStep, performAct, performFirst, advance, advanceOf, step, effect}
+use Rattle.board.specs.Checkpoint.{acts, storesEpoch}
 use Rattle.board.specs.Next.{next, valueRead, valueCounted}
 use Rattle.board.specs.Bench.{same, allTakenIn, afterEvents, sees, allSeen, holds}
 use Rattle.board.specs.Refusals.{refusals, RefusalsHold}
 use Rattle.board.proofs.Bench.{allHold, each}
 
 tested : allHold refusals ≡ true
-unfolding flatten allHold refusals holds allTakenIn afterEvents sees allSeen next valueRead cause causes firstStanding badRecord anyUnder effect step formatStep recoveryStep actAt performAct advance advanceOf lineOf withLine fieldIndex fieldOf withField same countUnder nthFrom nthUnder bitsIn bitOf withBit contains added size nth strays valueCounted digitOf unheld held holdsAny heldFrom withDigit
+unfolding flatten allHold refusals holds allTakenIn afterEvents sees allSeen next valueRead cause causes firstStanding badRecord anyUnder effect step formatStep recoveryStep acts numbersUnder performAct performFirst storesEpoch advance advanceOf lineOf withLine fieldIndex fieldOf withField same countUnder nthFrom nthUnder bitsIn bitOf withBit contains added size nth strays valueCounted digitOf unheld held holdsAny heldFrom withDigit
 tested = refl
 
 -- Every call is turned down and taken as the table of refusals says.

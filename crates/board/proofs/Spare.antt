@@ -8,6 +8,7 @@ use lib.ListN.{getD}
 use Rattle.line.specs.Line.{lineStart}
 use Rattle.board.specs.declared.Phase.{Phase}
 use Rattle.board.specs.declared.Phase.the-variants.{Off, Formatting, Recovering, Running}
+use Rattle.board.specs.Board.{Shape, cellLines}
 use Rattle.board.specs.State.{isFormatting}
 use Rattle.board.specs.Sequence.{Run, History, begun, further}
 use Rattle.board.specs.Statements.{Completes, formatStepIn, Spare, SameSpare, asBegun, SpareWords, FormatSpare}
@@ -17,34 +18,34 @@ use Rattle.board.proofs.Keeps.Every.{carried, history-inv}
 use Rattle.board.proofs.Format.Begins.{format-fresh}
 
 -- While recovering or running the cache has memory's.
-spare-cache : (r : Run) → Inv r → r .crashed ≡ false → isFormatting (r .board .state .phase) ≡ false → SameSpare (r .machine .lines) (r .board .memory) (r .board .cache)
+spare-cache : (r : Run) → Inv r → r .crashed ≡ false → isFormatting (r .board .state .phase) ≡ false → SameSpare (r .machine .shape) (r .board .memory) (r .board .cache)
 spare-cache r inv d f = go (r .board .state .phase) refl
   where
-    go : (p : Phase) → r .board .state .phase ≡ p → SameSpare (r .machine .lines) (r .board .memory) (r .board .cache)
+    go : (p : Phase) → r .board .state .phase ≡ p → SameSpare (r .machine .shape) (r .board .memory) (r .board .cache)
     go Off e = absurd (in-phase r inv d Off e)
     go Formatting e = absurd (true≢false (sym (ap isFormatting e) ∙ f))
-    go Recovering e = in-phase r inv d Recovering e .0 .spare
-    go Running e = in-phase r inv d Running e .0 .spare
+    go Recovering e = in-phase r inv d Recovering e .0 .rows .spare
+    go Running e = in-phase r inv d Running e .0 .rows .spare
 
 -- What happens leaves those in memory, but that a format's step makes those of its line 0.
-spare-next : (format : Bool) (r r′ : Run) (given : ℕ → ℕ) → Completes format r r′ → Spare (r .machine .lines) given (r .board .memory) →
-    Spare (r′ .machine .lines) (λ i. cond (format && eqb (i / 8) (r .board .state .place)) 0 (given i)) (r′ .board .memory)
+spare-next : (format : Bool) (r r′ : Run) (given : ℕ → ℕ) → Completes format r r′ → Spare (r .machine .shape) given (r .board .memory) →
+    Spare (r′ .machine .shape) (λ i. cond (format && eqb (i / 8) (r .board .state .place)) 0 (given i)) (r′ .board .memory)
 spare-next format r r′ given done s i k a b c d = go format done
   where
-    inside : r′ .machine .lines ≡ r .machine .lines → i ≤ r .machine .lines
-    inside e = subst (λ (l : ℕ). i ≤ l) e b
+    inside : r′ .machine .shape ≡ r .machine .shape → i ≤ cellLines (r .machine .shape)
+    inside e = subst (λ (σ : Shape). i ≤ cellLines σ) e b
 
-    old : r′ .machine .lines ≡ r .machine .lines → cond (eqb ((lineStart i + k) / 8) (r .board .state .place)) 0 (getD (r .board .memory) (lineStart i + k) 0) ≡ cond (eqb ((lineStart i + k) / 8) (r .board .state .place)) 0 (given (lineStart i + k))
+    old : r′ .machine .shape ≡ r .machine .shape → cond (eqb ((lineStart i + k) / 8) (r .board .state .place)) 0 (getD (r .board .memory) (lineStart i + k) 0) ≡ cond (eqb ((lineStart i + k) / 8) (r .board .state .place)) 0 (given (lineStart i + k))
     old e = ap (cond (eqb ((lineStart i + k) / 8) (r .board .state .place)) 0) (s i k a (inside e) c d)
 
     go : (f : Bool) → Completes f r r′ → getD (r′ .board .memory) (lineStart i + k) 0 ≡ cond (f && eqb ((lineStart i + k) / 8) (r .board .state .place)) 0 (given (lineStart i + k))
-    go false (inl u) = u .board .spare i k a (inside (u .board .lines)) c d ∙ s i k a (inside (u .board .lines)) c d
-    go false (inr u) = u .board .spare i k a (inside (u .board .lines)) c d ∙ s i k a (inside (u .board .lines)) c d
-    go true (inl u) = u .spare i k a (inside (u .lines)) c d ∙ old (u .lines)
-    go true (inr u) = u .spare i k a (inside (u .lines)) c d ∙ old (u .lines)
+    go false (inl u) = u .board .spare i k a (inside (u .board .shape)) c d ∙ s i k a (inside (u .board .shape)) c d
+    go false (inr u) = u .board .spare i k a (inside (u .board .shape)) c d ∙ s i k a (inside (u .board .shape)) c d
+    go true (inl u) = u .spare i k a (inside (u .shape)) c d ∙ old (u .shape)
+    go true (inr u) = u .spare i k a (inside (u .shape)) c d ∙ old (u .shape)
 
 -- Over a whole history.
-spare-memory : (r : Run) (h : History r) → Spare (r .machine .lines) (asBegun h) (r .board .memory)
+spare-memory : (r : Run) (h : History r) → Spare (r .machine .shape) (asBegun h) (r .board .memory)
 unfolding asBegun
 spare-memory r (begun h) = λ i k a b c d. refl
 spare-memory r (further {r = q} h e) = spare-next (formatStepIn e) q r (asBegun h) (carried (history-inv q h) e .completion) (spare-memory q h)
@@ -56,4 +57,4 @@ spare-words r h = (spare-memory r h, λ d f i k a b p q. spare-cache r (history-
 pub format-spare : FormatSpare
 format-spare l w value b d b′ p takes =
     let fresh = format-fresh l w b p takes in
-    (fresh .spare, λ i k a c q e. fresh .running .spare i k a c q e ∙ fresh .spare i k a c q e)
+    (fresh .spare, λ i k a c q e. fresh .running .rows .spare i k a c q e ∙ fresh .spare i k a c q e)

@@ -1,8 +1,8 @@
 -- A taken call does at most one store to a line or one line write-back, except in format steps and at recovery's start.
 use Prim.Native.Nat.{ℕ, _+_}
 use mathlib.Core.Path.{_≡_, refl, sym, subst}
+use mathlib.Core.List.{List, [], _∷_}
 use mathlib.Core.Bool.{false, true≢false}
-use Rattle.bitset.specs.Words.{nth}
 use Rattle.line.specs.declared.Field.{Field}
 use Rattle.line.specs.Cell.{cellLine, fieldIndex, fieldOf, withField}
 use Rattle.board.specs.declared.State.{State}
@@ -17,11 +17,13 @@ use Rattle.board.specs.declared.Phase.the-variants.{Off, Formatting, Rec
 use Rattle.board.specs.declared.Call.{Call}
 use Rattle.board.specs.declared.Call.the-variants.{FormatStart, RecoveryStart, Step, Update, RestartPoint, Advance, Request, WriteBack, Read, GoAway, ComeBack, Count, TakeLock, GiveBackLock}
 use Rattle.board.specs.Board.{Board, epochOf}
-use Rattle.board.specs.State.{placed, conditionOf, isFormatting, dirtyCount}
+use Rattle.board.specs.State.{placed, conditionOf, isFormatting}
 use Rattle.board.specs.Next.{kind}
-use Rattle.board.specs.Effects.{Act, writeLine, storeEpoch, writeHeader, release, cached, stated, logged, restored, pastCell, recoveryStep, actAt, performAct, step, advance, advanceOf, effect}
+use Rattle.board.specs.Location.{undoes, restored}
+use Rattle.board.specs.Effects.{cached, stated, stopOf, pastStop, recoveryStep, performAct, performFirst, step, advance, advanceOf, effect}
+use Rattle.board.specs.Checkpoint.{Act, writeLine, storeEpoch, writeHeader, release, acts}
 use Rattle.board.specs.Statements.{OneStore, noStore, oneWord, oneLine, several, SingleStores}
-use Rattle.board.proofs.Laws.Bools.{on}
+use Rattle.predicate.proofs.Bools.{on}
 use Rattle.board.proofs.Laws.Taken.{taken-next}
 
 -- A field's store is one word of the cache.
@@ -33,7 +35,7 @@ field-stored c f v b b′ m e = oneWord (fieldIndex c f) v m e
 recovery-stores : (u : UndoStep) (s : State) (b : Board) → OneStore b (recoveryStep u s b)
 unfolding recoveryStep
 recovery-stores Restore s b =
-    on (OneStore b) (logged (b .cache) (s .place)) (cached (restored (b .cache) (s .place)) (placed s (s .place) Unmark) b) (stated (pastCell s) b)
+    on (OneStore b) (undoes (b .cache) (stopOf s)) (cached (restored (b .cache) (stopOf s)) (placed s (s .place) Unmark) b) (stated (pastStop s) b)
     (λ e. field-stored (s .place) Field.Record (fieldOf (b .cache) (s .place) Field.Backup) b _ refl refl)
     (λ e. noStore refl refl)
 recovery-stores Unmark s b = field-stored (s .place) Field.Mark 0 b _ refl refl
@@ -42,10 +44,16 @@ recovery-stores WriteLine s b = oneLine (cellLine (s .place)) refl refl
 -- A step of a checkpoint.
 checkpoint-stores : (a : Act) (s : State) (b : Board) → OneStore b (performAct a s b)
 unfolding performAct
-checkpoint-stores writeLine s b = oneLine (nth (s .dirty) (s .place)) refl refl
+checkpoint-stores (writeLine l) s b = oneLine l refl refl
 checkpoint-stores storeEpoch s b = oneWord 0 (epochOf (b .cache) + 1) refl refl
 checkpoint-stores writeHeader s b = oneLine 0 refl refl
 checkpoint-stores release s b = noStore refl refl
+
+-- The first of those that are left.
+first-stores : (xs : List Act) (s : State) (b : Board) → OneStore b (performFirst xs s b)
+unfolding performFirst
+first-stores [] s b = noStore refl refl
+first-stores (a ∷ later) s b = checkpoint-stores a s b
 
 -- A step in any phase but a format.
 step-stores : (p : Phase) (s : State) (b : Board) → isFormatting p ≡ false → OneStore b (step p s b)
@@ -53,7 +61,7 @@ unfolding step
 step-stores Off s b e = noStore refl refl
 step-stores Formatting s b e = absurd (true≢false e)
 step-stores Recovering s b e = recovery-stores (s .undo) s b
-step-stores Running s b e = checkpoint-stores (actAt (dirtyCount s) (s .place)) s b
+step-stores Running s b e = first-stores (acts b) s b
 
 -- An advance by its next store.
 advance-stores : (n : Store) (w c v : ℕ) (s : State) (b : Board) → OneStore b (advance n w c v s b)

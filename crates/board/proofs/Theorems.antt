@@ -8,17 +8,17 @@ use borrow.Author.Tests.{leb-false, eqb-true, eqb-false}
 use Rattle.board.specs.declared.Phase.{Phase}
 use Rattle.board.specs.declared.Phase.the-variants.{Off, Formatting, Recovering, Running}
 use Rattle.board.specs.declared.Call.the-variants.{FormatStart, RecoveryStart, Request, Read}
-use Rattle.board.specs.Board.{Board, cells, epochOf, linesOf, workersOf}
+use Rattle.board.specs.Board.{Board, Shape, shaped, shapeOf, cells, epochOf, linesOf, workersOf}
 use Rattle.board.specs.State.{isRunning, isFormatting, dirtyCount}
 use Rattle.board.specs.Causes.{causes}
 use Rattle.board.specs.Next.{Taken, next, valueOf}
+use Rattle.board.specs.Location.{Location, cell, Has}
 use Rattle.board.specs.Machine.{Machine, beginning, formatSteps}
 use Rattle.board.specs.Sequence.{Begins, formatted, recoveryStarted, Run, cutRun, cuts, History, begun, further, rose, lastCheckpoint, recoverySteps}
-use Rattle.board.specs.Statements
-use Rattle.board.specs.Statements.{Reads, ReadsCheckpointed, Recovery, CutAndRecovered, ReadAlike, Demand3, LastCheckpoint, RecoveredSizes, Completes, formatStepIn, Completion, stepsFrom, FormatEnds, RecoveryEnds, CheckpointEnds, AwayHoldsUpNone, GoesAndComes, RecoveryStarts, OwnMemory, RequestAnswers, HistoryBegins, HasRecovery, UpdateEnds, SingleStores, SpareWords, FormatSpare}
-use Rattle.board.proofs.Laws.Bools.{on, not-off}
+use Rattle.board.specs.Statements.{Reads, ReadsCheckpointed, Recovery, CutAndRecovered, ReadAlike, Demand3, LastCheckpoint, Sizes, RecoveredSizes, Completes, formatStepIn, Completion, stepsFrom, FormatEnds, RecoveryEnds, CheckpointEnds, AwayHoldsUpNone, GoesAndComes, RecoveryStarts, OwnMemory, RequestAnswers, HistoryBegins, HasRecovery, UpdateEnds, SingleStores, SpareWords, FormatSpare}
+use Rattle.predicate.proofs.Bools.{on, not-off}
 use Rattle.board.proofs.Invariant.{Inv}
-use Rattle.board.proofs.Laws.Taken.{standsAt, passed, performed-number, performed-value, performed-taken, performing}
+use Rattle.board.proofs.Laws.Taken.{standsAt, passed, performed-number, performed-value, performed-taken, performing, same-lines}
 use Rattle.board.proofs.Laws.Takes.{all-takes}
 use Rattle.board.proofs.Laws.Reading.{in-phase, read-current}
 use Rattle.board.proofs.Checkpoint.Run.{is-running}
@@ -43,9 +43,9 @@ unfolding standsAt causes
 read-running c b t = not-off (isRunning (b .state .phase)) (passed (Read c) b t 2)
 
 -- A taken read is of a cell.
-read-cell : (c : ℕ) (b : Board) → Taken (Read c) b → c < cells (b .state .lines)
+read-cell : (c : ℕ) (b : Board) → Taken (Read c) b → c < cells (shapeOf (b .state))
 unfolding standsAt causes
-read-cell c b t = leb-false (cells (b .state .lines)) c (passed (Read c) b t 7)
+read-cell c b t = leb-false (cells (shapeOf (b .state))) c (passed (Read c) b t 7)
 
 -- DEMAND 2: a read gives the machine's current value.
 pub reads : Reads
@@ -54,16 +54,16 @@ reads r h d c value b p =
     let i = history-inv r h in
     let t = performed-taken (Read c) (r .board) p refl .0 in
     let on = is-running (r .board .state .phase) (read-running c (r .board) t) in
-    let l : r .board .state .lines ≡ r .machine .lines = in-phase r i d Running on .0 .lines in
-    performed-value (Read c) (r .board) p ∙ read-current r i d on c (subst (λ (n : ℕ). c < cells n) l (read-cell c (r .board) t))
+    let same = in-phase r i d Running on .0 .own .shape in
+    performed-value (Read c) (r .board) p ∙ read-current r i d on c (subst (λ (σ : Shape). c < cells σ) same (read-cell c (r .board) t))
 
 -- ---- 2. recovery
 
 -- What a recovered board's reads return.
-done-reads : (m : Machine) {l w : ℕ} (b : Board) → Done l w (m .checkpointed) b → ReadsCheckpointed m b
+done-reads : (m : Machine) {σ : Shape} {w : ℕ} (b : Board) → Done σ w (m .checkpointed) b → ReadsCheckpointed m b
 unfolding valueOf
 done-reads m b d c h number value b′ p =
-    let r = d .reads c (subst (λ (l : ℕ). c < cells l) (d .lines) h) in
+    let r = d .reads c (subst (λ (τ : Shape). c < cells τ) (d .shape) h) in
     (performed-number (Read c) b p ∙ r .0, performed-value (Read c) b p ∙ r .1)
 
 -- After any history a finished recovery reads the checkpointed values.
@@ -78,7 +78,7 @@ cut-history h e = further h (cuts (e .state) (e .cache) (e .sameLength))
 alike : (m n : Machine) (b d : Board) → b .state .lines ≡ d .state .lines → ReadsCheckpointed m b → ReadsCheckpointed n d → ReadAlike m b n d
 alike m n b d same x y c h p q v u b′ d′ first second =
     let e = x c h p v b′ first .1 in
-    let f = y c (subst (λ (l : ℕ). c < cells l) same h) q u d′ second .1 in
+    let f = y c (subst (λ (l : ℕ). c < cells (shaped l)) same h) q u d′ second .1 in
     (λ g. sym e ∙ g ∙ f, λ g. e ∙ g ∙ sym f)
 
 -- DEMAND 3: two boards, any histories, one more cut each, and finished recoveries.
@@ -89,7 +89,7 @@ demand3 r s hr hs b d er es =
     (x, y, λ same. alike (r .machine) (s .machine) b d same x y)
 
 -- The last checkpoint stays where memory's epoch does, and is the current one where it rises.
-last-stays : (format : Bool) (r r′ : Run) (xs : ℕ → ℕ) → Completes format r r′ → (c : ℕ) → c < cells (r′ .machine .lines) → (c < cells (r .machine .lines) → xs c ≡ r .machine .checkpointed c) → cond (rose r r′) (r′ .machine .current) xs c ≡ r′ .machine .checkpointed c
+last-stays : (format : Bool) (r r′ : Run) (xs : Location → ℕ) → Completes format r r′ → (c : Location) → Has (r′ .machine .shape) c → (Has (r .machine .shape) c → xs c ≡ r .machine .checkpointed c) → cond (rose r r′) (r′ .machine .current) xs c ≡ r′ .machine .checkpointed c
 last-stays format r r′ xs done c h before = go format done
   where
     old : ℕ
@@ -100,19 +100,19 @@ last-stays format r r′ xs done c h before = go format done
 
     by-rise : (new ≡ old + 1 → r′ .machine .current c ≡ r′ .machine .checkpointed c) → ((new ≡ old + 1 → ⊥) → xs c ≡ r′ .machine .checkpointed c) → cond (rose r r′) (r′ .machine .current) xs c ≡ r′ .machine .checkpointed c
     by-rise f g =
-        on (λ (x : ℕ → ℕ). x c ≡ r′ .machine .checkpointed c) (rose r r′) (r′ .machine .current) xs (λ t. f (eqb-true new (old + 1) t)) (λ t. g (eqb-false new (old + 1) t))
+        on (λ (x : Location → ℕ). x c ≡ r′ .machine .checkpointed c) (rose r r′) (r′ .machine .current) xs (λ t. f (eqb-true new (old + 1) t)) (λ t. g (eqb-false new (old + 1) t))
 
-    inside : r′ .machine .lines ≡ r .machine .lines → c < cells (r .machine .lines)
-    inside e = subst (λ (l : ℕ). c < cells l) e h
+    inside : r′ .machine .shape ≡ r .machine .shape → Has (r .machine .shape) c
+    inside e = subst (λ (σ : Shape). Has σ c) e h
 
     go : (f : Bool) → Completes f r r′ → cond (rose r r′) (r′ .machine .current) xs c ≡ r′ .machine .checkpointed c
-    go false (inl u) = by-rise (λ e. absurd (omega (arith, u .epoch))) (λ o. before (inside (u .board .lines)) ∙ sym (u .values c (inside (u .board .lines))))
-    go false (inr u) = by-rise (λ e. u .current c (inside (u .board .lines)) ∙ sym (u .values c (inside (u .board .lines)))) (λ o. absurd (o (u .epoch)))
-    go true (inl u) = by-rise (λ e. absurd (omega (arith, u .epoch))) (λ o. before (inside (u .lines)) ∙ sym (u .values c (inside (u .lines))))
+    go false (inl u) = by-rise (λ e. absurd (omega (arith, u .epoch))) (λ o. before (inside (u .board .shape)) ∙ sym (u .values c (inside (u .board .shape))))
+    go false (inr u) = by-rise (λ e. u .current c (inside (u .board .shape)) ∙ sym (u .values c (inside (u .board .shape)))) (λ o. absurd (o (u .epoch)))
+    go true (inl u) = by-rise (λ e. absurd (omega (arith, u .epoch))) (λ o. before (inside (u .shape)) ∙ sym (u .values c (inside (u .shape))))
     go true (inr u) = by-rise (λ e. u .current c ∙ sym (u .values c)) (λ o. absurd (o (omega (arith, u .before, u .epoch))))
 
 -- A history begins with equal current and checkpointed values.
-begins-equal : (b : Board) (m : Machine) → Begins b m → (c : ℕ) → m .current c ≡ m .checkpointed c
+begins-equal : (b : Board) (m : Machine) → Begins b m → (c : Location) → m .current c ≡ m .checkpointed c
 begins-equal b m (formatted l w value d d′ b′ p takes) c = refl
 begins-equal b m (recoveryStarted value d b′ p) c = refl
 
@@ -124,28 +124,28 @@ last-checkpoint r (further {r = q} h e) c p =
     last-stays (formatStepIn e) q r (lastCheckpoint h) (carried (history-inv q h) e .completion) c p (λ i. last-checkpoint q h c i)
 
 -- L and W are the header's.
-pub sizes : Statements.Sizes
+pub sizes : Sizes
 sizes r h e =
     record { header = header; lines = λ d f. lines (r .board .state .phase) refl d f .0; workers = λ d f. lines (r .board .state .phase) refl d f .1 }
   where
     i : Inv r
     i = history-inv r h
 
-    header : linesOf (r .board .memory) ≡ r .machine .lines
-    header = i .kept e .header .lines
+    header : linesOf (r .board .memory) ≡ r .machine .shape .lines
+    header = same-lines (i .kept e .header .shape)
 
     lines : (p : Phase) → r .board .state .phase ≡ p → r .crashed ≡ false → isFormatting (r .board .state .phase) ≡ false → (r .board .state .lines ≡ linesOf (r .board .memory)) × (r .board .state .workers ≡ workersOf (r .board .memory))
     lines Off q d f = absurd (in-phase r i d Off q)
     lines Formatting q d f = absurd (true≢false (sym (ap isFormatting q) ∙ f))
-    lines Recovering q d f = (in-phase r i d Recovering q .0 .lines ∙ sym header, in-phase r i d Recovering q .0 .own .workers)
-    lines Running q d f = (in-phase r i d Running q .0 .lines ∙ sym header, in-phase r i d Running q .0 .own .workers)
+    lines Recovering q d f = (same-lines (in-phase r i d Recovering q .0 .underway .own .shape) ∙ sym header, in-phase r i d Recovering q .0 .sizes .workers)
+    lines Running q d f = (same-lines (in-phase r i d Running q .0 .own .shape) ∙ sym header, in-phase r i d Running q .0 .rows .sizes .workers)
 
 -- L and W survive a recovery.
 pub recovered-sizes : RecoveredSizes
 recovered-sizes r h b e =
     let i = history-inv r h in
     let done = recovers r i b e in
-    (done .lines ∙ sym (recovery-kept r i (performed-taken RecoveryStart (r .board) (e .begun) refl .0) .header .lines), done .workers)
+    (same-lines (done .shape ∙ sym (recovery-kept r i (performed-taken RecoveryStart (r .board) (e .begun) refl .0) .header .shape)), done .workers)
 
 -- ---- 3. completion
 
@@ -187,7 +187,7 @@ update-ends r h = Updates.update-ends r (history-inv r h)
 pub history-begins : HistoryBegins
 history-begins = (by-format, λ b t. recoveryStarted _ b _ (performing RecoveryStart b t refl refl))
   where
-    by-format : (l w : ℕ) (b : Board) → Taken (FormatStart l w) b → (b′ : Board) × Begins b′ (beginning l)
+    by-format : (l w : ℕ) (b : Board) → Taken (FormatStart l w) b → (b′ : Board) × Begins b′ (beginning (shaped l))
     by-format l w b t =
         let start = next (FormatStart l w) b in
         (stepsFrom (formatSteps l) start, formatted l w _ b start _ (performing (FormatStart l w) b t refl refl) (all-takes (formatSteps l) start (format-ends l w b t .0)))

@@ -13,21 +13,22 @@ use Rattle.board.specs.declared.Store.the-variants.{Backup, Mark, Record
 use Rattle.board.specs.declared.Phase.the-variants.{Running}
 use Rattle.board.specs.declared.Call.{Call}
 use Rattle.board.specs.declared.Call.the-variants.{Update, RestartPoint, Advance, Read}
-use Rattle.board.specs.Board.{Board, cells}
+use Rattle.board.specs.Board.{Board, Shape, cells}
 use Rattle.board.specs.State.{conditionOf, isFree, isWaiting, isUpdating, isRunning}
 use Rattle.board.specs.Causes.{causes, badRows}
-use Rattle.board.specs.Effects.{logged, firstStore, noted, afterLast, advance, advanceOf, effect}
+use Rattle.board.specs.Location.{cell, logged}
+use Rattle.board.specs.Effects.{firstStore, noted, afterLast, advance, advanceOf, effect}
 use Rattle.board.specs.Next.{Taken, next, valueOf, Performed}
 use Rattle.board.specs.Machine.{Machine, Unfinished, update, fewer, advanced, feed}
 use Rattle.board.specs.Sequence.{Run}
 use Rattle.board.specs.Statements.{Starts, updates, restarts, Advances, over, advances}
-use Rattle.board.proofs.Laws.Bools.{on, decide, and-off, not-on}
-use Rattle.board.proofs.Laws.Taken.{standsAt, passed, Clear, take, taken-next, performed-taken, performing, rows-fine, workers-in, afterTaken}
-use Rattle.board.proofs.Laws.Count.{changed-at}
+use Rattle.predicate.proofs.Bools.{on, decide, and-off, not-on}
+use Rattle.board.proofs.Laws.Taken.{standsAt, passed, Clear, take, taken-next, performed-taken, performing, rows-fine, own-seat, afterTaken}
+use Rattle.board.proofs.Laws.View.{put-at}
 use Rattle.board.proofs.Laws.Reading.{running-record, read-taken, read-current}
 use Rattle.board.proofs.Invariant.{Inv, WorkerInv}
 use Rattle.board.proofs.Laws.Workers.{condition-at}
-use Rattle.board.proofs.Keeps.OneCell.{Ready, ready}
+use Rattle.board.proofs.Keeps.OnePlace.{Working, working}
 use Rattle.board.proofs.Keeps.Update.{keeps-update, keeps-restart, marked-logged, update-cell, restart-cell}
 use Rattle.board.proofs.Keeps.Advance.{carried-advance}
 
@@ -43,27 +44,27 @@ record Before (r : Run) (w c v : ℕ) (next : Store) : Type 0 where
 
 module _ {r : Run} {w c v : ℕ} {next : Store} (u : Before r w c v next) where
   -- What is known of the board then.
-  now : Ready r w
+  now : Working r w
   now =
-      ready r w isUpdating refl refl (u .inv) (u .uncut) (not-on (isRunning (r .board .state .phase)) (ap isRunning (u .phase)))
+      working r w isUpdating refl refl (u .inv) (u .uncut) (not-on (isRunning (r .board .state .phase)) (ap isRunning (u .phase)))
       (lt-leb (r .board .state .workers) w (u .under)) (not-on (isUpdating (conditionOf (r .board .state) w)) (ap isUpdating (u .here)))
 
   -- The worker's update is the machine's.
-  own : WorkerInv (r .machine .lines) (r .board .cache) (Updating next c v) (r .machine .unfinished w)
-  own = subst (λ (k : Condition). WorkerInv (r .machine .lines) (r .board .cache) k (r .machine .unfinished w)) (u .here) (now .run .worker w (u .under))
+  own : WorkerInv (r .machine .shape) (r .board .cache) (Updating next c v) (r .machine .unfinished w)
+  own = subst (λ (k : Condition). WorkerInv (r .machine .shape) (r .board .cache) k (r .machine .unfinished w)) (u .here) (now .run .workers .each w (u .under))
 
   -- The advance is taken.
   advance-taken : Taken (Advance w) (r .board)
   unfolding Clear causes
   advance-taken =
       let s = r .board .state in
-      let l = r .machine .lines in
+      let σ = r .machine .shape in
       take (Advance w) (r .board) (
         not-on (isRunning (s .phase)) (ap isRunning (u .phase)),
         (
-          running-record l (r .board) (r .machine) (u .inv .sizes .limits) (u .phase) (now .run),
+          running-record (r .board) (r .machine) (u .phase) (now .run),
           (
-            subst (λ (k : ℕ). badRows k (r .board) ≡ false) (sym (now .run .lines)) (rows-fine l (r .board) (u .inv .sizes)),
+            subst (λ (τ : Shape). badRows (τ .lines) (r .board) ≡ false) (sym (now .run .own .shape)) (rows-fine σ (r .board) (u .inv .sizes)),
             (lt-leb (s .workers) w (u .under), (not-on (isUpdating (conditionOf s w)) (ap isUpdating (u .here)), tt)),
           ),
         ),
@@ -86,7 +87,7 @@ module _ {r : Run} {w c v : ℕ} {next : Store} (u : Before r w c v next) where
 
   -- The worker's place in the state record.
   seat : w < length (r .board .state .worker)
-  seat = omega (arith, u .under, now .run .eight, workers-in (r .machine .lines) (r .board .state .workers) (now .run .workers) .1)
+  seat = own-seat (r .board .state) (now .run .own) (u .under)
 
   -- An advance after which the update goes on, to the store `then`.
   goes-on : (then : Store) → (advance next w c v (r .board .state) (r .board) .state .phase ≡ Running) × (w < advance next w c v (r .board .state) (r .board) .state .workers) × (conditionOf (advance next w c v (r .board .state) (r .board) .state) w ≡ Updating then c v) → Before (afterTaken (Advance w) r) w c v then
@@ -123,10 +124,10 @@ last-store {r} {w} {c} {v} u =
     let b′ = effect (Advance w) (r .board) in
     let same = advanced-board u in
     let phase : b′ .state .phase ≡ Running = ap (λ (b : Board). b .state .phase) same ∙ u .phase in
-    let machine : feed (Advance w) (r .machine) ≡ fewer 0 w c v (r .machine) = ap (λ (x : Unfinished). advanced x w (r .machine)) (own u .0) in
-    let here : c < cells (r′ .machine .lines) = subst (λ (m : Machine). c < cells (m .lines)) (sym machine) (own u .1) in
+    let machine : feed (Advance w) (r .machine) ≡ fewer 0 w (cell c) v (r .machine) = ap (λ (x : Unfinished). advanced x w (r .machine)) (own u .0) in
+    let here : c < cells (r′ .machine .shape) = subst (λ (m : Machine). c < cells (m .shape)) (sym machine) (own u .1) in
     let t = read-taken r′ (after-inv u) (after-uncut u) phase c here in
-    let read = read-current r′ (after-inv u) (after-uncut u) phase c here ∙ ap (λ (m : Machine). m .current c) machine ∙ changed-at (r .machine .current) c v in (
+    let read = read-current r′ (after-inv u) (after-uncut u) phase c here ∙ ap (λ (m : Machine). m .current (cell c)) machine ∙ put-at (r .machine .current) (cell c) v in (
       b′,
       (
         advances (advance-performed u) over,
@@ -148,7 +149,7 @@ three-stores {r} {w} {c} {v} u =
 -- ---- from the start on
 
 -- The worker right after the start of its update.
-module _ (r : Run) (w c v : ℕ) (k : Call) (inv : Inv (afterTaken k r)) (uncut : afterTaken k r .crashed ≡ false) (ready : Ready r w) (inside : c < cells (r .machine .lines)) (effects : effect k (r .board) ≡ noted w c v (r .board)) where
+module _ (r : Run) (w c v : ℕ) (k : Call) (inv : Inv (afterTaken k r)) (uncut : afterTaken k r .crashed ≡ false) (ready : Working r w) (inside : c < cells (r .machine .shape)) (effects : effect k (r .board) ≡ noted w c v (r .board)) where
   started : Before (afterTaken k r) w c v (firstStore (r .board .cache) c)
   started =
       record {
@@ -158,28 +159,28 @@ module _ (r : Run) (w c v : ℕ) (k : Call) (inv : Inv (afterTaken k r)) (uncut 
         under = subst (λ (b : Board). w < b .state .workers) (sym effects) (ready .under);
         here = ap (λ (b : Board). conditionOf (b .state) w) effects
             ∙ condition-at (r .board .state) w (Updating (firstStore (r .board .cache) c) c v)
-            (omega (arith, ready .under, ready .run .eight, workers-in (r .machine .lines) (r .board .state .workers) (ready .run .workers) .1));
+            (own-seat (r .board .state) (ready .run .own) (ready .under));
       }
 
   -- It ends in as many advances as the machine gives it.
-  started-ends : Ended w c v (cond (r .machine .marked c) 1 3) (effect k (r .board))
+  started-ends : Ended w c v (cond (r .machine .marked (cell c)) 1 3) (effect k (r .board))
   started-ends =
-      subst (λ (t : Bool). Ended w c v (cond t 1 3) (effect k (r .board))) (sym (marked-logged r ready c inside))
-      (decide (λ (t : Bool). Before (afterTaken k r) w c v (cond t Record Backup) → Ended w c v (cond t 1 3) (effect k (r .board))) (logged (r .board .cache) c) (λ t. last-store) (λ t. three-stores) started)
+      subst (λ (t : Bool). Ended w c v (cond t 1 3) (effect k (r .board))) (sym (marked-logged r ready (cell c) inside))
+      (decide (λ (t : Bool). Before (afterTaken k r) w c v (cond t Record Backup) → Ended w c v (cond t 1 3) (effect k (r .board))) (logged (r .board .cache) (cell c)) (λ t. last-store) (λ t. three-stores) started)
 
 -- A started update or restart point ends, where the invariant holds.
-pub update-ends : (r : Run) → Inv r → r .crashed ≡ false → (w c v : ℕ) (k : Call) → Starts w c v k → (value : ℕ) (b : Board) → Performed k (r .board) 0 value b → Ended w c v (cond (r .machine .marked c) 1 3) b
+pub update-ends : (r : Run) → Inv r → r .crashed ≡ false → (w c v : ℕ) (k : Call) → Starts w c v k → (value : ℕ) (b : Board) → Performed k (r .board) 0 value b → Ended w c v (cond (r .machine .marked (cell c)) 1 3) b
 unfolding standsAt causes effect
 update-ends r inv d w c v k (updates) value b p =
     let (t, same) = performed-taken (Update w c v) (r .board) p refl in
     let pass = passed (Update w c v) (r .board) t in
-    let now = ready r w isFree refl refl inv d (pass 2) (pass 6) (pass 8) in
-    subst (Ended w c v (cond (r .machine .marked c) 1 3)) (sym same)
+    let now = working r w isFree refl refl inv d (pass 2) (pass 6) (pass 8) in
+    subst (Ended w c v (cond (r .machine .marked (cell c)) 1 3)) (sym same)
     (started-ends r w c v (Update w c v) (keeps-update r w c v inv d t) (and-off (r .crashed) true d) now (update-cell r w c v now t) refl)
 update-ends r inv d w c v k (restarts e) value b p =
     let (t, same) = performed-taken (RestartPoint w v) (r .board) p refl in
     let pass = passed (RestartPoint w v) (r .board) t in
-    let now = ready r w isFree refl refl inv d (pass 2) (pass 6) (pass 8) in
-    subst (λ (x : ℕ). Ended w x v (cond (r .machine .marked x) 1 3) b) (sym e)
-    (subst (Ended w w v (cond (r .machine .marked w) 1 3)) (sym same)
+    let now = working r w isFree refl refl inv d (pass 2) (pass 6) (pass 8) in
+    subst (λ (x : ℕ). Ended w x v (cond (r .machine .marked (cell x)) 1 3) b) (sym e)
+    (subst (Ended w w v (cond (r .machine .marked (cell w)) 1 3)) (sym same)
     (started-ends r w w v (RestartPoint w v) (keeps-restart r w v inv d t) (and-off (r .crashed) true d) now (restart-cell r w now) refl))

@@ -10,7 +10,7 @@ use Rattle.board.specs.declared.State.{State}
 use Rattle.board.specs.declared.Phase.the-variants.{Off, Running}
 use Rattle.board.specs.declared.Call.{Call}
 use Rattle.board.specs.declared.Call.the-variants.{FormatStart, RecoveryStart, Step, Update, RestartPoint, Advance, Request, WriteBack, Read, TakeLock, GiveBackLock}
-use Rattle.board.specs.Board.{Board, rowWords}
+use Rattle.board.specs.Board.{Board, shaped, rowWords}
 use Rattle.board.specs.State.{started, requesting, isRunning}
 use Rattle.board.specs.Causes.{cause}
 use Rattle.board.specs.Next.{taken, next, valueRead, valueCounted}
@@ -98,7 +98,7 @@ holds k = allTakenIn (k .events) (k .board) && allSeen (k .seen) (afterEvents (k
 
 -- A board that is off, with rows of the given length, all zeros.
 abbrev pub blank : ℕ → Board
-blank words = record { state = started Off 0 0; memory = replicate words 0; cache = replicate words 0 }
+blank words = record { state = started Off (shaped 0) 0; memory = replicate words 0; cache = replicate words 0 }
 
 -- A board with rows for L lines.
 abbrev pub blankFor : ℕ → Board
@@ -107,7 +107,7 @@ blankFor l = blank (rowWords l)
 -- A running board (1, 1) with the given epoch in both rows.
 abbrev pub runningAt : ℕ → Board
 runningAt epoch =
-    record { state = started Running 1 1; memory = epoch ∷ 1 ∷ 1 ∷ replicate 13 0; cache = epoch ∷ 1 ∷ 1 ∷ replicate 13 0 }
+    record { state = started Running (shaped 1) 1; memory = epoch ∷ 1 ∷ 1 ∷ replicate 13 0; cache = epoch ∷ 1 ∷ 1 ∷ replicate 13 0 }
 
 -- ---- the calls
 
@@ -141,7 +141,7 @@ recovery n = RecoveryStart ∷ replicate n Step
 
 -- A cut of a board (1, 1) that leaves words of no meaning in the cache, and a running record with a request.
 abbrev pub cutWithGarbage : Event
-cutWithGarbage = cut (requesting (started Running 9 200)) (replicate 16 77)
+cutWithGarbage = cut (requesting (started Running (shaped 9) 200)) (replicate 16 77)
 
 -- ---- the table
 

@@ -12,25 +12,41 @@ pub record Board : Type 0 where
   pub memory : List ℕ
   pub cache : List ℕ
 
--- "Lines 1 to L hold two cells each": the number of cells.
-abbrev pub cells : ℕ → ℕ
-cells l = 2 * l
+-- A board's sizes, as its header and its state record have them: L alone so far. What a row holds is counted from them, below and in `Location`.
+pub record Shape : Type 0 where
+  pub lines : ℕ
+
+-- The shape of a board of L lines.
+abbrev pub shaped : ℕ → Shape
+shaped l = record { lines = l }
+
+-- The state record's shape.
+abbrev pub shapeOf : State → Shape
+shapeOf s = shaped (s .lines)
+
+-- "Lines 1 to L hold two cells each": the lines that hold cells.
+abbrev pub cellLines : Shape → ℕ
+cellLines σ = σ .lines
+
+-- The number of cells.
+abbrev pub cells : Shape → ℕ
+cells σ = 2 * cellLines σ
 
 -- "two rows of words of equal length, 8×(L+1) words".
 abbrev pub rowWords : ℕ → ℕ
 rowWords l = 8 * (l + 1)
 
 -- "L, the cell lines, is 1 to 511".
-abbrev pub linesOutside : ℕ → Bool
-linesOutside l = not (leb 1 l && leb l 511)
+abbrev pub shapeOutside : Shape → Bool
+shapeOutside σ = not (leb 1 (σ .lines) && leb (σ .lines) 511)
 
 -- "W, the workers, is 1 to 8, and W < 2L".
-abbrev pub workersOutside : ℕ → ℕ → Bool
-workersOutside l w = not (leb 1 w && leb w 8 && ltb w (cells l))
+abbrev pub workersOutside : Shape → ℕ → Bool
+workersOutside σ w = not (leb 1 w && leb w 8 && ltb w (cells σ))
 
--- "L or W outside the limits above".
-abbrev pub outside : ℕ → ℕ → Bool
-outside l w = linesOutside l || workersOutside l w
+-- "L or W outside the limits above": the limits that causes 1, 3 and 5 test.
+abbrev pub outside : Shape → ℕ → Bool
+outside σ w = shapeOutside σ || workersOutside σ w
 
 -- "Line 0 is the header: word 0 the epoch (0: no board here)".
 abbrev pub epochOf : List ℕ → ℕ
@@ -39,6 +55,10 @@ epochOf row = getD row 0 0
 -- "word 1 L".
 abbrev pub linesOf : List ℕ → ℕ
 linesOf row = getD row 1 0
+
+-- The header's shape.
+abbrev pub shapeIn : List ℕ → Shape
+shapeIn row = shaped (linesOf row)
 
 -- "word 2 W".
 abbrev pub workersOf : List ℕ → ℕ
@@ -50,8 +70,8 @@ restNotZero row =
     not (eqb (getD row 3 0) 0 && eqb (getD row 4 0) 0 && eqb (getD row 5 0) 0 && eqb (getD row 6 0) 0 && eqb (getD row 7 0) 0)
 
 -- The eight words of a header.
-abbrev pub headerWords : ℕ → ℕ → ℕ → List ℕ
-headerWords epoch l w = epoch ∷ l ∷ w ∷ 0 ∷ 0 ∷ 0 ∷ 0 ∷ 0 ∷ []
+abbrev pub headerWords : ℕ → Shape → ℕ → List ℕ
+headerWords epoch σ w = epoch ∷ σ .lines ∷ w ∷ 0 ∷ 0 ∷ 0 ∷ 0 ∷ 0 ∷ []
 
 -- "becomes zeros": the eight words of an erased line.
 abbrev pub zeroWords : List ℕ

@@ -1,4 +1,4 @@
--- Document 01, "Why a call is turned down", and document 02, tickets 2, 4, 5 and 6: the cause table, one test a row, and for each call its rows in the order tested.
+-- Document 01, "Why a call is turned down", and document 02, tickets 2, 4, 5 and 6: the cause table, one test a line, and for each call its lines in the order tested.
 use Prim.Native.Nat.{ℕ, _+_, _-_, _/_, _%_}
 use mathlib.Core.List.{List, [], _∷_}
 use mathlib.Core.Bool.{Bool, false, cond, not, _&&_, _||_}
@@ -10,15 +10,17 @@ use Rattle.board.specs.declared.Phase.the-variants.{Off, Formatting, Rec
 use Rattle.board.specs.declared.Call.{Call}
 use Rattle.board.specs.declared.Call.the-variants.{FormatStart, RecoveryStart, Step, Update, RestartPoint, Advance, Request, WriteBack, Read, GoAway, ComeBack, Count, TakeLock, GiveBackLock}
 use Rattle.line.specs.declared.Field.{Field}
-use Rattle.bitset.specs.Passing.{anyUnder}
+use Rattle.predicate.specs.Passing.{anyUnder}
 use Rattle.bitset.specs.Words.{strays}
 use Rattle.locks.specs.Holders.{lockCount, unheld, holds, holdsAny, heldFrom}
 use Rattle.line.specs.Cell.{fieldOf}
 use Rattle.board.specs.Board
-use Rattle.board.specs.Board.{Board, cells, rowWords, outside, workersOutside, epochOf, linesOf, workersOf, restNotZero, lastEpoch}
+use Rattle.board.specs.Board.{Board, cells, shaped, shapeOf, shapeIn, rowWords, outside, epochOf, linesOf, workersOf, restNotZero, lastEpoch}
+use Rattle.board.specs.Location.{stops}
+use Rattle.board.specs.Checkpoint.{acts, storesEpoch}
 use Rattle.board.specs.State.{conditionOf, isFree, isUpdating, isAway, quiescent, updates, anyWorker, othersUpdate, isOff, isFormatting, isRunning, lockOf, updatesUnder, dirtyCount}
 
--- A row of the table: the cause's number, and whether it stands.
+-- A line of the table: the cause's number, and whether it stands.
 pub record Cause : Type 0 where
   pub number : ℕ
   pub stands : Bool
@@ -43,17 +45,17 @@ notRunning b = not (isRunning (b .state .phase))
 abbrev pub placePast : Phase → State → Bool
 placePast Off s = false
 placePast Formatting s = ltb (s .lines + 1) (s .place)
-placePast Recovering s = leb (cells (s .lines)) (s .place)
+placePast Recovering s = leb (stops (shapeOf s)) (s .place)
 placePast Running s = s .requested && ltb (dirtyCount s + 2) (s .place)
 
 -- "L or W outside the limits; place ..; cell 2L or more in an update of a worker under W"; 02: "A bit set for line 0 or past L"; "each lock's holder, a worker under W or none".
 unfoldable pub badRecord : State → Bool
 badRecord s =
-    outside (s .lines) (s .workers)
+    outside (shapeOf s) (s .workers)
     || strays (s .dirty) (s .lines)
     || heldFrom (s .holders) (s .workers)
     || placePast (s .phase) s
-    || anyWorker s (updates (leb (cells (s .lines))))
+    || anyWorker s (updates (leb (cells (shapeOf s))))
 
 -- ---- cause 4: "rows"
 
@@ -76,14 +78,14 @@ abbrev pub badHeader : List ℕ → Bool
 badHeader row =
     eqb (epochOf row) 0
     || not (eqb (linesOf row) (length row / 8 - 1))
-    || workersOutside (linesOf row) (workersOf row)
+    || outside (shapeIn row) (workersOf row)
     || restNotZero row
 
 -- ---- cause 14, "after 5"
 
 -- 02: "any mark greater than its epoch": the mark of some cell of the row is greater than the given epoch.
 abbrev pub laterMark : ℕ → List ℕ → Bool
-laterMark epoch row = anyUnder (cells (linesOf row)) (λ c. ltb epoch (fieldOf row c Field.Mark))
+laterMark epoch row = anyUnder (cells (shapeIn row)) (λ c. ltb epoch (fieldOf row c Field.Mark))
 
 -- ---- causes 6 and 7
 
@@ -93,11 +95,11 @@ noWorker s w = leb (s .workers) w
 
 -- "update of a cell under W or 2L or more".
 abbrev pub noDataCell : State → ℕ → Bool
-noDataCell s c = ltb c (s .workers) || leb (cells (s .lines)) c
+noDataCell s c = ltb c (s .workers) || leb (cells (shapeOf s)) c
 
 -- "read of 2L or more".
 abbrev pub noCell : State → ℕ → Bool
-noCell s c = leb (cells (s .lines)) c
+noCell s c = leb (cells (shapeOf s)) c
 
 -- "line over L".
 abbrev pub noLine : State → ℕ → Bool
@@ -159,116 +161,99 @@ checkpointing s = isRunning (s .phase) && s .requested
 
 -- "or at the epoch's store".
 abbrev pub storesSpentEpoch : Board → Bool
-storesSpentEpoch b = checkpointing (b .state) && eqb (b .state .place) (dirtyCount (b .state)) && epochSpent b
+storesSpentEpoch b = checkpointing (b .state) && storesEpoch (acts b) && epochSpent b
 
 -- ---- the table
 
--- A row of the table.
-abbrev pub row : ℕ → Bool → Cause
-row number stands = record { number = number; stands = stands }
+-- A line of the table.
+abbrev pub check : ℕ → Bool → Cause
+check number stands = record { number = number; stands = stands }
+
+-- What can turn down every call but the two starts: 2 where its phase bars it, 3 and 4; then come the call's own.
+abbrev pub guarded : Bool → Board → List Cause → List Cause
+guarded barred b own =
+    check 2 barred
+    ∷ check 3 (badRecord (b .state))
+    ∷ check 4 (badRows (b .state .lines) b)
+    ∷ own
 
 -- "Checked in rising order of number", and 02's 13 "after 8", 14 "after 5", 15 "after 7" and 16 "after 8": what can turn each call down.
 unfoldable pub causes : Call → Board → List Cause
 causes (FormatStart l w) b =
-    row 1 (outside l w)
-    ∷ row 4 (badRows l b)
+    check 1 (outside (shaped l) w)
+    ∷ check 4 (badRows l b)
     ∷ []
 causes RecoveryStart b =
-    row 4 (badRecoveryRows b)
-    ∷ row 5 (badHeader (b .memory))
-    ∷ row 14 (laterMark (epochOf (b .memory)) (b .memory))
+    check 4 (badRecoveryRows b)
+    ∷ check 5 (badHeader (b .memory))
+    ∷ check 14 (laterMark (epochOf (b .memory)) (b .memory))
     ∷ []
 causes Step b =
-    row 2 (notOn b)
-    ∷ row 3 (badRecord (b .state))
-    ∷ row 4 (badRows (b .state .lines) b)
-    ∷ row 10 (notReady (b .state))
-    ∷ row 11 (storesSpentEpoch b)
-    ∷ []
+    guarded (notOn b) b
+    (check 10 (notReady (b .state))
+    ∷ check 11 (storesSpentEpoch b)
+    ∷ [])
 causes (Update w c v) b =
-    row 2 (notRunning b)
-    ∷ row 3 (badRecord (b .state))
-    ∷ row 4 (badRows (b .state .lines) b)
-    ∷ row 6 (noWorker (b .state) w)
-    ∷ row 7 (noDataCell (b .state) c)
-    ∷ row 8 (busy (b .state) w)
-    ∷ row 16 (notHolder (b .state) w (lockOf c))
-    ∷ row 9 (othersUpdate (b .state) w c)
-    ∷ []
+    guarded (notRunning b) b
+    (check 6 (noWorker (b .state) w)
+    ∷ check 7 (noDataCell (b .state) c)
+    ∷ check 8 (busy (b .state) w)
+    ∷ check 16 (notHolder (b .state) w (lockOf c))
+    ∷ check 9 (othersUpdate (b .state) w c)
+    ∷ [])
 causes (RestartPoint w v) b =
-    row 2 (notRunning b)
-    ∷ row 3 (badRecord (b .state))
-    ∷ row 4 (badRows (b .state .lines) b)
-    ∷ row 6 (noWorker (b .state) w)
-    ∷ row 8 (busy (b .state) w)
-    ∷ row 16 (holder (b .state) w)
-    ∷ row 9 (othersUpdate (b .state) w w)
-    ∷ []
+    guarded (notRunning b) b
+    (check 6 (noWorker (b .state) w)
+    ∷ check 8 (busy (b .state) w)
+    ∷ check 16 (holder (b .state) w)
+    ∷ check 9 (othersUpdate (b .state) w w)
+    ∷ [])
 causes (Advance w) b =
-    row 2 (notRunning b)
-    ∷ row 3 (badRecord (b .state))
-    ∷ row 4 (badRows (b .state .lines) b)
-    ∷ row 6 (noWorker (b .state) w)
-    ∷ row 8 (idle (b .state) w)
-    ∷ []
+    guarded (notRunning b) b
+    (check 6 (noWorker (b .state) w)
+    ∷ check 8 (idle (b .state) w)
+    ∷ [])
 causes Request b =
-    row 2 (notRunning b)
-    ∷ row 3 (badRecord (b .state))
-    ∷ row 4 (badRows (b .state .lines) b)
-    ∷ row 10 (b .state .requested)
-    ∷ row 11 (epochSpent b)
-    ∷ []
+    guarded (notRunning b) b
+    (check 10 (b .state .requested)
+    ∷ check 11 (epochSpent b)
+    ∷ [])
 causes (WriteBack l) b =
-    row 2 (notRecoveringOrRunning b)
-    ∷ row 3 (badRecord (b .state))
-    ∷ row 4 (badRows (b .state .lines) b)
-    ∷ row 7 (noLine (b .state) l)
-    ∷ []
+    guarded (notRecoveringOrRunning b) b
+    (check 7 (noLine (b .state) l)
+    ∷ [])
 causes (Read c) b =
-    row 2 (notRunning b)
-    ∷ row 3 (badRecord (b .state))
-    ∷ row 4 (badRows (b .state .lines) b)
-    ∷ row 7 (noCell (b .state) c)
-    ∷ []
+    guarded (notRunning b) b
+    (check 7 (noCell (b .state) c)
+    ∷ [])
 causes (GoAway w) b =
-    row 2 (notRunning b)
-    ∷ row 3 (badRecord (b .state))
-    ∷ row 4 (badRows (b .state .lines) b)
-    ∷ row 6 (noWorker (b .state) w)
-    ∷ row 8 (busy (b .state) w)
-    ∷ row 16 (holder (b .state) w)
-    ∷ []
+    guarded (notRunning b) b
+    (check 6 (noWorker (b .state) w)
+    ∷ check 8 (busy (b .state) w)
+    ∷ check 16 (holder (b .state) w)
+    ∷ [])
 causes (ComeBack w) b =
-    row 2 (notRunning b)
-    ∷ row 3 (badRecord (b .state))
-    ∷ row 4 (badRows (b .state .lines) b)
-    ∷ row 6 (noWorker (b .state) w)
-    ∷ row 8 (notAway (b .state) w)
-    ∷ row 13 (checkpointBegun (b .state))
-    ∷ []
+    guarded (notRunning b) b
+    (check 6 (noWorker (b .state) w)
+    ∷ check 8 (notAway (b .state) w)
+    ∷ check 13 (checkpointBegun (b .state))
+    ∷ [])
 causes Count b =
-    row 2 (notRunning b)
-    ∷ row 3 (badRecord (b .state))
-    ∷ row 4 (badRows (b .state .lines) b)
-    ∷ []
+    guarded (notRunning b) b []
 causes (TakeLock w k) b =
-    row 2 (notRunning b)
-    ∷ row 3 (badRecord (b .state))
-    ∷ row 4 (badRows (b .state .lines) b)
-    ∷ row 6 (noWorker (b .state) w)
-    ∷ row 15 (noLock k)
-    ∷ row 8 (busy (b .state) w)
-    ∷ row 16 (lockHeld (b .state) k)
-    ∷ []
+    guarded (notRunning b) b
+    (check 6 (noWorker (b .state) w)
+    ∷ check 15 (noLock k)
+    ∷ check 8 (busy (b .state) w)
+    ∷ check 16 (lockHeld (b .state) k)
+    ∷ [])
 causes (GiveBackLock w k) b =
-    row 2 (notRunning b)
-    ∷ row 3 (badRecord (b .state))
-    ∷ row 4 (badRows (b .state .lines) b)
-    ∷ row 6 (noWorker (b .state) w)
-    ∷ row 15 (noLock k)
-    ∷ row 8 (updatesUnder (b .state) w k)
-    ∷ row 16 (notHolder (b .state) w k)
-    ∷ []
+    guarded (notRunning b) b
+    (check 6 (noWorker (b .state) w)
+    ∷ check 15 (noLock k)
+    ∷ check 8 (updatesUnder (b .state) w k)
+    ∷ check 16 (notHolder (b .state) w k)
+    ∷ [])
 
 -- The number of the first cause that stands, 0 where none does.
 unfoldable pub firstStanding : List Cause → ℕ

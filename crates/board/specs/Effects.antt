@@ -1,8 +1,8 @@
 -- Document 01, "Steps", and document 02, tickets 2, 4, 5 and 6: what a taken call does, store by store.
 use Prim.Native.Nat.{ℕ, _+_}
-use mathlib.Core.List.{List}
+use mathlib.Core.List.{List, [], _∷_}
 use mathlib.Core.Bool.{Bool, cond, _&&_}
-use lib.Dec.{leb, ltb, eqb}
+use lib.Dec.{leb, ltb}
 use lib.ListN.{set}
 use Rattle.board.specs.declared.State.{State}
 use Rattle.board.specs.declared.Condition.{Condition}
@@ -15,13 +15,15 @@ use Rattle.board.specs.declared.Phase.{Phase}
 use Rattle.board.specs.declared.Phase.the-variants.{Off, Formatting, Recovering, Running}
 use Rattle.board.specs.declared.Call.{Call}
 use Rattle.board.specs.declared.Call.the-variants.{FormatStart, RecoveryStart, Step, Update, RestartPoint, Advance, Request, WriteBack, Read, GoAway, ComeBack, Count, TakeLock, GiveBackLock}
-use Rattle.bitset.specs.Words.{empty, nth}
+use Rattle.bitset.specs.Words.{empty}
 use Rattle.locks.specs.Holders.{heldBy, givenBack}
 use Rattle.line.specs.declared.Field.{Field}
 use Rattle.line.specs.Line.{lineOf, withLine}
 use Rattle.line.specs.Cell.{cellLine, fieldOf, withField}
-use Rattle.board.specs.Board.{Board, cells, epochOf, linesOf, workersOf, headerWords, zeroWords}
-use Rattle.board.specs.State.{conditionOf, started, placed, opened, requesting, released, conditioned, dirtied, locked, dirtyCount}
+use Rattle.board.specs.Board.{Board, shaped, shapeOf, shapeIn, epochOf, workersOf, headerWords, zeroWords}
+use Rattle.board.specs.Location.{cell, logged, Stop, stops, stopAt, stopLine, undoes, restored, unmarked}
+use Rattle.board.specs.State.{conditionOf, started, placed, opened, requesting, released, conditioned, dirtied, locked}
+use Rattle.board.specs.Checkpoint.{Act, writeLine, storeEpoch, writeHeader, release, acts}
 
 -- ---- what a step does to the rows
 
@@ -48,22 +50,6 @@ stated s b = record { state = s; memory = b .memory; cache = b .cache }
 
 -- ---- a cell's log
 
--- "a cell whose mark equals the epoch": the cell has its old value logged in this epoch.
-abbrev pub logged : List ℕ → ℕ → Bool
-logged row c = eqb (fieldOf row c Field.Mark) (epochOf row)
-
--- 02, ticket 4, a memory's "own undo": for each cell the backup where its mark is the epoch, else the record.
-abbrev pub undo : List ℕ → ℕ → ℕ
-undo row c = cond (logged row c) (fieldOf row c Field.Backup) (fieldOf row c Field.Record)
-
--- "record := backup": the old value put back.
-abbrev pub restored : List ℕ → ℕ → List ℕ
-restored row c = withField row c Field.Record (fieldOf row c Field.Backup)
-
--- "mark := 0": the log dropped.
-abbrev pub unmarked : List ℕ → ℕ → List ℕ
-unmarked row c = withField row c Field.Mark 0
-
 -- "backup := record": the old value logged.
 abbrev pub backedUp : List ℕ → ℕ → List ℕ
 backedUp row c = withField row c Field.Backup (fieldOf row c Field.Record)
@@ -83,42 +69,43 @@ unfoldable pub formatStep : State → Board → Board
 formatStep s b =
     cond (leb (s .place) (s .lines))
     (inBoth (s .place) zeroWords (placed s (s .place + 1) (s .undo)) b)
-    (inBoth 0 (headerWords 1 (s .lines) (s .workers)) (opened s empty) b)
+    (inBoth 0 (headerWords 1 (shapeOf s) (s .workers)) (opened s empty) b)
 
 -- ---- recovery
 
--- "Then cells from 0 up .. After the last cell: running": the state record past cell `place`.
-abbrev pub pastCell : State → State
-pastCell s =
-    cond (ltb (s .place + 1) (cells (s .lines)))
+-- The stop that a recovery has come to.
+abbrev pub stopOf : State → Stop
+stopOf s = stopAt (shapeOf s) (s .place)
+
+-- "Then cells from 0 up .. After the last cell: running": the state record past the stop.
+abbrev pub pastStop : State → State
+pastStop s =
+    cond (ltb (s .place + 1) (stops (shapeOf s)))
     (placed s (s .place + 1) Restore)
     (opened s (s .dirty))
 
 -- "record := backup; mark := 0; its line written back"; any other cell, "one step that stores nothing". The mark is looked at only before the first.
 unfoldable pub recoveryStep : UndoStep → State → Board → Board
 recoveryStep Restore s b =
-    cond (logged (b .cache) (s .place))
-    (cached (restored (b .cache) (s .place)) (placed s (s .place) Unmark) b)
-    (stated (pastCell s) b)
-recoveryStep Unmark s b = cached (unmarked (b .cache) (s .place)) (placed s (s .place) WriteLine) b
-recoveryStep WriteLine s b = backed (cellLine (s .place)) (pastCell s) b
+    cond (undoes (b .cache) (stopOf s))
+    (cached (restored (b .cache) (stopOf s)) (placed s (s .place) Unmark) b)
+    (stated (pastStop s) b)
+recoveryStep Unmark s b = cached (unmarked (b .cache) (stopOf s)) (placed s (s .place) WriteLine) b
+recoveryStep WriteLine s b = backed (stopLine (stopOf s)) (pastStop s) b
 
 -- ---- checkpoint
 
--- What a checkpoint's step does.
-pub data Act : Type 0 where
-  writeLine storeEpoch writeHeader release : Act
-
--- 02: "A checkpoint writes the set lines in rising order; n is their count"; "epoch := epoch + 1 in the cache; line 0 written back; release".
-unfoldable pub actAt : ℕ → ℕ → Act
-actAt n place = cond (ltb place n) writeLine (cond (eqb place n) storeEpoch (cond (eqb place (n + 1)) writeHeader release))
-
--- What each act does.
+-- What each act does; each but the release goes on to the next place.
 unfoldable pub performAct : Act → State → Board → Board
-performAct writeLine s b = backed (nth (s .dirty) (s .place)) (placed s (s .place + 1) (s .undo)) b
+performAct (writeLine l) s b = backed l (placed s (s .place + 1) (s .undo)) b
 performAct storeEpoch s b = cached (set (b .cache) 0 (epochOf (b .cache) + 1)) (placed s (s .place + 1) (s .undo)) b
 performAct writeHeader s b = backed 0 (placed s (s .place + 1) (s .undo)) b
 performAct release s b = stated (released s) b
+
+-- A checkpoint's step: the first of the acts that are left.
+unfoldable pub performFirst : List Act → State → Board → Board
+performFirst [] s b = b
+performFirst (act ∷ later) s b = performAct act s b
 
 -- ---- the step call
 
@@ -127,13 +114,13 @@ unfoldable pub step : Phase → State → Board → Board
 step Off s b = b
 step Formatting s b = formatStep s b
 step Recovering s b = recoveryStep (s .undo) s b
-step Running s b = performAct (actAt (dirtyCount s) (s .place)) s b
+step Running s b = performFirst (acts b) s b
 
 -- ---- updates and restart points
 
 -- "If the mark differs from the cache's epoch, three advances follow .. If the mark equals the epoch, only the last. This is decided at the start."
 abbrev pub firstStore : List ℕ → ℕ → Store
-firstStore row c = cond (logged row c) Record Backup
+firstStore row c = cond (logged row (cell c)) Record Backup
 
 -- "The start notes it."
 abbrev pub noted : ℕ → ℕ → ℕ → Board → Board
@@ -160,8 +147,8 @@ advanceOf Away w s b = b
 
 -- What each call does where no cause stands: "Each of the two starts sets every field"; "Recovery. The start copies memory to cache"; 02: "A free worker may go away and come back free"; "takes a free lock", "gives it back".
 unfoldable pub effect : Call → Board → Board
-effect (FormatStart l w) b = stated (started Formatting l w) b
-effect RecoveryStart b = cached (b .memory) (started Recovering (linesOf (b .memory)) (workersOf (b .memory))) b
+effect (FormatStart l w) b = stated (started Formatting (shaped l) w) b
+effect RecoveryStart b = cached (b .memory) (started Recovering (shapeIn (b .memory)) (workersOf (b .memory))) b
 effect Step b = step (b .state .phase) (b .state) b
 effect (Update w c v) b = noted w c v b
 effect (RestartPoint w v) b = noted w w v b

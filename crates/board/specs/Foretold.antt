@@ -5,7 +5,7 @@ use mathlib.Core.Logic.{_↔_}
 use mathlib.Core.List.{List, [], _∷_, _++_, map}
 use mathlib.Core.Bool.{Bool, true, false, cond, _||_}
 use lib.ListN.{length, getD}
-use Rattle.bitset.specs.Passing.{countUnder}
+use Rattle.predicate.specs.Passing.{countUnder, numbersUnder, passing}
 use Rattle.bitset.specs.Words.{capacity, contains, size, strays}
 use Rattle.board.specs.declared.State.{State}
 use Rattle.board.specs.declared.Call.{Call}
@@ -17,7 +17,7 @@ use Rattle.board.specs.State.{conditionOf, isRunning, dirtyCount}
 use Rattle.board.specs.Causes.{badRecord}
 use Rattle.board.specs.Effects.{writtenBack}
 use Rattle.board.specs.Next.{Taken, next, Performed, kind, isStart, isStep}
-use Rattle.board.specs.Page.{PagePerformed, numbersUnder}
+use Rattle.board.specs.Page.{PagePerformed}
 use Rattle.board.specs.Machine.{markedLine}
 use Rattle.board.specs.Sequence.{Run, History}
 use Rattle.board.specs.Statements.{AllWaitOrAway}
@@ -38,8 +38,8 @@ MarkSets =
 abbrev pub DirtyLines : Type 0
 DirtyLines =
     (r : Run) → History r → r .crashed ≡ false → isRunning (r .board .state .phase) ≡ true →
-    ((i : ℕ) → suc i ≤ r .machine .lines → contains (r .board .state .dirty) (suc i) ≡ markedLine (r .machine) i)
-    × ((l : ℕ) → contains (r .board .state .dirty) l ≡ true → (1 ≤ l) × (l ≤ r .machine .lines))
+    ((i : ℕ) → suc i ≤ r .machine .shape .lines → contains (r .board .state .dirty) (suc i) ≡ markedLine (r .machine) i)
+    × ((l : ℕ) → contains (r .board .state .dirty) l ≡ true → (1 ≤ l) × (l ≤ r .machine .shape .lines))
 
 -- "A bit set for line 0 or past L": of eight words of 64 bits no bit strays exactly where each that is set is one of lines 1 to L.
 abbrev pub StrayBits : Type 0
@@ -126,11 +126,6 @@ StepsWrite (steps p on rest) [] = ⊥
 StepsWrite (steps {b = b} {d = d} p on rest) (w ∷ ws) = Wrote w b d × StepsWrite rest ws
 StepsWrite (between k p a rest) ws = StepsWrite rest ws
 StepsWrite (paged text left p rest) ws = StepsWrite rest ws
-
--- The numbers of a list that pass the test, in their order.
-unfoldable pub passing : (ℕ → Bool) → List ℕ → List ℕ
-passing test [] = []
-passing test (i ∷ is) = cond (test i) (i ∷ passing test is) (passing test is)
 
 -- The dirty lines, rising.
 abbrev pub risingLines : State → List ℕ

@@ -4,10 +4,12 @@ use mathlib.Core.Path.{_≡_}
 use Rattle.board.specs.declared.Condition.the-variants.{Updating}
 use Rattle.board.specs.declared.Store.the-variants.{Record}
 use Rattle.board.specs.declared.Call.the-variants.{RecoveryStart, Update}
-use Rattle.board.specs.Board.{Board, epochOf, linesOf}
+use Rattle.board.specs.Board.{Board, shapeIn, epochOf}
 use Rattle.board.specs.State.{conditionOf}
 use Rattle.board.specs.Causes.{cause}
-use Rattle.board.specs.Effects.{undo, effect}
+use Rattle.board.specs.Location as locations
+use Rattle.board.specs.Location.{undo}
+use Rattle.board.specs.Effects.{effect}
 use Rattle.board.specs.Next.{Taken, next}
 use Rattle.board.specs.Machine.{update, recoveryBeginning, feed}
 use Rattle.board.specs.Sequence.{Run, opening, takenCall, Happens}
@@ -20,7 +22,7 @@ pub data Leads (r : Run) : Run → Type 0 where
 
 -- The run that would begin if recovery's start did not look at the marks.
 abbrev pub unguarded : Board → Run
-unguarded b = opening (effect RecoveryStart b) (recoveryBeginning (linesOf (b .memory)) (undo (b .memory)))
+unguarded b = opening (effect RecoveryStart b) (recoveryBeginning (shapeIn (b .memory)) (undo (b .memory)))
 
 -- "One swapped module had cells marked later than its header's epoch; one checkpoint on, their updates go unlogged": a finished recovery then reads what no checkpoint held.
 pub record LaterMark : Type 0 where
@@ -35,7 +37,7 @@ pub record LaterMark : Type 0 where
   pub cell : ℕ
   pub value : ℕ
   pub begun : Taken (Update 0 cell value) (later .board)
-  pub due : feed (Update 0 cell value) (later .machine) .unfinished 0 ≡ update cell value 3
+  pub due : feed (Update 0 cell value) (later .machine) .unfinished 0 ≡ update (locations.cell cell) value 3
   pub unlogged : conditionOf (next (Update 0 cell value) (later .board) .state) 0 ≡ Updating Record cell value
   -- after it a finished recovery does not read the last checkpoint
   pub run : Run

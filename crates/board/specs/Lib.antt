@@ -1,6 +1,8 @@
 -- The definitions of document 01, in its order. A reader in a hurry starts at `Statements` and goes down from there.
 pub mod Board
+pub mod Location
 pub mod State
+pub mod Checkpoint
 pub mod Causes
 pub mod Effects
 pub mod Next

@@ -1,17 +1,18 @@
 -- Document 02, ticket 1, "A page of cells for the van": the page's text, why a page is turned down, and what the call leaves.
-use Prim.Native.Nat.{ℕ, zero, suc, _+_, _*_}
+use Prim.Native.Nat.{ℕ, _+_, _*_}
 use mathlib.Core.Path.{_≡_}
 use mathlib.Core.List.{List, [], _∷_, _++_, map, flatten}
 use mathlib.Core.Bool.{Bool, cond, _&&_, _||_}
 use lib.Dec.{ltb, eqb}
 use lib.ListN.{length}
+use Rattle.predicate.specs.Passing.{numbersUnder}
 use Rattle.text.specs.Ascii.{blank, feed}
 use Rattle.text.specs.Numbers.{numberText}
 use Rattle.text.specs.Writing.{put, aligned}
 use Rattle.line.specs.declared.Field.{Field}
 use Rattle.line.specs.Cell.{fieldOf}
-use Rattle.board.specs.Board.{Board, cells}
-use Rattle.board.specs.Causes.{Cause, row, notRunning, badRecord, badRows, firstStanding}
+use Rattle.board.specs.Board.{Board, Shape, shapeOf, cells}
+use Rattle.board.specs.Causes.{Cause, check, guarded, notRunning, firstStanding}
 
 -- ---- the page's lines
 
@@ -51,11 +52,6 @@ unfoldable pub ordered : (ℕ → ℕ → Bool) → List ℕ → List ℕ
 ordered goesBefore [] = []
 ordered goesBefore (a ∷ rest) = inserted goesBefore a (ordered goesBefore rest)
 
--- The numbers below `n`, rising.
-unfoldable pub numbersUnder : ℕ → List ℕ
-numbersUnder zero = []
-numbersUnder (suc n) = numbersUnder n ++ (n ∷ [])
-
 -- The cells below `n` as their lines stand on the page.
 abbrev pub cellOrder : List ℕ → ℕ → List ℕ
 cellOrder cache n = ordered (before cache) (numbersUnder n)
@@ -71,17 +67,15 @@ abbrev pub lineBytes : ℕ
 lineBytes = 4 + 1 + 20 + 1 + 20 + 1 + 20 + 1
 
 -- The bytes of a page of a board with L lines.
-abbrev pub pageBytes : ℕ → ℕ
-pageBytes l = lineBytes * (cells l + 1)
+abbrev pub pageBytes : Shape → ℕ
+pageBytes σ = lineBytes * (cells σ + 1)
 
 -- "12 where the row is too short, checked last": what can turn a page down; "All else needs running".
 unfoldable pub pageCauses : Board → List ℕ → List Cause
 pageCauses b text =
-    row 2 (notRunning b)
-    ∷ row 3 (badRecord (b .state))
-    ∷ row 4 (badRows (b .state .lines) b)
-    ∷ row 12 (ltb (length text) (pageBytes (b .state .lines)))
-    ∷ []
+    guarded (notRunning b) b
+    (check 12 (ltb (length text) (pageBytes (shapeOf (b .state))))
+    ∷ [])
 
 -- The number that a page returns.
 unfoldable pub pageCause : Board → List ℕ → ℕ
@@ -89,7 +83,7 @@ pageCause b text = firstStanding (pageCauses b text)
 
 -- The text row that a page leaves: the page at its front, all as it was where the page is refused.
 unfoldable pub pageLeft : Board → List ℕ → List ℕ
-pageLeft b text = cond (eqb (pageCause b text) 0) (put text 0 (pageText (b .cache) (cells (b .state .lines)))) text
+pageLeft b text = cond (eqb (pageCause b text) 0) (put text 0 (pageText (b .cache) (cells (shapeOf (b .state))))) text
 
 -- The complete outcome of a page: number, state, each lent word and each byte of the text row.
 pub record PageOutcome : Type 0 where

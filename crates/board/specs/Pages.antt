@@ -7,7 +7,7 @@ use lib.Dec.{eqb}
 use lib.ListN.{replicate}
 use Rattle.text.specs.Ascii.{blank, feed}
 use Rattle.board.specs.declared.Phase.the-variants.{Running}
-use Rattle.board.specs.Board.{Board, headerWords}
+use Rattle.board.specs.Board.{Board, shaped, headerWords}
 use Rattle.board.specs.State.{started}
 use Rattle.board.specs.Page.{pageText, pageCause, pageLeft}
 use Rattle.board.specs.Bench.{same}
@@ -18,8 +18,8 @@ use Rattle.board.specs.Refusals.Boards.{sound, shortCache, straying, mis
 -- L = 2, W = 1, in epoch 2: cells 0 and 2 are marked with epoch 1, cells 1 and 3 with epoch 2.
 abbrev pub workedBoard : Board
 workedBoard =
-    let cache = headerWords 2 2 1 ++ (10 ∷ 0 ∷ 1 ∷ 99 ∷ 0 ∷ 2 ∷ 0 ∷ 0 ∷ []) ++ (100 ∷ 0 ∷ 1 ∷ 7 ∷ (2 ^ 64 - 1) ∷ 2 ∷ 0 ∷ 0 ∷ []) in
-    record { state = started Running 2 1; memory = cache; cache = cache }
+    let cache = headerWords 2 (shaped 2) 1 ++ (10 ∷ 0 ∷ 1 ∷ 99 ∷ 0 ∷ 2 ∷ 0 ∷ 0 ∷ []) ++ (100 ∷ 0 ∷ 1 ∷ 7 ∷ (2 ^ 64 - 1) ∷ 2 ∷ 0 ∷ 0 ∷ []) in
+    record { state = started Running (shaped 2) 1; memory = cache; cache = cache }
 
 -- Its page, as the second program prints it.
 abbrev pub workedLines : List (List ℕ)

@@ -8,8 +8,8 @@ use lib.ListN.{length}
 use Rattle.board.specs.declared.State.{State}
 use Rattle.board.specs.declared.Call.{Call}
 use Rattle.board.specs.declared.Call.the-variants.{FormatStart, RecoveryStart, Step}
-use Rattle.board.specs.Board.{Board, cells, epochOf, linesOf}
-use Rattle.board.specs.Effects.{logged, undo}
+use Rattle.board.specs.Board.{Board, Shape, shaped, shapeIn, epochOf}
+use Rattle.board.specs.Location.{Location, undo, stops, stopAt, undoes}
 use Rattle.board.specs.Next.{kind, isStart, isStep, Performed}
 use Rattle.board.specs.Page.{PagePerformed}
 use Rattle.board.specs.Machine.{Machine, beginning, recoveryBeginning, feed, formatSteps, finishesFormat}
@@ -26,8 +26,8 @@ pub data Takes : ℕ → Board → Board → Type 0 where
 -- "A sequence begins with state and rows as a finished format left them, whatever they were before its start"; 02, ticket 4: or as a recovery's start left them that took the memory,
 -- whatever memory, state and cache were: there the machine begins with the undo of that memory.
 pub data Begins : Board → Machine → Type 0 where
-  formatted : (l w value : ℕ) (b d b′ : Board) → Performed (FormatStart l w) b 0 value d → Takes (formatSteps l) d b′ → Begins b′ (beginning l)
-  recoveryStarted : (value : ℕ) (b b′ : Board) → Performed RecoveryStart b 0 value b′ → Begins b′ (recoveryBeginning (linesOf (b .memory)) (undo (b .memory)))
+  formatted : (l w value : ℕ) (b d b′ : Board) → Performed (FormatStart l w) b 0 value d → Takes (formatSteps l) d b′ → Begins b′ (beginning (shaped l))
+  recoveryStarted : (value : ℕ) (b b′ : Board) → Performed RecoveryStart b 0 value b′ → Begins b′ (recoveryBeginning (shapeIn (b .memory)) (undo (b .memory)))
 
 -- ---- what can happen
 
@@ -90,17 +90,17 @@ abbrev pub rose : Run → Run → Bool
 rose r r′ = eqb (epochOf (r′ .board .memory)) (epochOf (r .board .memory) + 1)
 
 -- "the last checkpoint that board completed": the current values where memory's epoch last rose.
-unfoldable pub lastCheckpoint : {r : Run} → History r → ℕ → ℕ
+unfoldable pub lastCheckpoint : {r : Run} → History r → Location → ℕ
 lastCheckpoint (begun {m = m} h) = m .current
 lastCheckpoint (further {r = r} {r′ = r′} h e) = cond (rose r r′) (r′ .machine .current) (lastCheckpoint h)
 
 -- ---- a finished recovery
 
--- "a cell whose mark equals the epoch takes three steps, any other one": the steps for the cells under `n`.
-unfoldable pub undoSteps : List ℕ → ℕ → ℕ
-undoSteps row zero = 0
-undoSteps row (suc c) = undoSteps row c + cond (logged row c) 3 1
+-- "a cell whose mark equals the epoch takes three steps, any other one": the steps for a recovery's stops under `n`.
+unfoldable pub undoSteps : Shape → List ℕ → ℕ → ℕ
+undoSteps σ row zero = 0
+undoSteps σ row (suc n) = undoSteps σ row n + cond (undoes row (stopAt σ n)) 3 1
 
 -- "all steps that memory at its taken start calls for".
 abbrev pub recoverySteps : List ℕ → ℕ
-recoverySteps row = undoSteps row (cells (linesOf row))
+recoverySteps row = undoSteps (shapeIn row) row (stops (shapeIn row))

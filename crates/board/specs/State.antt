@@ -4,7 +4,7 @@ use mathlib.Core.List.{List, [], _∷_}
 use mathlib.Core.Bool.{Bool, true, false, not, _&&_}
 use lib.Dec.{leb, ltb, eqb}
 use lib.ListN.{getD, set, replicate}
-unfoldable pub use Rattle.bitset.specs.Passing.{anyUnder}
+unfoldable pub use Rattle.predicate.specs.Passing.{anyUnder}
 use Rattle.bitset.specs.Words.{empty, inserted, size}
 use Rattle.locks.specs.Holders.{lockCount, allUnheld}
 use Rattle.board.specs.declared.State.{State}
@@ -15,6 +15,7 @@ use Rattle.board.specs.declared.UndoStep.{UndoStep}
 use Rattle.board.specs.declared.UndoStep.the-variants.{Restore}
 use Rattle.board.specs.declared.Phase.{Phase}
 use Rattle.board.specs.declared.Phase.the-variants.{Off, Formatting, Recovering, Running}
+use Rattle.board.specs.Board.{Shape}
 
 -- ---- workers
 
@@ -123,9 +124,9 @@ isRecovering Running = false
 -- ---- the records that steps leave
 
 -- "Each of the two starts sets every field": its phase, L and W, no line dirty, the place at its beginning, no request, all free; 02, ticket 6: "Both starts free all locks."
-abbrev pub started : Phase → ℕ → ℕ → State
-started phase l w =
-    record { phase = phase; lines = l; workers = w; place = 0; undo = Restore; requested = false; holders = allUnheld; dirty = empty; worker = allFree }
+abbrev pub started : Phase → Shape → ℕ → State
+started phase σ w =
+    record { phase = phase; lines = σ .lines; workers = w; place = 0; undo = Restore; requested = false; holders = allUnheld; dirty = empty; worker = allFree }
 
 -- The record with the place, and a recovery's step there, put anew.
 abbrev pub placed : State → ℕ → UndoStep → State

@@ -12,10 +12,11 @@ use Rattle.board.specs.declared.Call.{Call}
 use Rattle.board.specs.declared.Condition.the-variants.{Free, Waiting, Away}
 use Rattle.board.specs.declared.Call.the-variants.{FormatStart, RecoveryStart, Step, Update, RestartPoint, Advance, Request, Read, GoAway, ComeBack}
 use Rattle.board.specs.declared.Phase.{Phase}
-use Rattle.board.specs.Board.{Board, cells, epochOf, linesOf, workersOf, lastEpoch}
+use Rattle.board.specs.Board.{Board, Shape, shaped, shapeOf, shapeIn, cellLines, cells, epochOf, linesOf, workersOf, lastEpoch}
 use Rattle.locks.specs.Holders.{holds}
 use Rattle.board.specs.State.{conditionOf, isFree, isWaiting, isFormatting, isRunning, dirtyCount}
-use Rattle.board.specs.Effects.{undo, writtenBack}
+use Rattle.board.specs.Location.{Location, cell, Has, undo}
+use Rattle.board.specs.Effects.{writtenBack}
 use Rattle.board.specs.Next.{Taken, next, Kind, startsFormat, startsRecovery, stepping, writing, counting, other, reading, kind, isStep, Performed}
 use Rattle.board.specs.Machine.{Machine, beginning, recoveryBeginning, formatSteps}
 use Rattle.board.specs.Sequence.{Takes, Begins, Run, called, cutRun, KeepsLength, Happens, performs, pages, cuts, History, begun, further, lastCheckpoint, recoverySteps}
@@ -26,15 +27,15 @@ use Rattle.board.specs.Sequence.{Takes, Begins, Run, called, cutRun, Kee
 abbrev pub Reads : Type 0
 Reads =
     (r : Run) → History r → r .crashed ≡ false →
-    (c value : ℕ) (b : Board) → Performed (Read c) (r .board) 0 value b → value ≡ r .machine .current c
+    (c value : ℕ) (b : Board) → Performed (Read c) (r .board) 0 value b → value ≡ r .machine .current (cell c)
 
 -- ---- 2. recovery
 
 -- Every cell's read on board `b` returns 0 and gives the value checkpointed in machine `m`.
 abbrev pub ReadsCheckpointed : Machine → Board → Type 0
 ReadsCheckpointed m b =
-    (c : ℕ) → c < cells (b .state .lines) →
-    (number value : ℕ) (b′ : Board) → Performed (Read c) b number value b′ → (number ≡ 0) × (value ≡ m .checkpointed c)
+    (c : ℕ) → c < cells (shapeOf (b .state)) →
+    (number value : ℕ) (b′ : Board) → Performed (Read c) b number value b′ → (number ≡ 0) × (value ≡ m .checkpointed (cell c))
 
 -- The board `b` is what a finished recovery left that was started in run `r`: its start returned 0, and so did all steps that memory called for, other calls among them.
 pub record Recovered (r : Run) (b : Board) : Type 0 where
@@ -57,8 +58,8 @@ pub record CutAndRecovered (r : Run) (b : Board) : Type 0 where
 -- A cell reads alike on two boards exactly when the values checkpointed in their machines are equal.
 abbrev pub ReadAlike : Machine → Board → Machine → Board → Type 0
 ReadAlike m b n d =
-    (c : ℕ) → c < cells (b .state .lines) →
-    (p q v u : ℕ) (b′ d′ : Board) → Performed (Read c) b p v b′ → Performed (Read c) d q u d′ → (v ≡ u) ↔ (m .checkpointed c ≡ n .checkpointed c)
+    (c : ℕ) → c < cells (shapeOf (b .state)) →
+    (p q v u : ℕ) (b′ d′ : Board) → Performed (Read c) b p v b′ → Performed (Read c) d q u d′ → (v ≡ u) ↔ (m .checkpointed (cell c) ≡ n .checkpointed (cell c))
 
 -- DEMAND 3: two boards, each begun by a finished format or by a recovery's start that took its memory, with any history of calls and cuts, one more cut and a finished recovery. Then every cell reads what
 -- the simple machine held at the last completed checkpoint; and where the boards are of one size, a cell reads alike exactly when those values are equal.
@@ -70,11 +71,11 @@ Demand3 =
 
 -- The values checkpointed in the machine are the current ones where memory's epoch last rose.
 abbrev pub LastCheckpoint : Type 0
-LastCheckpoint = (r : Run) (h : History r) (c : ℕ) → c < cells (r .machine .lines) → lastCheckpoint h c ≡ r .machine .checkpointed c
+LastCheckpoint = (r : Run) (h : History r) (u : Location) → Has (r .machine .shape) u → lastCheckpoint h u ≡ r .machine .checkpointed u
 
 -- The L of board and machine is the header's, and so are the state record's L and W, from a start on and up to the next cut, unless a format has begun to erase.
 pub record OwnSizes (r : Run) : Type 0 where
-  pub header : linesOf (r .board .memory) ≡ r .machine .lines
+  pub header : linesOf (r .board .memory) ≡ r .machine .shape .lines
   pub lines : r .crashed ≡ false → isFormatting (r .board .state .phase) ≡ false → r .board .state .lines ≡ linesOf (r .board .memory)
   pub workers : r .crashed ≡ false → isFormatting (r .board .state .phase) ≡ false → r .board .state .workers ≡ workersOf (r .board .memory)
 
@@ -95,50 +96,50 @@ formatStepIn (pages text left number b p) = false
 formatStepIn (cuts s cache p) = false
 
 -- Words 6 and 7 of every cell line of a row are the given ones.
-abbrev pub Spare : ℕ → (ℕ → ℕ) → List ℕ → Type 0
-Spare lines given row = (l k : ℕ) → 1 ≤ l → l ≤ lines → 6 ≤ k → k < 8 → getD row (lineStart l + k) 0 ≡ given (lineStart l + k)
+abbrev pub Spare : Shape → (ℕ → ℕ) → List ℕ → Type 0
+Spare σ given row = (l k : ℕ) → 1 ≤ l → l ≤ cellLines σ → 6 ≤ k → k < 8 → getD row (lineStart l + k) 0 ≡ given (lineStart l + k)
 
 -- They are the same in two rows.
-abbrev pub SameSpare : ℕ → List ℕ → List ℕ → Type 0
-SameSpare lines row row′ = Spare lines (λ i. getD row i 0) row′
+abbrev pub SameSpare : Shape → List ℕ → List ℕ → Type 0
+SameSpare σ row row′ = Spare σ (λ i. getD row i 0) row′
 
 -- The board keeps its size, L and every header word in memory but the epoch, and words 6 and 7 of memory's cell lines.
 pub record SameBoard (r r′ : Run) : Type 0 where
-  pub lines : r′ .machine .lines ≡ r .machine .lines
+  pub shape : r′ .machine .shape ≡ r .machine .shape
   pub header : (k : ℕ) → 0 < k → k < 8 → getD (r′ .board .memory) k 0 ≡ getD (r .board .memory) k 0
-  pub spare : SameSpare (r .machine .lines) (r .board .memory) (r′ .board .memory)
+  pub spare : SameSpare (r .machine .shape) (r .board .memory) (r′ .board .memory)
 
 -- Neither memory's epoch nor any checkpointed value has changed.
 pub record Unchanged (r r′ : Run) : Type 0 where
   pub board : SameBoard r r′
   pub epoch : epochOf (r′ .board .memory) ≡ epochOf (r .board .memory)
-  pub values : (c : ℕ) → c < cells (r .machine .lines) → r′ .machine .checkpointed c ≡ r .machine .checkpointed c
+  pub values : (u : Location) → Has (r .machine .shape) u → r′ .machine .checkpointed u ≡ r .machine .checkpointed u
 
 -- Memory has the next epoch, and the checkpointed values are the current ones, which stay.
 pub record Completed (r r′ : Run) : Type 0 where
   pub board : SameBoard r r′
   pub epoch : epochOf (r′ .board .memory) ≡ epochOf (r .board .memory) + 1
-  pub values : (c : ℕ) → c < cells (r .machine .lines) → r′ .machine .checkpointed c ≡ r .machine .current c
-  pub current : (c : ℕ) → c < cells (r .machine .lines) → r′ .machine .current c ≡ r .machine .current c
+  pub values : (u : Location) → Has (r .machine .shape) u → r′ .machine .checkpointed u ≡ r .machine .current u
+  pub current : (u : Location) → Has (r .machine .shape) u → r′ .machine .current u ≡ r .machine .current u
 
 -- A format's step leaves words 6 and 7 of memory's cell lines, but that those of the line at its place become 0.
 abbrev pub ErasedSpare : Run → Run → Type 0
-ErasedSpare r r′ = Spare (r .machine .lines) (λ i. cond (eqb (i / 8) (r .board .state .place)) 0 (getD (r .board .memory) i 0)) (r′ .board .memory)
+ErasedSpare r r′ = Spare (r .machine .shape) (λ i. cond (eqb (i / 8) (r .board .state .place)) 0 (getD (r .board .memory) i 0)) (r′ .board .memory)
 
 -- A format's step that is not its last: memory's epoch is 0 from then on, and the machine keeps its values.
 pub record Erasing (r r′ : Run) : Type 0 where
-  pub lines : r′ .machine .lines ≡ r .machine .lines
+  pub shape : r′ .machine .shape ≡ r .machine .shape
   pub epoch : epochOf (r′ .board .memory) ≡ 0
-  pub values : (c : ℕ) → c < cells (r .machine .lines) → r′ .machine .checkpointed c ≡ r .machine .checkpointed c
+  pub values : (u : Location) → Has (r .machine .shape) u → r′ .machine .checkpointed u ≡ r .machine .checkpointed u
   pub spare : ErasedSpare r r′
 
 -- A format's last step: memory's epoch is 1, and all values are 0.
 pub record Formatted (r r′ : Run) : Type 0 where
-  pub lines : r′ .machine .lines ≡ r .machine .lines
+  pub shape : r′ .machine .shape ≡ r .machine .shape
   pub before : epochOf (r .board .memory) ≡ 0
   pub epoch : epochOf (r′ .board .memory) ≡ 1
-  pub values : (c : ℕ) → r′ .machine .checkpointed c ≡ 0
-  pub current : (c : ℕ) → r′ .machine .current c ≡ 0
+  pub values : (u : Location) → r′ .machine .checkpointed u ≡ 0
+  pub current : (u : Location) → r′ .machine .current u ≡ 0
   pub spare : ErasedSpare r r′
 
 -- What becomes of the last checkpoint, by whether a format's step happens.
@@ -224,8 +225,8 @@ RequestAnswers =
 -- There are both beginnings: where a format's start is taken there is a finished format, and where a recovery's is taken a history begins at once.
 abbrev pub HistoryBegins : Type 0
 HistoryBegins =
-    ((l w : ℕ) (b : Board) → Taken (FormatStart l w) b → (b′ : Board) × Begins b′ (beginning l))
-    × ((b : Board) → Taken RecoveryStart b → Begins (next RecoveryStart b) (recoveryBeginning (linesOf (b .memory)) (undo (b .memory))))
+    ((l w : ℕ) (b : Board) → Taken (FormatStart l w) b → (b′ : Board) × Begins b′ (beginning (shaped l)))
+    × ((b : Board) → Taken RecoveryStart b → Begins (next RecoveryStart b) (recoveryBeginning (shapeIn (b .memory)) (undo (b .memory))))
 
 -- After any history there is a finished recovery, unless a format took its first step and none has finished since.
 abbrev pub HasRecovery : Type 0
@@ -246,7 +247,7 @@ abbrev pub UpdateEnds : Type 0
 UpdateEnds =
     (r : Run) → History r → r .crashed ≡ false →
     (w c v : ℕ) (k : Call) → Starts w c v k → (value : ℕ) (b : Board) → Performed k (r .board) 0 value b →
-    (b′ : Board) × (Advances w (cond (r .machine .marked c) 1 3) b b′ × (isFree (conditionOf (b′ .state) w) || isWaiting (conditionOf (b′ .state) w) ≡ true) × Performed (Read c) b′ 0 v b′)
+    (b′ : Board) × (Advances w (cond (r .machine .marked (cell c)) 1 3) b b′ × (isFree (conditionOf (b′ .state) w) || isWaiting (conditionOf (b′ .state) w) ≡ true) × Performed (Read c) b′ 0 v b′)
 
 -- ---- 5. single stores
 
@@ -278,10 +279,10 @@ asBegun (further {r = r} h e) i = cond (formatStepIn e && eqb (i / 8) (r .board 
 -- "Words 6 and 7 are never changed": in memory always, in the cache while recovering or running.
 abbrev pub SpareWords : Type 0
 SpareWords =
-    (r : Run) (h : History r) → Spare (r .machine .lines) (asBegun h) (r .board .memory) ×
-    (r .crashed ≡ false → isFormatting (r .board .state .phase) ≡ false → Spare (r .machine .lines) (asBegun h) (r .board .cache))
+    (r : Run) (h : History r) → Spare (r .machine .shape) (asBegun h) (r .board .memory) ×
+    (r .crashed ≡ false → isFormatting (r .board .state .phase) ≡ false → Spare (r .machine .shape) (asBegun h) (r .board .cache))
 
 -- After a finished format they are 0.
 abbrev pub FormatSpare : Type 0
 FormatSpare =
-    (l w value : ℕ) (b d b′ : Board) → Performed (FormatStart l w) b 0 value d → Takes (formatSteps l) d b′ → Spare l (λ i. 0) (b′ .memory) × Spare l (λ i. 0) (b′ .cache)
+    (l w value : ℕ) (b d b′ : Board) → Performed (FormatStart l w) b 0 value d → Takes (formatSteps l) d b′ → Spare (shaped l) (λ i. 0) (b′ .memory) × Spare (shaped l) (λ i. 0) (b′ .cache)

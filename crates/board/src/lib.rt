@@ -1,6 +1,6 @@
 // The declared types of the board: its state record and the calls that a host can make (document 01).
 ghost use mathlib.Core.Path.{_≡_};
-ghost use Rattle.board.specs.Board.{cells, rowWords};
+ghost use Rattle.board.specs.Board.{shaped, cells, rowWords};
 ghost use Rattle.board.specs.Page.{pageBytes};
 
 // What the board is doing.
@@ -76,7 +76,7 @@ pub enum Call {
 
 // "Lines 1 to L hold two cells each": the number of cells.
 pub fn cells(lines: u16) -> u64
-    ensures { λ r. ⌜ r ≡ cells lines ⌝ }
+    ensures { λ r. ⌜ r ≡ cells (shaped lines) ⌝ }
 {
     2 * (lines as u64)
 }
@@ -90,7 +90,7 @@ pub fn row_words(lines: u16) -> usize
 
 // The bytes of a page: a heading and a line for each cell, 68 bytes each.
 pub fn page_bytes(lines: u16) -> usize
-    ensures { λ r. ⌜ r ≡ pageBytes lines ⌝ }
+    ensures { λ r. ⌜ r ≡ pageBytes (shaped lines) ⌝ }
 {
     68 * (cells(lines) as usize + 1)
 }

@@ -6,7 +6,7 @@ use lib.ListN.{length}
 use Rattle.board.specs.declared.Call.the-variants.{RecoveryStart}
 use Rattle.board.specs.Board.{Board, rowWords, epochOf, linesOf, workersOf}
 use Rattle.board.specs.Causes.{cause, causes, firstStanding, badRecoveryRows, badHeader, laterMark}
-use Rattle.board.proofs.Laws.Bools.{or-left, or-right, passedOver}
+use Rattle.predicate.proofs.Bools.{or-left, or-right, passedOver}
 use Rattle.board.proofs.Laws.Taken.{lines-in, workers-in}
 use Rattle.board.proofs.Recovery.Board.{header-passed, rows-passed}
 

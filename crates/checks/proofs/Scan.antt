@@ -8,7 +8,7 @@ use mathlib.Core.List.{List, map}
 use lib.Dec.{leb, ltb, eqb}
 use lib.ListN.{length, length-map}
 use borrow.Author.Tests.{le-ltb, lt-ltb}
-use Rattle.bitset.specs.Passing.{anyUnder}
+use Rattle.predicate.specs.Passing.{anyUnder}
 use Rattle.bitset.specs.Words.{strays}
 use Rattle.locks.specs.Holders.{heldFrom}
 use Rattle.board.specs.declared.State.{State}
@@ -19,7 +19,8 @@ use Rattle.board.specs.declared.Condition.the-variants.{Free, Waiting, Updating
 use Rattle.board.specs.Board.{cells, outside}
 use Rattle.board.specs.State.{anyWorker, conditionOf, quiescent, isRunning, updates, othersUpdate}
 use Rattle.board.specs.Causes.{placePast, badRecord, notReady}
-use Rattle.board.proofs.Laws.Bools.{and-off, and-left, and-right, and-not, or-right, not-of, none-under, under-none}
+use Rattle.predicate.proofs.Bools.{and-off, and-left, and-right, and-not, or-right, not-of}
+use Rattle.predicate.proofs.Passing.{none-under, under-none}
 use Rattle.checks.specs.declared.workers.Sought.{Sought}
 use Rattle.checks.specs.declared.workers.Sought.the-variants.{UpdateOf}
 use Rattle.checks.specs.Sought.{soughtIn, soughtAt}

@@ -6,9 +6,9 @@ use lib.Dec.{ltb}
 use borrow.Author.Tests.{ltb-true, ltb-false, lt-ltb, le-ltb}
 use native.Mathlib.Omega.{arith}
 use native.Mathlib.Numerals.{add-one}
-use Rattle.bitset.specs.Passing.{anyUnder}
+use Rattle.predicate.specs.Passing.{anyUnder}
 use Rattle.board.specs.Board.{cells}
-use Rattle.board.proofs.Laws.Bools.{split}
+use Rattle.predicate.proofs.Bools.{split}
 
 -- "W < 2L", halved.
 pub half-below : (w l : ℕ) → ltb (w / 2) l ≡ ltb w (cells l)

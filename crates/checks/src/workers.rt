@@ -5,7 +5,7 @@ use board::Worker;
 ghost use Prim.Native.Nat.{min};
 ghost use mathlib.Core.Path.{_≡_};
 ghost use lib.Dec.{leb, eqb};
-ghost use Rattle.bitset.specs.Passing.{anyUnder};
+ghost use Rattle.predicate.specs.Passing.{anyUnder};
 ghost use Rattle.board.specs.State.{conditionOf, isFree, isUpdating, isAway, quiescent, updates};
 ghost use Rattle.checks.specs.Sought.{soughtIn, soughtAt};
 

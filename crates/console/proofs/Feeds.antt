@@ -9,7 +9,7 @@ use lib.ListN.{length, take, drop, getD, length-drop, drop-of-length-le}
 use lib.Seq.{drop-cons, drop-drop, drop-length, length-take-le, take-all, take-append-add, take-length}
 use borrow.Author.Tests.{eq-eqb, ne-eqb}
 use borrow.Rule.Slice.PartMut.{midOf, putMid}
-use Rattle.board.proofs.Laws.Bools.{clash, and-left, and-right, not-of}
+use Rattle.predicate.proofs.Bools.{clash, and-left, and-right, not-of}
 use Rattle.bytes.specs.Bytes.{indexOf, indexAfter}
 use Rattle.text.specs.Ascii.{feed}
 use Rattle.text.specs.Writing.{put}

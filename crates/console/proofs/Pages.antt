@@ -10,7 +10,7 @@ use borrow.Author.Tests.{eq-eqb, ne-eqb, le-ltb}
 use Rattle.board.specs.Board.{Board, cells, outside}
 use Rattle.board.specs.Causes.{row, badRecord, badRows, notRunning, firstStanding}
 use Rattle.board.specs.Page.{pageText, pageBytes, pageCauses, pageCause, pageLeft, PageOutcome, PagePerformed}
-use Rattle.board.proofs.Laws.Bools.{chosen, passedOver, clash, or-left}
+use Rattle.predicate.proofs.Bools.{chosen, passedOver, clash, or-left}
 use Rattle.board.proofs.Laws.Taken.{numbered, Clear, first-clear}
 use Rattle.text.proofs.Writing.{put-front}
 use Rattle.page.specs.Statements.{Words}

@@ -4,7 +4,7 @@ use mathlib.Core.Path.{_≡_, refl}
 use mathlib.Core.List.{List, [], _∷_, _++_, flatten}
 use Rattle.line.specs.Line.{lineOf, withLine}
 use Rattle.line.specs.Cell.{fieldIndex, fieldOf, withField}
-use Rattle.bitset.specs.Passing.{anyUnder}
+use Rattle.predicate.specs.Passing.{anyUnder}
 use Rattle.bitset.specs.Words.{bitOf, withBit, contains, inserted, strays}
 use Rattle.locks.specs.Holders.{digitOf, unheld, holds, holdsAny, heldFrom, withDigit}
 use Rattle.board.specs.Causes.{badRecord, causes, firstStanding, cause}

@@ -7,7 +7,7 @@ use lib.Dec.{eqb}
 use lib.ListN.{length, take}
 use native.Mathlib.Omega.{arith}
 use borrow.Author.Tests.{ne-eqb}
-use Rattle.board.proofs.Laws.Bools.{passedOver}
+use Rattle.predicate.proofs.Bools.{passedOver}
 use Rattle.board.specs.Board.{Board}
 use Rattle.text.specs.Ascii.{feed}
 use Rattle.script.specs.Grammar.{joined, meaning}

@@ -4,7 +4,7 @@ use mathlib.Core.Path.{_≡_, sym, ap, _∙_}
 use mathlib.Core.Bool.{true}
 use lib.Dec.{leb}
 use borrow.Author.Tests.{leb-true}
-use Rattle.board.proofs.Laws.Bools.{and-left, and-right}
+use Rattle.predicate.proofs.Bools.{and-left, and-right}
 use Rattle.damage.specs.Damages.{roomFor}
 use Rattle.damage.specs.Record.{fieldFits, conditionFits}
 

@@ -10,7 +10,7 @@ use lib.Seq.{ext-getD}
 use borrow.Author.Tests.{leb-true, eqb-true, eqb-false, ne-eqb}
 use Rattle.locks.specs.Holders.{digitOf, heldBy, givenBack}
 use Rattle.locks.proofs.Holders.{digit-own, digit-other}
-use Rattle.board.proofs.Laws.Bools.{on, split, clash, and-left, and-right, chosen, passedOver}
+use Rattle.predicate.proofs.Bools.{on, split, clash, and-left, and-right, chosen, passedOver}
 use Rattle.damage.specs.Record.{phaseOf, undoOf, storeOf, fieldFits, withField, unused, conditionFits, conditionOf, withHolder}
 use Rattle.damage.specs.Checksum.{phaseNumber, undoNumber, storeNumber, requestNumber, holderNumber}
 use Rattle.damage.specs.Damages.{FieldsReadBack, WordsReadBack, WorkersReadBack, HoldersReadBack}

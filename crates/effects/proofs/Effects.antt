@@ -21,9 +21,11 @@ use Rattle.board.specs.declared.Condition.the-variants.{Updating}
 use Rattle.board.specs.declared.Phase.the-variants.{Recovering}
 use Rattle.board.specs.Board.{Board, cells, headerWords, zeroWords, epochOf, linesOf, workersOf}
 use Rattle.board.specs.State.{started, placed, opened, released, conditioned, dirtied, dirtyCount}
-use Rattle.board.specs.Effects.{Act, writeLine, storeEpoch, writeHeader, release, actAt, performAct, formatStep, logged, pastCell, recoveryStep, firstStore, noted, afterLast, advance}
+use Rattle.board.specs.Location
+use Rattle.board.specs.Location.{logged}
+use Rattle.board.specs.Effects.{Act, writeLine, storeEpoch, writeHeader, release, actAt, performAct, formatStep, pastStop, recoveryStep, firstStore, noted, afterLast, advance}
 use Rattle.board.specs.Next.{lent}
-use Rattle.board.proofs.Laws.Bools.{chosen, passedOver}
+use Rattle.predicate.proofs.Bools.{chosen, passedOver}
 
 -- A board with equal parts.
 pub same-board : {s s′ : State} {m m′ c c′ : List ℕ} → s ≡ s′ → m ≡ m′ → c ≡ c′ → lent s m c ≡ lent s′ m′ c′
@@ -57,25 +59,25 @@ pub restarts : {s′ : State} {l w : ℕ} (row : List ℕ) → l ≡ linesOf row
 restarts row p q e = e ∙ (λ i. started Recovering (p i) (q i))
 
 -- A cell's log, from the two words that are compared.
-pub same-log : {x e : ℕ} (row : List ℕ) (cell : ℕ) → x ≡ fieldOf row cell Field.Mark → e ≡ epochOf row → eqb x e ≡ logged row cell
+pub same-log : {x e : ℕ} (row : List ℕ) (cell : ℕ) → x ≡ fieldOf row cell Field.Mark → e ≡ epochOf row → eqb x e ≡ logged row (Location.cell cell)
 same-log row cell p q = λ i. eqb (p i) (q i)
 
 -- Past a cell there is another.
-pub next-cell : (s : State) {s′ : State} {n : ℕ} → n ≡ cells (s .lines) → s .place + 1 < n → s′ ≡ placed s (s .place + 1) Restore → s′ ≡ pastCell s
+pub next-cell : (s : State) {s′ : State} {n : ℕ} → n ≡ cells (s .lines) → s .place + 1 < n → s′ ≡ placed s (s .place + 1) Restore → s′ ≡ pastStop s
 next-cell s e h p = picked _ (sym (lt-ltb (s .place + 1) (cells (s .lines)) (omega arith))) refl p
 
 -- Past the last cell the board runs.
-pub last-cell : (s : State) {s′ : State} {n : ℕ} → n ≡ cells (s .lines) → n ≤ s .place + 1 → s′ ≡ opened s (s .dirty) → s′ ≡ pastCell s
+pub last-cell : (s : State) {s′ : State} {n : ℕ} → n ≡ cells (s .lines) → n ≤ s .place + 1 → s′ ≡ opened s (s .dirty) → s′ ≡ pastStop s
 last-cell s e h p = dropped _ (sym (le-ltb (s .place + 1) (cells (s .lines)) (omega arith))) refl p
 
 module _ (s : State) {s′ : State} (m c : List ℕ) where
   -- "record := backup".
-  pub restores : {c′ : List ℕ} {t : Bool} {v : ℕ} → t ≡ logged c (s .place) → t ≡ true → s′ ≡ placed s (s .place) Unmark → v ≡ fieldOf c (s .place) Field.Backup → c′ ≡ withField c (s .place) Field.Record v → lent s′ m c′ ≡ recoveryStep Restore s (lent s m c)
+  pub restores : {c′ : List ℕ} {t : Bool} {v : ℕ} → t ≡ logged c (Location.cell (s .place)) → t ≡ true → s′ ≡ placed s (s .place) Unmark → v ≡ fieldOf c (s .place) Field.Backup → c′ ≡ withField c (s .place) Field.Record v → lent s′ m c′ ≡ recoveryStep Restore s (lent s m c)
   unfolding recoveryStep
   restores p q r f g = picked _ p q (same-board r refl (g ∙ ap (withField c (s .place) Field.Record) f))
 
   -- "any other, one step that stores nothing".
-  pub passes : {t : Bool} → t ≡ logged c (s .place) → t ≡ false → s′ ≡ pastCell s → lent s′ m c ≡ recoveryStep Restore s (lent s m c)
+  pub passes : {t : Bool} → t ≡ logged c (Location.cell (s .place)) → t ≡ false → s′ ≡ pastStop s → lent s′ m c ≡ recoveryStep Restore s (lent s m c)
   unfolding recoveryStep
   passes p q r = dropped _ p q (same-board r refl refl)
 
@@ -85,7 +87,7 @@ module _ (s : State) {s′ : State} (m c : List ℕ) where
   unmarks p q = same-board p refl q
 
   -- "its line written back".
-  pub writes : {m′ : List ℕ} {l : ℕ} → l ≡ cellLine (s .place) → s′ ≡ pastCell s → m′ ≡ withLine m l (lineOf c l) → lent s′ m′ c ≡ recoveryStep WriteLine s (lent s m c)
+  pub writes : {m′ : List ℕ} {l : ℕ} → l ≡ cellLine (s .place) → s′ ≡ pastStop s → m′ ≡ withLine m l (lineOf c l) → lent s′ m′ c ≡ recoveryStep WriteLine s (lent s m c)
   unfolding recoveryStep
   writes e p q = same-board p (q ∙ ap (λ (l : ℕ). withLine m l (lineOf c l)) e) refl
 

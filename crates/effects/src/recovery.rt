@@ -3,7 +3,7 @@ ghost use mathlib.Core.Path.{_≡_};
 ghost use Prim.Native.Nat.{_≤_};
 ghost use Rattle.board.specs.Board.{linesOf, workersOf};
 ghost use Rattle.board.specs.State.{started};
-ghost use Rattle.board.specs.Effects.{pastCell, recoveryStep};
+ghost use Rattle.board.specs.Effects.{pastStop, recoveryStep};
 ghost use Rattle.board.specs.Next.{lent};
 ghost use Rattle.board.specs.declared.Phase.the-variants.{Recovering};
 ghost use Rattle.board.specs.declared.UndoStep.the-variants.{Restore};
@@ -35,7 +35,7 @@ pub fn restart(memory: &[u64], cache: &mut [u64]) -> State
 // "Then cells from 0 up .. After the last cell: running."
 fn past_cell(state: State) -> Progress
     requires { ⌜ state .lines ≤ 511 ⌝ }
-    ensures { λ r. ⌜ progressed state r ≡ pastCell state ⌝ }
+    ensures { λ r. ⌜ progressed state r ≡ pastStop state ⌝ }
 {
     let place = state.place as u64;
     if place + 1 < board::cells(state.lines) {

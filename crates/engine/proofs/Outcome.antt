@@ -12,7 +12,7 @@ use Rattle.board.specs.State.{dirtyCount}
 use Rattle.board.specs.Causes.{cause}
 use Rattle.board.specs.Effects.{effect}
 use Rattle.board.specs.Next.{Outcome, Performed, outcome, lent, taken, valueRead, valueCounted, stepsOf, valueOf, Taken}
-use Rattle.board.proofs.Laws.Bools.{chosen, passedOver}
+use Rattle.predicate.proofs.Bools.{chosen, passedOver}
 use Rattle.board.proofs.Laws.Taken.{taken-next, refused-next}
 use Rattle.effects.proofs.Effects.{same-board}
 

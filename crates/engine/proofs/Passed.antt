@@ -19,7 +19,7 @@ use Rattle.board.specs.declared.Call.{Call}
 use Rattle.board.specs.Board.{Board, cells, rowWords, linesOutside, workersOutside, epochOf, lastEpoch}
 use Rattle.board.specs.State.{conditionOf, isRunning, quiescent, updates, anyWorker, dirtyCount}
 use Rattle.board.specs.Causes.{causes, badRecord, badRows, placePast, noWorker, checkpointing, epochSpent}
-use Rattle.board.proofs.Laws.Bools.{or-left, or-right, and-both, and-not, not-off}
+use Rattle.predicate.proofs.Bools.{or-left, or-right, and-both, and-not, not-off}
 use Rattle.board.proofs.Laws.Taken.{standsAt, passed, lines-in, workers-in, record-within, record-cells}
 use Rattle.causes.proofs.Memory.{whole}
 use Rattle.effects.specs.Ready.{Rows, Restarts, Formats, Recovers, Checkpoints, Stores}

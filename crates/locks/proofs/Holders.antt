@@ -9,9 +9,9 @@ use lib.Dec.{ltb, eqb}
 use lib.Arith.{digits-lt, digits-div, digits-mod}
 use lib.Pow.{pow-add, shl-exact}
 use borrow.Author.Tests.{ltb-false, le-ltb, eqb-true, eqb-false, eq-eqb, ne-eqb}
-use Rattle.text.proofs.Bools.{split}
-use Rattle.bitset.specs.Passing.{anyUnder}
-use Rattle.bitset.proofs.Passing.{none-under, under-none}
+use Rattle.predicate.proofs.Bools.{split}
+use Rattle.predicate.specs.Passing.{anyUnder}
+use Rattle.predicate.proofs.Passing.{none-under, under-none}
 use Rattle.locks.specs.Holders.{digitOf, unheld, holds, holdsAny, heldFrom, withDigit, heldBy, givenBack}
 
 -- ---- a digit, and the number around it

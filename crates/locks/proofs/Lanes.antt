@@ -9,9 +9,9 @@ use lib.Dec.{ltb, eqb}
 use lib.Bits.{bitAnd, and-block, and-mask, and-zero-r}
 use lib.Pow.{split as divided}
 use borrow.Author.Tests.{lt-ltb, le-ltb, eq-eqb, ne-eqb, eqb-true}
-use Rattle.text.proofs.Bools.{or-left, or-right, or-none, not-off, not-on}
-use Rattle.bitset.specs.Passing.{anyUnder}
-use Rattle.bitset.proofs.Passing.{none-under, under-none}
+use Rattle.predicate.proofs.Bools.{or-left, or-right, or-none, not-off, not-on}
+use Rattle.predicate.specs.Passing.{anyUnder}
+use Rattle.predicate.proofs.Passing.{none-under, under-none}
 use Rattle.locks.specs.Holders.{digitOf}
 use Rattle.locks.proofs.Holders.{digit-next, any-shift}
 

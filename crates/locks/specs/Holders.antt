@@ -2,7 +2,7 @@
 use Prim.Native.Nat.{ℕ, suc, _+_, _-_, _*_, _/_, _%_, _^_}
 use mathlib.Core.Bool.{Bool}
 use lib.Dec.{ltb, eqb}
-use Rattle.bitset.specs.Passing.{anyUnder}
+use Rattle.predicate.specs.Passing.{anyUnder}
 
 -- "Of 16 locks".
 abbrev pub lockCount : ℕ

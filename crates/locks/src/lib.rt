@@ -3,7 +3,7 @@
 ghost use mathlib.Core.Path.{_≡_};
 ghost use Prim.Native.Nat.{_*_, _<_};
 ghost use lib.Dec.{ltb};
-ghost use Rattle.bitset.specs.Passing.{anyUnder};
+ghost use Rattle.predicate.specs.Passing.{anyUnder};
 ghost use Rattle.locks.specs.Holders.{digitOf, unheld, holds, holdsAny, heldFrom, heldBy, givenBack, withDigit};
 
 // The four bits of a lock.

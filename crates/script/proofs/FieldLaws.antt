@@ -9,7 +9,7 @@ use lib.Dec.{eqb}
 use lib.ListN.{length, take, drop, getD, drop-of-length-le}
 use lib.Seq.{drop-cons, drop-drop}
 use borrow.Author.Tests.{eq-eqb, ne-eqb}
-use Rattle.board.proofs.Laws.Bools.{chosen, passedOver}
+use Rattle.predicate.proofs.Bools.{chosen, passedOver}
 use Rattle.text.specs.Ascii.{tab}
 use Rattle.script.specs.Grammar.{joined, fields}
 use Rattle.script.specs.Fields.{first, later}

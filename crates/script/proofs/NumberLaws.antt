@@ -9,7 +9,7 @@ use lib.Dec.{leb, ltb}
 use lib.ListN.{length, take, drop, getD, drop-of-length-le}
 use lib.Seq.{drop-cons, length-take-le, take-all}
 use borrow.Author.Tests.{ltb-true, ltb-false, lt-ltb, le-ltb, le-leb, lt-leb}
-use Rattle.board.proofs.Laws.Bools.{split, chosen, passedOver, and-off-right, and-both}
+use Rattle.predicate.proofs.Bools.{split, chosen, passedOver, and-off-right, and-both}
 use Rattle.script.specs.declared.Line.{Line}
 use Rattle.script.specs.declared.Line.the-variants.{Unknown}
 use Rattle.script.specs.declared.Program.{Program}

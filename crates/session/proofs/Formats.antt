@@ -15,7 +15,7 @@ use Rattle.board.specs.Causes.{causes, cause, firstStanding}
 use Rattle.board.specs.Next.{lent, Taken, Outcome, outcome}
 use Rattle.board.specs.Statements.{stepsFrom}
 use Rattle.board.proofs.Invariant.{Sizes}
-use Rattle.board.proofs.Laws.Bools.{chosen, passedOver, or-left}
+use Rattle.predicate.proofs.Bools.{chosen, passedOver, or-left}
 use Rattle.board.proofs.Laws.Taken.{Clear, take as taken-if, lines-in, rows-fine}
 use Rattle.script.specs.declared.Line.the-variants as line
 use Rattle.script.specs.declared.Shown.the-variants.{Nothing, Number}

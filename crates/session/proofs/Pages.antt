@@ -9,7 +9,7 @@ use lib.Seq.{length-take-le}
 use borrow.Author.Tests.{lt-ltb, le-ltb}
 use Rattle.board.specs.Board.{Board}
 use Rattle.board.specs.Page.{PageOutcome, PagePerformed}
-use Rattle.board.proofs.Laws.Bools.{chosen, passedOver}
+use Rattle.predicate.proofs.Bools.{chosen, passedOver}
 use Rattle.script.specs.declared.Line.the-variants as line
 use Rattle.script.specs.declared.Shown.the-variants.{Unknown, Nothing, Number}
 use Rattle.damage.specs.Checksum.{checksumOf}

@@ -6,7 +6,7 @@ use native.Mathlib.Omega.{arith}
 use native.Mathlib.Nat.{add-mul, mul-left-comm, mul-add-div-right, div-eq-of-lt, div-add-mod'}
 use lib.Dec.{ltb}
 use borrow.Author.Tests.{lt-ltb, le-ltb, ltb-true, ltb-false}
-use Rattle.text.proofs.Bools.{on, chosen, passedOver}
+use Rattle.predicate.proofs.Bools.{on, chosen, passedOver}
 
 -- ---- a number taken off another
 

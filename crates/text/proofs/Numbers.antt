@@ -11,7 +11,7 @@ use borrow.Author.Tests.{lt-ltb, le-ltb, ltb-true, ltb-false, le-leb}
 use Rattle.text.specs.Ascii.{'0', '9'}
 use Rattle.text.specs.Numbers.{spelled, numberText, lastDigits, allDigits, valueAfter, value}
 use Rattle.text.specs.Writing.{Put}
-use Rattle.text.proofs.Bools.{split, chosen, passedOver, and-left, and-right, and-both}
+use Rattle.predicate.proofs.Bools.{split, chosen, passedOver, and-left, and-right, and-both}
 
 -- ---- the digits
 

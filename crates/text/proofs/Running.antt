@@ -11,7 +11,7 @@ use Rattle.text.specs.Ascii.{'0'}
 use Rattle.text.specs.Numbers.{lastDigits}
 use Rattle.text.specs.Powers.{Runs}
 use Rattle.text.specs.Writing.{Put}
-use Rattle.text.proofs.Bools.{split}
+use Rattle.predicate.proofs.Bools.{split}
 use Rattle.text.proofs.Counting.{quotient, remainder}
 use Rattle.text.proofs.Numbers.{last-more}
 use Rattle.text.proofs.Writing.{put-none, put-set, and-then}

@@ -9,7 +9,7 @@ use lib.Dec.{eqb}
 use lib.ListN.{length, getD}
 use borrow.Author.Tests.{eqb-true}
 use Rattle.text.specs.Powers.{PowersOfTen}
-use Rattle.text.proofs.Bools.{and-left, and-right}
+use Rattle.predicate.proofs.Bools.{and-left, and-right}
 
 -- The test that is computed over a whole table: each entry is ten times the one before.
 unfoldable pub tenfold : List ℕ → Bool

@@ -2,7 +2,7 @@
 use mathlib.Core.Path.{_∙_, ap}
 use native.Mathlib.Omega.{arith}
 use lib.Count.{trailing-le}
-use Rattle.bitset.specs.Passing.{nthUnder}
+use Rattle.predicate.specs.Passing.{nthUnder}
 use Rattle.bitset.specs.Words.{bitOf}
 use Rattle.bitset.proofs.Swept.{Swept, swept-none, swept-lowest, swept-zeros, swept-some, swept-on}
 use Rattle.bitset.proofs.nth_bit.Statement.{statement}

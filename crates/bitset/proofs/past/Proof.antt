@@ -7,7 +7,7 @@ use native.Mathlib.Omega.{arith}
 use borrow.Author.Needs.{needs}
 use lib.Dec.{ltb, eqb}
 use lib.ListN.{drop, getD}
-use Rattle.bitset.specs.Passing.{anyUnder}
+use Rattle.predicate.specs.Passing.{anyUnder}
 use Rattle.bitset.proofs.United.{united, past-none, past-rest}
 use Rattle.bitset.proofs.past.Statement.{statement}
 use Rattle.bitset.proofs.past.Tie as tie

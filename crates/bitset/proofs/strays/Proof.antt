@@ -1,7 +1,7 @@
 -- Bit 0 of the first word, or a number past the last in one of the eight.
 use mathlib.Core.Bool.{_||_}
 use borrow.Author.Needs.{needs}
-use Rattle.bitset.specs.Passing.{anyUnder}
+use Rattle.predicate.specs.Passing.{anyUnder}
 use Rattle.bitset.specs.Words.{strays}
 use Rattle.bitset.proofs.strays.Statement.{statement}
 use Rattle.bitset.proofs.strays.Tie as tie

@@ -1,62 +1,160 @@
--- A checkpoint's step: which act comes at a place, and what the machine sees of it.
-use Prim.Native.Nat.{ℕ, _+_, _≤_, _<_}
-use mathlib.Core.Path.{_≡_, ap, _∙_}
-use mathlib.Core.Bool.{true, false, cond, not, _&&_, _||_}
+-- A checkpoint's step: what is left of its acts, by the first of them, and what the machine sees of it.
+use Prim.Native.Nat.{ℕ, zero, suc, _+_, _-_, _≤_, _<_}
+use mathlib.Core.Path.{_≡_, refl, sym, ap, subst, _∙_}
+use mathlib.Core.Logic.{_⊎_, inl, inr, ⊎-elim}
+use mathlib.Core.List.{List, [], _∷_, _++_, map, List·Memᴰ, List·Memᴰ·head, List·Memᴰ·tail, List·Memᴰ·cases-cons, List·Memᴰ·eq-of-singleton}
+use mathlib.Core.Bool.{Bool, true, false, cond, not, _&&_, _||_, true≢false}
 use native.Mathlib.Omega.{arith}
+use native.Mathlib.Decide.{decLt}
 use lib.Dec.{ltb, eqb}
-use borrow.Author.Tests.{ltb-true, ltb-false, eqb-true, eqb-false, lt-ltb, le-ltb, eq-eqb, ne-eqb}
+use lib.ListN.{length, getD, drop, length-map, length-append, length-drop, List·getD-append}
+use lib.Seq.{drop-cons, drop-drop, drop-append-add}
+use borrow.Author.Tests.{ltb-false, lt-ltb, eq-eqb, ne-eqb}
+use Rattle.predicate.specs.Passing.{countUnder, numbersUnder}
+use Rattle.predicate.proofs.Bools.{chosen, passedOver, or-left, or-right, and-not, and-off-right, not-off, not-on}
+use Rattle.predicate.proofs.Passing.{none-under, count-less, nth-found, nth-one}
+use Rattle.predicate.proofs.Rising.{under-length, under-at}
+use Rattle.bitset.specs.Words.{capacity, contains, nth}
+use Rattle.bitset.proofs.Words.{size-count}
 use Rattle.board.specs.declared.Phase.{Phase}
 use Rattle.board.specs.declared.Phase.the-variants.{Running}
 use Rattle.board.specs.declared.Call.the-variants.{Step}
 use Rattle.board.specs.Board.{Board}
-use Rattle.board.specs.State.{conditionOf, quiescent, anyWorker, isRunning, dirtyCount}
-use Rattle.board.specs.Causes.{causes}
-use Rattle.board.specs.Effects.{Act, writeLine, storeEpoch, writeHeader, release, actAt, performAct, step, effect}
+use Rattle.board.specs.State.{conditionOf, quiescent, anyWorker, isRunning, placed, dirtyCount}
+use Rattle.board.specs.Checkpoint.{Act, writeLine, storeEpoch, writeHeader, release, planned, progress, acts}
+use Rattle.board.specs.Causes.{causes, placePast}
+use Rattle.board.specs.Effects.{performAct, performFirst, step, effect}
 use Rattle.board.specs.Machine.{Machine, markedCount, counted, completed, dropped, checkpointStep, stepped, beginning, finishesFormat, feed}
 use Rattle.board.specs.Sequence.{Run}
-use Rattle.board.proofs.Laws.Bools.{on, chosen, passedOver, or-left, or-right, and-not, and-off-right, not-off, not-on, none-under}
 use Rattle.board.proofs.Invariant.{AllQuiescent}
-use Rattle.board.proofs.Laws.Taken.{standsAt, passed, afterTaken}
+use Rattle.board.proofs.Laws.Taken.{standsAt, passed, afterTaken, record-within, eight-within}
 use Rattle.board.specs.Next.{Taken}
 
--- ---- the act at a place
+-- ---- the acts by their places
 
--- Before the list's end the act writes an entry's line back.
-pub act-line : (n place : ℕ) → place < n → actAt n place ≡ writeLine
-unfolding actAt
-act-line n place h = chosen (ltb place n) writeLine _ (lt-ltb place n h)
+-- The dirty lines' acts.
+abbrev lineActs : Board → List Act
+lineActs b = map (λ p. writeLine (nth (b .state .dirty) p)) (numbersUnder (dirtyCount (b .state)))
 
--- At the list's end it stores the epoch.
-pub act-epoch : (n place : ℕ) → place ≡ n → actAt n place ≡ storeEpoch
-unfolding actAt
-act-epoch n place e =
-    passedOver (ltb place n) writeLine _ (le-ltb place n (omega arith))
-    ∙ chosen (eqb place n) storeEpoch _ (eq-eqb place n e)
+-- The last three.
+abbrev lastActs : List Act
+lastActs = storeEpoch ∷ writeHeader ∷ release ∷ []
 
--- After it come line 0's write-back and the release.
-act-after : (n place : ℕ) → n < place → actAt n place ≡ cond (eqb place (n + 1)) writeHeader release
-unfolding actAt
-act-after n place h =
-    passedOver (ltb place n) writeLine _ (le-ltb place n (omega arith))
-    ∙ passedOver (eqb place n) storeEpoch _ (ne-eqb place n (λ q. omega arith))
+line-acts-length : (b : Board) → length (lineActs b) ≡ dirtyCount (b .state)
+line-acts-length b = length-map (numbersUnder (dirtyCount (b .state))) (λ p. writeLine (nth (b .state .dirty) p)) ∙ under-length (dirtyCount (b .state))
 
--- First line 0 is written back.
-pub act-header : (n place : ℕ) → place ≡ n + 1 → actAt n place ≡ writeHeader
-act-header n place e = act-after n place (omega arith) ∙ chosen (eqb place (n + 1)) writeHeader release (eq-eqb place (n + 1) e)
+-- "With n entries that is n+3 steps."
+pub planned-length : (b : Board) → length (planned b) ≡ dirtyCount (b .state) + 3
+planned-length b = length-append (lineActs b) lastActs ∙ omega (arith, line-acts-length b)
 
--- Then the workers are released.
-pub act-release : (n place : ℕ) → place ≡ n + 2 → actAt n place ≡ release
-act-release n place e =
-    act-after n place (omega arith) ∙ passedOver (eqb place (n + 1)) writeHeader release (ne-eqb place (n + 1) (λ q. omega arith))
+-- So many are left as were not taken.
+pub acts-length : (b : Board) → length (acts b) ≡ dirtyCount (b .state) + 3 - progress (b .state)
+unfolding acts
+acts-length b = length-drop (progress (b .state)) (planned b) ∙ ap (λ (n : ℕ). n - progress (b .state)) (planned-length b)
 
--- What holds of the act that comes at a place, by where the place is.
-pub act-cases : (P : Act → Type 0) (n place : ℕ) → (place < n → P writeLine) → (place ≡ n → P storeEpoch) → (place ≡ n + 1 → P writeHeader) → (n + 2 ≤ place → P release) → P (actAt n place)
-unfolding actAt
-act-cases P n place line epoch header rest =
-    on P (ltb place n) writeLine _ (λ t. line (ltb-true place n t))
-    (λ f. on P (eqb place n) storeEpoch _ (λ t. epoch (eqb-true place n t))
-    (λ g. on P (eqb place (n + 1)) writeHeader release (λ t. header (eqb-true place (n + 1) t))
-    (λ h. rest (omega (arith, ltb-false place n f, eqb-false place n g, eqb-false place (n + 1) h)))))
+-- At a place before the epoch's store stands the write-back of the dirty line of that rank.
+planned-line : (b : Board) (p : ℕ) → p < dirtyCount (b .state) → getD (planned b) p release ≡ writeLine (nth (b .state .dirty) p)
+planned-line b p h =
+    let f : ℕ → Act = λ k. writeLine (nth (b .state .dirty) k) in
+    let ns = numbersUnder (dirtyCount (b .state)) in
+    List·getD-append (lineActs b) lastActs release p (omega (arith, line-acts-length b))
+    ∙ map-at f ns p (omega (arith, under-length (dirtyCount (b .state))))
+    ∙ ap f (under-at (dirtyCount (b .state)) p h)
+  where
+    map-at : (f : ℕ → Act) (ns : List ℕ) (k : ℕ) → k < length ns → getD (map f ns) k release ≡ f (getD ns k 0)
+    map-at f [] k h = absurd (omega arith)
+    map-at f (n ∷ ns) zero h = refl
+    map-at f (n ∷ ns) (suc k) h = map-at f ns k (omega arith)
+
+-- ---- what is left
+
+-- What is left of a checkpoint, by the act that comes next.
+pub data Remains (b : Board) : List Act → Type 0 where
+  lineNext : (later : List Act) → progress (b .state) < dirtyCount (b .state) → 3 ≤ length later → Remains b (writeLine (nth (b .state .dirty) (progress (b .state))) ∷ later)
+  epochNext : Remains b (storeEpoch ∷ writeHeader ∷ release ∷ [])
+  headerNext : Remains b (writeHeader ∷ release ∷ [])
+  releaseNext : Remains b (release ∷ [])
+
+-- Something is left up to the release.
+pub remains : (b : Board) → 0 < length (acts b) → Remains b (acts b)
+unfolding acts
+remains b h =
+    elim (decLt p n) [
+      | yes q ↦
+          let later = drop (suc p) (planned b) in
+          subst (Remains b) (sym (drop-cons (planned b) p release (omega (arith, planned-length b)) ∙ ap {B = List Act} (λ (a : Act). a ∷ later) (planned-line b p q)))
+          (lineNext later q (omega (arith, planned-length b, length-drop (suc p) (planned b))))
+      | no o ↦ behind (p - n) (omega arith) (omega (arith, planned-length b, length-drop p (planned b)))
+    ]
+  where
+    p : ℕ
+    p = progress (b .state)
+
+    n : ℕ
+    n = dirtyCount (b .state)
+
+    -- Behind the dirty lines the last three acts are left, or some of them.
+    dropped-last : (k : ℕ) → n + k ≡ p → drop p (planned b) ≡ drop k lastActs
+    dropped-last k e =
+        ap (λ (i : ℕ). drop i (planned b)) (let q : p ≡ length (lineActs b) + k = omega (arith, line-acts-length b) in q)
+        ∙ drop-append-add (lineActs b) lastActs k
+
+    behind : (k : ℕ) → n + k ≡ p → k < 3 → Remains b (drop p (planned b))
+    behind zero e l = subst (Remains b) (sym (dropped-last 0 e)) epochNext
+    behind (suc zero) e l = subst (Remains b) (sym (dropped-last 1 e)) headerNext
+    behind (suc (suc zero)) e l = subst (Remains b) (sym (dropped-last 2 e)) releaseNext
+    behind (suc (suc (suc k))) e l = absurd (omega arith)
+
+-- THE LAW of the list: an act that goes on to the next place leaves the rest.
+pub acts-next : (b : Board) {a : Act} {later : List Act} (memory cache : List ℕ) → b .state .requested ≡ true → acts b ≡ a ∷ later →
+    acts (record { state = placed (b .state) (b .state .place + 1) (b .state .undo); memory = memory; cache = cache }) ≡ later
+unfolding acts
+acts-next b memory cache on e =
+    let s = b .state in
+    ap (λ (k : ℕ). drop k (planned b)) (chosen (s .requested) (s .place + 1) 0 on ∙ sym (ap (λ (k : ℕ). k + 1) (chosen (s .requested) (s .place) 0 on)))
+    ∙ sym (drop-drop 1 (progress s) (planned b))
+    ∙ ap (drop 1) e
+
+-- What stands at a place of a list is in it.
+at-member : (xs : List Act) {a : Act} (k : ℕ) → k < length xs → getD xs k release ≡ a → List·Memᴰ a xs
+at-member [] k h e = absurd (omega arith)
+at-member (x ∷ xs) zero h e = List·Memᴰ·head (sym e)
+at-member (x ∷ xs) (suc k) h e = List·Memᴰ·tail (at-member xs k (omega arith) e)
+
+-- Before the first step every dirty line is to be written.
+pub dirty-pending : (b : Board) (i : ℕ) → progress (b .state) ≡ 0 → contains (b .state .dirty) i ≡ true → i < capacity → List·Memᴰ (writeLine i) (acts b)
+unfolding acts nth
+dirty-pending b i z t h =
+    let f = contains (b .state .dirty) in
+    let rank = countUnder i f in
+    let under = count-less i capacity f h t in
+    let low : rank < dirtyCount (b .state) = omega (arith, size-count (b .state .dirty)) in
+    let found : nth (b .state .dirty) rank ≡ i = sym (nth-one {n = capacity} {m = capacity} f i (nth (b .state .dirty) rank) (record { passes = t; rank = refl; within = h }) (nth-found capacity f rank under)) in
+    subst (λ (k : ℕ). List·Memᴰ (writeLine i) (drop k (planned b))) (sym z)
+    (at-member (planned b) rank (omega (arith, planned-length b)) (planned-line b rank low ∙ ap writeLine found))
+
+-- None is, once the epoch's store comes next.
+pub none-pending : (i : ℕ) → List·Memᴰ (writeLine i) (storeEpoch ∷ writeHeader ∷ release ∷ []) → ⊥
+none-pending i m = ⊎-elim (λ (e : writeLine i ≡ storeEpoch). not-line storeEpoch refl e) (λ n. ⊎-elim (λ (e : writeLine i ≡ writeHeader). not-line writeHeader refl e) (λ k. not-line release refl (List·Memᴰ·eq-of-singleton k)) (List·Memᴰ·cases-cons n)) (List·Memᴰ·cases-cons m)
+  where
+    isLine : Act → Bool
+    isLine (writeLine l) = true
+    isLine storeEpoch = false
+    isLine writeHeader = false
+    isLine release = false
+
+    not-line : (a : Act) → isLine a ≡ false → writeLine i ≡ a → ⊥
+    not-line a off e = true≢false (ap isLine e ∙ off)
+
+-- A write-back that is to come is the next act's, or a later one's.
+pub pending-next : (i l : ℕ) (later : List Act) → List·Memᴰ (writeLine i) (writeLine l ∷ later) → (i ≡ l) ⊎ List·Memᴰ (writeLine i) later
+pending-next i l later m = ⊎-elim (λ (e : writeLine i ≡ writeLine l). inl (ap lineIn e)) inr (List·Memᴰ·cases-cons m)
+  where
+    lineIn : Act → ℕ
+    lineIn (writeLine k) = k
+    lineIn storeEpoch = 0
+    lineIn writeHeader = 0
+    lineIn release = 0
 
 -- ---- the machine's step
 
@@ -82,9 +180,9 @@ machine-drops m e =
 -- ---- the step of a running board
 
 -- The board after a running board's step.
-pub effect-acts : (b : Board) → b .state .phase ≡ Running → effect Step b ≡ performAct (actAt (dirtyCount (b .state)) (b .state .place)) (b .state) b
+pub effect-acts : (b : Board) {xs : List Act} → b .state .phase ≡ Running → acts b ≡ xs → effect Step b ≡ performFirst xs (b .state) b
 unfolding effect step
-effect-acts b e = ap (λ (p : Phase). step p (b .state) b) e
+effect-acts b e q = ap (λ (p : Phase). step p (b .state) b) e ∙ ap (λ (xs : List Act). performFirst xs (b .state) b) q
 
 -- The run after an act, with the machine given.
 abbrev pub acted : Run → Act → Machine → Run
@@ -92,24 +190,35 @@ acted r act m =
     record { board = performAct act (r .board .state) (r .board); machine = m; crashed = r .crashed && true; erased = r .erased }
 
 -- The run after a step of a requested checkpoint.
-pub step-acts : (r : Run) → r .board .state .phase ≡ Running → r .machine .requested ≡ true → afterTaken Step r ≡ acted r (actAt (dirtyCount (r .board .state)) (r .board .state .place)) (checkpointStep (r .machine))
-unfolding feed stepped
-step-acts r e on =
+pub step-acts : (r : Run) {act : Act} {later : List Act} → r .board .state .phase ≡ Running → r .machine .requested ≡ true → acts (r .board) ≡ act ∷ later → afterTaken Step r ≡ acted r act (checkpointStep (r .machine))
+unfolding feed stepped performFirst
+step-acts r {act} e on a =
     let m = r .machine in
-    let p = effect-acts (r .board) e in
-    let q : feed Step m ≡ checkpointStep m = chosen (m .requested) (checkpointStep m) (cond (finishesFormat m) (beginning (m .lines)) (counted m)) on in
+    let p : effect Step (r .board) ≡ performAct act (r .board .state) (r .board) = effect-acts (r .board) e a in
+    let q : feed Step m ≡ checkpointStep m = chosen (m .requested) (checkpointStep m) (cond (finishesFormat m) (beginning (m .shape)) (counted m)) on in
     let u : cond (m .formatting && not (m .requested)) (not (finishesFormat m)) (r .erased) ≡ r .erased = passedOver (m .formatting && not (m .requested)) (not (finishesFormat m)) (r .erased) (and-off-right (m .formatting) (not (m .requested)) (not-on (m .requested) on)) in
     λ i. record { board = p i; machine = q i; crashed = r .crashed && true; erased = u i }
 
--- A taken step of a running board finds a request and all workers waiting.
-pub step-ready : (b : Board) → b .state .phase ≡ Running → b .state .workers ≤ 8 → Taken Step b → (b .state .requested ≡ true) × AllQuiescent (b .state)
+-- What a taken step of a running board finds: a request, all workers waiting or away, and something left to do.
+pub record Stepping (b : Board) : Type 0 where
+  pub request : b .state .requested ≡ true
+  pub waiting : AllQuiescent (b .state)
+  pub left : Remains b (acts b)
+
+pub step-ready : (b : Board) → b .state .phase ≡ Running → Taken Step b → Stepping b
 unfolding standsAt causes
-step-ready b e eight t =
-    let ready : isRunning (b .state .phase) && (not (b .state .requested) || anyWorker (b .state) (λ d. not (quiescent d))) ≡ false = passed Step b t 10 in
-    let idle = and-not (isRunning (b .state .phase)) (not (b .state .requested) || anyWorker (b .state) (λ d. not (quiescent d))) ready (ap isRunning e) in (
-      not-off (b .state .requested) (or-left (not (b .state .requested)) (anyWorker (b .state) (λ d. not (quiescent d))) idle),
-      λ w h. not-off (quiescent (conditionOf (b .state) w))
-          (and-not (ltb w (b .state .workers)) (not (quiescent (conditionOf (b .state) w)))
-          (none-under 8 (λ i. ltb i (b .state .workers) && not (quiescent (conditionOf (b .state) i))) (or-right (not (b .state .requested)) (anyWorker (b .state) (λ d. not (quiescent d))) idle) w (omega arith))
-          (lt-ltb w (b .state .workers) h)),
-    )
+step-ready b e t =
+    let s = b .state in
+    let fine = passed Step b t 3 in
+    let unready = not (s .requested) || anyWorker s (λ d. not (quiescent d)) in
+    let idle = and-not (isRunning (s .phase)) unready (passed Step b t 10) (ap isRunning e) in
+    let on : s .requested ≡ true = not-off (s .requested) (or-left (not (s .requested)) (anyWorker s (λ d. not (quiescent d))) idle) in
+    let within = ltb-false (dirtyCount s + 2) (s .place) (and-not (s .requested) (ltb (dirtyCount s + 2) (s .place)) (subst (λ (p : Phase). placePast p s ≡ false) e (record-within s fine .place)) on) in
+    record {
+      request = on;
+      waiting = λ w h. not-off (quiescent (conditionOf s w))
+          (and-not (ltb w (s .workers)) (not (quiescent (conditionOf s w)))
+          (none-under 8 (λ i. ltb i (s .workers) && not (quiescent (conditionOf s i))) (or-right (not (s .requested)) (anyWorker s (λ d. not (quiescent d))) idle) w (omega (arith, eight-within s fine)))
+          (lt-ltb w (s .workers) h));
+      left = remains b (omega (arith, acts-length b, chosen (s .requested) (s .place) 0 on));
+    }

@@ -1,86 +1,94 @@
--- A requested checkpoint with all workers waiting or away and n dirty lines ends in n+3 steps, each of them taken; those that were away stay away.
+-- A requested checkpoint with all workers waiting or away ends in as many steps as acts are left of it, each of them taken; those that were away stay away.
 use Prim.Native.Nat.{ℕ, zero, suc, _+_, _≤_, _<_}
 use mathlib.Core.Path.{_≡_, refl, sym, ap, subst, _∙_}
 use mathlib.Core.Logic.{_⊎_, inl, inr}
-use mathlib.Core.List.{List}
-use mathlib.Core.Bool.{Bool, true, false, not, _&&_, _||_, false≢true}
+use mathlib.Core.List.{List, [], _∷_}
+use mathlib.Core.Bool.{true, false, not, _&&_, _||_, false≢true}
 use native.Mathlib.Omega.{arith}
-use native.Mathlib.Decide.{decLt}
-use lib.Dec.{leb, ltb, eqb}
-use lib.ListN.{set}
-use Rattle.bitset.specs.Words.{nth, strays}
-use Rattle.bitset.proofs.Members.{nth-own}
-use borrow.Author.Tests.{eqb-true, le-ltb, ne-eqb}
+use lib.ListN.{length}
+use borrow.Author.Tests.{ne-eqb}
 use Rattle.board.specs.declared.State.{State}
 use Rattle.board.specs.declared.Worker.{Worker}
-use Rattle.board.specs.declared.Condition.{Condition}
-use Rattle.board.specs.declared.Condition.the-variants.{Free, Waiting, Updating, Away}
-use Rattle.board.specs.declared.Phase.{Phase}
+use Rattle.board.specs.declared.Condition.the-variants.{Waiting, Away}
 use Rattle.board.specs.declared.Phase.the-variants.{Running}
 use Rattle.board.specs.declared.Call.the-variants.{Step}
-use Rattle.board.specs.Board.{Board, cells, workersOutside, epochOf, lastEpoch}
-use Rattle.board.specs.State.{conditionOf, isOff, isRunning, quiescent, updates, anyWorker, placed, released, dirtyCount}
-use Rattle.board.specs.Causes.{causes, placePast, badRows, checkpointing, epochSpent}
-use Rattle.board.specs.Effects.{writtenBack, stated, Act, release, actAt, performAct}
+use Rattle.board.specs.Board.{Board, Shape, epochOf, lastEpoch}
+use Rattle.board.specs.State.{conditionOf, isOff, isRunning, quiescent, anyWorker, placed, released, dirtyCount}
+use Rattle.board.specs.Checkpoint.{Act, writeLine, storeEpoch, writeHeader, release, acts, storesEpoch}
+use Rattle.board.specs.Causes.{causes, checkpointing, epochSpent}
+use Rattle.board.specs.Effects.{stated, performAct, performFirst, effect}
 use Rattle.board.specs.Next.{next, Taken}
 use Rattle.board.specs.Machine.{Machine}
 use Rattle.board.specs.Sequence.{Run}
 use Rattle.board.specs.Statements.{AllWaitOrAway, KeepsAway, stepsFrom, AllTaken, EndsIn}
-use Rattle.board.proofs.Laws.Bools.{or-none, and-right, and-off-right, and-if, not-on}
-use Rattle.board.proofs.Laws.View.{Sized, sized-back}
-use Rattle.board.proofs.Invariant.{AllQuiescent, HeldUnder, Sizes, Stage, early, gap, late, Inv}
-use Rattle.board.proofs.Laws.Rows.{sized-set}
-use Rattle.board.proofs.Laws.Taken.{Clear, take, taken-next, rows-fine, record-fine, none-worker}
-use Rattle.board.proofs.Laws.Dirty.{dirty-fine}
+use Rattle.predicate.proofs.Bools.{chosen, or-none, and-right, and-off, and-off-right, and-if, not-on}
+use Rattle.board.proofs.Invariant.{AllQuiescent, Stage, early, gap, late, Inv}
+use Rattle.board.proofs.Laws.Taken.{Clear, take, taken-next, none-worker, afterTaken}
 use Rattle.board.proofs.Laws.Workers.{released-away}
 use Rattle.board.proofs.Laws.Idle.{ends-more}
-use Rattle.board.proofs.Laws.Reading.{place-in}
+use Rattle.board.proofs.Laws.Reading.{some-left, running-passes}
 use Rattle.board.proofs.Checkpoint.Run.{is-running, running-run}
-use Rattle.board.proofs.Checkpoint.Acts.{act-cases, act-release, effect-acts}
-
--- What a step of a requested checkpoint needs to be taken, and the next one after it.
-record Ready (l : ℕ) (b : Board) : Type 0 where
-  phase : b .state .phase ≡ Running
-  request : b .state .requested ≡ true
-  sizes : Sizes l b
-  lines : b .state .lines ≡ l
-  workers : workersOutside l (b .state .workers) ≡ false
-  dirty : strays (b .state .dirty) l ≡ false
-  holders : HeldUnder (b .state)
-  place : b .state .place ≤ dirtyCount (b .state) + 2
-  epoch : b .state .place ≤ dirtyCount (b .state) → epochOf (b .cache) ≡ lastEpoch → ⊥
-  waiting : AllQuiescent (b .state)
+use Rattle.board.proofs.Checkpoint.Acts.{Remains, lineNext, epochNext, headerNext, releaseNext, remains, acts-length, acts-next, effect-acts}
+use Rattle.board.proofs.Keeps.CheckpointStep.{carried-checkpoint-step}
 
 -- ---- each step is taken
 
--- A worker that waits or is away has no unfinished update.
-quiescent-updates : (test : ℕ → Bool) (d : Condition) → quiescent d ≡ true → updates test d ≡ false
-quiescent-updates test Free w = refl
-quiescent-updates test Waiting w = refl
-quiescent-updates test (Updating next c v) w = absurd (false≢true w)
-quiescent-updates test Away w = refl
+-- A list of acts that begins with the epoch's store, of those that can be left, has three.
+epoch-left : {b : Board} (xs : List Act) → Remains b xs → storesEpoch xs ≡ true → length xs ≡ 3
+unfolding storesEpoch
+epoch-left xs (lineNext later low three) t = absurd (false≢true t)
+epoch-left xs epochNext t = refl
+epoch-left xs headerNext t = absurd (false≢true t)
+epoch-left xs releaseNext t = absurd (false≢true t)
 
--- A board that is ready takes the step.
-ready-taken : {l : ℕ} (b : Board) → Ready l b → Taken Step b
+-- Up to the epoch's store a requested checkpoint has an epoch to go to.
+room : {σ : Shape} (b : Board) (m : Machine) → b .state .requested ≡ true → Stage σ b m → 3 ≤ length (acts b) → epochOf (b .cache) ≡ lastEpoch → ⊥
+room b m on (early a) h = a .room on
+room b m on (gap g) h = absurd (omega (arith, g .left))
+room b m on (late a) h = absurd (omega (arith, a .high))
+
+-- A worker that waits or is away holds nothing up.
+pub all-quiescent : (s : State) → AllWaitOrAway s → AllQuiescent s
+all-quiescent s f w h = by (f w h)
+  where
+    by : (conditionOf s w ≡ Waiting) ⊎ (conditionOf s w ≡ Away) → quiescent (conditionOf s w) ≡ true
+    by (inl e) = ap quiescent e
+    by (inr e) = ap quiescent e
+
+-- A requested checkpoint of a running board that all workers wait for.
+record Awaited (r : Run) : Type 0 where
+  inv : Inv r
+  uncut : r .crashed ≡ false
+  phase : r .board .state .phase ≡ Running
+  request : r .board .state .requested ≡ true
+  waiting : AllQuiescent (r .board .state)
+
+-- What is left of it.
+left-of : (r : Run) → Awaited r → Remains (r .board) (acts (r .board))
+left-of r g = remains (r .board) (some-left (running-run r (g .inv) (g .uncut) (g .phase) .running .checkpoint .stage))
+
+-- Its step is taken.
+step-taken : (r : Run) → Awaited r → Taken Step (r .board)
 unfolding Clear causes
-ready-taken {l} b y =
+step-taken r g =
+    let b = r .board in
     let s = b .state in
-    let n = dirtyCount s in
+    let y = running-passes r (g .inv) (g .uncut) (g .phase) in
+    let stage = running-run r (g .inv) (g .uncut) (g .phase) .running .checkpoint .stage in
     take Step b (
-      subst (λ (p : Phase). isOff p ≡ false) (sym (y .phase)) refl,
+      ap isOff (g .phase),
       (
-        record-fine l s (y .lines) (y .sizes .limits) (y .workers) (y .dirty) (y .holders)
-            (subst (λ (p : Phase). placePast p s ≡ false) (sym (y .phase)) (and-off-right (s .requested) (ltb (n + 2) (s .place)) (le-ltb (n + 2) (s .place) (y .place))))
-            (λ w h. quiescent-updates (leb (cells l)) (conditionOf s w) (y .waiting w h)),
+        y .state,
         (
-          subst (λ (k : ℕ). badRows k b ≡ false) (sym (y .lines)) (rows-fine l b (y .sizes)),
+          y .rows,
           (
             and-off-right (isRunning (s .phase)) (not (s .requested) || anyWorker s (λ d. not (quiescent d)))
-                (or-none (not (s .requested)) (anyWorker s (λ d. not (quiescent d))) (not-on (s .requested) (y .request))
-                (none-worker s (λ d. not (quiescent d)) (λ w h. not-on (quiescent (conditionOf s w)) (y .waiting w h)))),
+                (or-none (not (s .requested)) (anyWorker s (λ d. not (quiescent d))) (not-on (s .requested) (g .request))
+                (none-worker s (λ d. not (quiescent d)) (λ w h. not-on (quiescent (conditionOf s w)) (g .waiting w h)))),
             (
-              and-if (checkpointing s && eqb (s .place) n) (epochSpent b)
-                  (λ t. ne-eqb (epochOf (b .cache)) lastEpoch (y .epoch (omega (arith, eqb-true (s .place) n (and-right (checkpointing s) (eqb (s .place) n) t))))),
+              and-if (checkpointing s && storesEpoch (acts b)) (epochSpent b)
+                  (λ t. ne-eqb (epochOf (b .cache)) lastEpoch
+                  (room b (r .machine) (g .request) stage (omega (arith, epoch-left (acts b) (left-of r g) (and-right (checkpointing s) (storesEpoch (acts b)) t))))),
               tt,
             ),
           ),
@@ -89,57 +97,6 @@ ready-taken {l} b y =
     )
 
 -- ---- each step leads to the next
-
--- The board `b′` is ready for the step after board `b`'s.
-record Follows (l : ℕ) (b b′ : Board) : Type 0 where
-  ready : Ready l b′
-  place : b′ .state .place ≡ b .state .place + 1
-  count : dirtyCount (b′ .state) ≡ dirtyCount (b .state)
-  worker : b′ .state .worker ≡ b .state .worker
-
--- A step that stores in one of the rows and goes on.
-goes-on : {l : ℕ} (b : Board) → Ready l b → b .state .place < dirtyCount (b .state) + 2 → (memory cache : List ℕ) → Sized l memory → Sized l cache → (b .state .place + 1 ≤ dirtyCount (b .state) → epochOf cache ≡ lastEpoch → ⊥) → Follows l b (record { state = placed (b .state) (b .state .place + 1) (b .state .undo); memory = memory; cache = cache })
-goes-on b y h memory cache zm zc room =
-    record {
-      ready =
-          record {
-            phase = y .phase;
-            request = y .request;
-            sizes = record { limits = y .sizes .limits; memory = zm; cache = zc };
-            lines = y .lines;
-            workers = y .workers;
-            dirty = y .dirty;
-            holders = y .holders;
-            place = omega arith;
-            epoch = room;
-            waiting = y .waiting;
-          };
-      place = refl;
-      count = refl;
-      worker = refl;
-    }
-
--- Every step before the release goes on.
-ready-acts : {l : ℕ} (b : Board) → Ready l b → b .state .place < dirtyCount (b .state) + 2 → Follows l b (performAct (actAt (dirtyCount (b .state)) (b .state .place)) (b .state) b)
-unfolding performAct
-ready-acts {l} b y h =
-    act-cases (λ (a : Act). Follows l b (performAct a (b .state) b)) n place
-    (λ p. goes-on b y h (writtenBack line b) (b .cache) (sized-back (b .memory) (b .cache) (z .memory) (z .cache) line (nth-own (b .state .dirty) l (y .dirty) place p .2)) (z .cache) (λ q. y .epoch (omega arith)))
-    (λ p. goes-on b y h (b .memory) (set (b .cache) 0 (epochOf (b .cache) + 1)) (z .memory) (sized-set (b .cache) (epochOf (b .cache) + 1) (z .cache)) (λ q. absurd (omega arith)))
-    (λ p. goes-on b y h (writtenBack 0 b) (b .cache) (sized-back (b .memory) (b .cache) (z .memory) (z .cache) 0 (omega arith)) (z .cache) (λ q. absurd (omega arith)))
-    (λ p. absurd (omega arith))
-  where
-    n : ℕ
-    n = dirtyCount (b .state)
-
-    place : ℕ
-    place = b .state .place
-
-    line : ℕ
-    line = nth (b .state .dirty) place
-
-    z : Sizes l b
-    z = y .sizes
 
 -- The steps from board `b` end, and leave those away that were.
 abbrev Ends : ℕ → Board → Type 0
@@ -154,73 +111,57 @@ ends-after n b d t e same rest = (
       (subst (λ (ws : List Worker). KeepsAway (record { phase = b .state .phase; lines = b .state .lines; workers = b .state .workers; place = b .state .place; undo = b .state .undo; requested = b .state .requested; holders = b .state .holders; dirty = b .state .dirty; worker = ws }) (stepsFrom n d .state)) same (rest .1)),
 )
 
--- The steps from a ready board to the release.
-ends : {l : ℕ} (n : ℕ) (b : Board) → Ready l b → n + b .state .place ≡ dirtyCount (b .state) + 3 → Ends n b
-unfolding stepsFrom AllTaken performAct
-ends zero b y e = absurd (omega (arith, y .place))
-ends {l} (suc n) b y e =
-    elim (decLt (s .place) (dirtyCount s + 2)) [
-      | yes h ↦
-          let f = ready-acts b y h in
-          ends-after n b acted t acts (f .worker) (ends n acted (f .ready) (omega (arith, f .place, f .count)))
-      | no o ↦
-          let end : s .place ≡ dirtyCount s + 2 = omega (arith, y .place) in
-          last n (omega arith) (acts ∙ ap (λ (a : Act). performAct a s b) (act-release (dirtyCount s) (s .place) end))
-    ]
-  where
-    s : State
-    s = b .state
+-- An act that goes on to the next place leaves a checkpoint that all wait for, with the later acts left.
+awaited-on : (r : Run) {act : Act} {later : List Act} {memory cache : List ℕ} → Awaited r → acts (r .board) ≡ act ∷ later → performAct act (r .board .state) (r .board) ≡ record { state = placed (r .board .state) (r .board .state .place + 1) (r .board .state .undo); memory = memory; cache = cache } →
+    Awaited (afterTaken Step r) × (acts (effect Step (r .board)) ≡ later) × (effect Step (r .board) .state .worker ≡ r .board .state .worker)
+unfolding performFirst
+awaited-on r {memory = memory} {cache = cache} g p q =
+    let e = effect-acts (r .board) (g .phase) p ∙ q in (
+      record {
+        inv = carried-checkpoint-step r (g .inv) (g .uncut) (g .phase) (step-taken r g) .keeps;
+        uncut = and-off (r .crashed) true (g .uncut);
+        phase = ap (λ (b : Board). b .state .phase) e ∙ g .phase;
+        request = ap (λ (b : Board). b .state .requested) e ∙ g .request;
+        waiting = subst (λ (b : Board). AllQuiescent (b .state)) (sym e) (g .waiting);
+      },
+      ap acts e ∙ acts-next (r .board) memory cache (g .request) p,
+      ap (λ (b : Board). b .state .worker) e,
+    )
 
-    acted : Board
-    acted = performAct (actAt (dirtyCount s) (s .place)) s b
+-- The next step, where the steps after it end.
+step-ends : (n : ℕ) (r : Run) (xs : List Act) → Awaited r → acts (r .board) ≡ xs → Remains (r .board) xs → length xs ≡ suc n → (Awaited (afterTaken Step r) → length (acts (effect Step (r .board))) ≡ n → Ends n (effect Step (r .board))) → Ends (suc n) (r .board)
+unfolding stepsFrom AllTaken performAct performFirst
+step-ends n r xs g p left e rest = by left p e
+  where
+    b : Board
+    b = r .board
 
     t : Taken Step b
-    t = ready-taken b y
+    t = step-taken r g
 
-    acts : next Step b ≡ acted
-    acts = taken-next Step b t ∙ effect-acts b (y .phase)
+    further : {later : List Act} → length later ≡ n → Awaited (afterTaken Step r) × (acts (effect Step b) ≡ later) × (effect Step b .state .worker ≡ b .state .worker) → Ends (suc n) b
+    further q on = ends-after n b (effect Step b) t (taken-next Step b t) (on .2) (rest (on .0) (ap length (on .1) ∙ q))
 
-    last : (k : ℕ) → k ≡ 0 → next Step b ≡ performAct release s b → Ends (suc k) b
+    last : (k : ℕ) → k ≡ 0 → next Step b ≡ stated (released (b .state)) b → Ends (suc k) b
     last k z q =
         subst (λ (j : ℕ). Ends (suc j) b) (sym z) (
-          ends-more zero b (stated (released s) b) t q (tt, ap isRunning (y .phase), refl),
-          subst (λ (x : Board). KeepsAway s (x .state)) (sym q) (released-away s),
+          ends-more zero b (stated (released (b .state)) b) t q (tt, ap isRunning (g .phase), refl),
+          subst (λ (x : Board). KeepsAway (b .state) (x .state)) (sym q) (released-away (b .state)),
         )
 
--- ---- from the invariant
+    by : {ys : List Act} → Remains b ys → acts b ≡ ys → length ys ≡ suc n → Ends (suc n) b
+    by (lineNext later low three) q f = further (omega (arith, f)) (awaited-on r g q refl)
+    by epochNext q f = further (omega (arith, f)) (awaited-on r g q refl)
+    by headerNext q f = further (omega (arith, f)) (awaited-on r g q refl)
+    by releaseNext q f = last n (omega (arith, f)) (taken-next Step b t ∙ effect-acts b (g .phase) q)
 
--- Up to the epoch's store a requested checkpoint has an epoch to go to.
-room : {l : ℕ} (b : Board) (m : Machine) → b .state .requested ≡ true → Stage l b m → b .state .place ≤ dirtyCount (b .state) → epochOf (b .cache) ≡ lastEpoch → ⊥
-room b m on (early a) h = a .room on
-room b m on (gap g) h = absurd (omega (arith, g .place))
-room b m on (late a) h = absurd (omega (arith, a .low))
-
--- A worker that waits or is away holds nothing up.
-pub all-quiescent : (s : State) → AllWaitOrAway s → AllQuiescent s
-all-quiescent s f w h = by (f w h)
-  where
-    by : (conditionOf s w ≡ Waiting) ⊎ (conditionOf s w ≡ Away) → quiescent (conditionOf s w) ≡ true
-    by (inl e) = ap quiescent e
-    by (inr e) = ap quiescent e
+-- As many steps as acts are left lead to the release.
+ends : (n : ℕ) (r : Run) → Awaited r → length (acts (r .board)) ≡ n → Ends n (r .board)
+ends zero r g e = absurd (omega (arith, some-left (running-run r (g .inv) (g .uncut) (g .phase) .running .checkpoint .stage)))
+ends (suc n) r g e = step-ends n r (acts (r .board)) g refl (left-of r g) e (λ h f. ends n (afterTaken Step r) h f)
 
 -- A requested checkpoint ends from whatever place it has reached, where the invariant holds.
 pub checkpoint-ends : (r : Run) → Inv r → r .crashed ≡ false → isRunning (r .board .state .phase) ≡ true → r .board .state .requested ≡ true → AllWaitOrAway (r .board .state) → (left : ℕ) → r .board .state .place + left ≡ dirtyCount (r .board .state) + 3 → EndsIn left (r .board) × KeepsAway (r .board .state) (stepsFrom left (r .board) .state)
 checkpoint-ends r inv d e on wait left h =
-    let b = r .board in
-    let m = r .machine in
-    let s = running-run r inv d (is-running (b .state .phase) e) in
-    let v = s .running in
-    let y : Ready (m .lines) b =
-    record {
-      phase = s .phase;
-      request = on;
-      sizes = inv .sizes;
-      lines = v .lines;
-      workers = v .workers;
-      dirty = dirty-fine (b .state .dirty) (m .marked) (v .dirty);
-      holders = v .holders;
-      place = place-in (m .lines) b m (v .stage) on;
-      epoch = room b m on (v .stage);
-      waiting = all-quiescent (b .state) wait;
-    } in
-    ends left b y (omega arith)
+    ends left r (record { inv = inv; uncut = d; phase = is-running (r .board .state .phase) e; request = on; waiting = all-quiescent (r .board .state) wait })
+    (omega (arith, acts-length (r .board), chosen (r .board .state .requested) (r .board .state .place) 0 on))

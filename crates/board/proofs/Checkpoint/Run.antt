@@ -8,26 +8,27 @@ use mathlib.Core.Bool.{Bool, true, false, true≢false}
 use Rattle.line.specs.Line.{lineStart}
 use Rattle.board.specs.declared.Phase.{Phase}
 use Rattle.board.specs.declared.Phase.the-variants.{Off, Formatting, Recovering, Running}
+use Rattle.board.specs.Location.{Location}
 use Rattle.board.specs.Board.{epochOf}
 use Rattle.board.specs.State.{isRunning, dirtyCount}
 use Rattle.board.specs.Machine.{markedCount}
 use Rattle.board.specs.Sequence.{Run}
 use Rattle.board.specs.Statements.{Unchanged, Completes}
-use Rattle.board.proofs.Laws.Bools.{clash}
-use Rattle.board.proofs.Laws.Taken.{lines-in}
+use Rattle.predicate.proofs.Bools.{clash}
+use Rattle.board.proofs.Laws.Taken.{shape-in}
 use Rattle.board.proofs.Laws.Dirty.{dirty-count}
-use Rattle.board.proofs.Invariant.{Kept, Sizes, RunningInv, InPhase, Inv}
+use Rattle.board.proofs.Invariant.{Kept, Lengths, RunningInv, InPhase, Inv}
 
 -- What leads from run `r` to run `r′`, a format's step or not, carries the invariant over, and does to the last checkpoint what is claimed of it.
 pub record Carried (format : Bool) (r r′ : Run) : Type 0 where
   pub keeps : Inv r′
   pub completion : Completes format r r′
 
--- What leaves memory and the machine's checkpointed values and L changes nothing of the last checkpoint.
-pub quiet : (r r′ : Run) → r′ .board .memory ≡ r .board .memory → r′ .machine .lines ≡ r .machine .lines → ((c : ℕ) → r′ .machine .checkpointed c ≡ r .machine .checkpointed c) → Unchanged r r′
-quiet r r′ m l v =
+-- What leaves memory and the machine's checkpointed values and shape changes nothing of the last checkpoint.
+pub quiet : (r r′ : Run) → r′ .board .memory ≡ r .board .memory → r′ .machine .shape ≡ r .machine .shape → ((u : Location) → r′ .machine .checkpointed u ≡ r .machine .checkpointed u) → Unchanged r r′
+quiet r r′ m z v =
     record {
-      board = record { lines = l; header = λ k p q. word k; spare = λ i k a b p q. word (lineStart i + k) };
+      board = record { shape = z; header = λ k p q. word k; spare = λ i k a b p q. word (lineStart i + k) };
       epoch = ap epochOf m;
       values = λ c h. v c;
     }
@@ -36,8 +37,8 @@ quiet r r′ m l v =
     word k = ap (λ (row : List ℕ). getD row k 0) m
 
 -- The invariant is kept, and nothing of the last checkpoint changes.
-pub quietly : {r r′ : Run} → Inv r′ → r′ .board .memory ≡ r .board .memory → r′ .machine .lines ≡ r .machine .lines → ((c : ℕ) → r′ .machine .checkpointed c ≡ r .machine .checkpointed c) → Carried false r r′
-quietly {r} {r′} i m l v = record { keeps = i; completion = inl (quiet r r′ m l v) }
+pub quietly : {r r′ : Run} → Inv r′ → r′ .board .memory ≡ r .board .memory → r′ .machine .shape ≡ r .machine .shape → ((u : Location) → r′ .machine .checkpointed u ≡ r .machine .checkpointed u) → Carried false r r′
+quietly {r} {r′} i m z v = record { keeps = i; completion = inl (quiet r r′ m z v) }
 
 -- The only phase in which the board runs.
 pub is-running : (p : Phase) → isRunning p ≡ true → p ≡ Running
@@ -49,7 +50,7 @@ is-running Running e = refl
 -- A running board under the invariant.
 pub record RunningRun (r : Run) : Type 0 where
   pub inv : Inv r
-  pub running : RunningInv (r .machine .lines) (r .board) (r .machine)
+  pub running : RunningInv (r .machine .shape) (r .board) (r .machine)
   pub on : r .erased ≡ false
   pub phase : r .board .state .phase ≡ Running
 
@@ -61,10 +62,10 @@ running-run r inv d e =
 
 -- Its dirty lines are as many as the machine's lines with a marked cell.
 pub running-count : {r : Run} → RunningRun r → dirtyCount (r .board .state) ≡ markedCount (r .machine)
-running-count {r} s = dirty-count (r .board .state .dirty) (r .machine .marked) (s .running .dirty) (lines-in (r .machine .lines) (s .inv .sizes .limits) .1)
+running-count {r} s = dirty-count (r .board .state .dirty) (r .machine .marked) (s .running .checkpoint .dirty) (shape-in (r .machine .shape) (s .inv .sizes .limits) .1)
 
 -- The invariant of a running board from its parts.
-pub inv-running : (r : Run) → r .erased ≡ false → r .board .state .phase ≡ Running → Sizes (r .machine .lines) (r .board) → Kept (r .machine .lines) (r .machine .checkpointed) (r .board .memory) → RunningInv (r .machine .lines) (r .board) (r .machine) → Inv r
+pub inv-running : (r : Run) → r .erased ≡ false → r .board .state .phase ≡ Running → Lengths (r .machine .shape) (r .board .memory) (r .board .cache) → Kept (r .machine .shape) (r .machine .checkpointed) (r .board .memory) → RunningInv (r .machine .shape) (r .board) (r .machine) → Inv r
 inv-running r off e z k v =
     record {
       sizes = z;

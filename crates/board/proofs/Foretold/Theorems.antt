@@ -1,7 +1,7 @@
 -- THE THEOREMS about document 02, ticket 5: every statement of `specs/Foretold.antt`, proved.
 use Prim.Native.Nat.{ℕ, _+_, _/_, _<_}
 use mathlib.Core.Path.{_≡_, ap, subst, _∙_}
-use mathlib.Core.List.{List}
+use mathlib.Core.List.{List, map}
 use mathlib.Core.Bool.{false}
 use native.Mathlib.Omega.{arith}
 use native.Mathlib.Decide.{decLt}
@@ -15,21 +15,23 @@ use Rattle.line.specs.Cell.{cellLine}
 use Rattle.board.specs.declared.Condition.{Condition}
 use Rattle.board.specs.declared.Phase.the-variants.{Running}
 use Rattle.board.specs.declared.Call.the-variants.{Advance, Count}
-use Rattle.board.specs.Board.{Board, cells}
+use Rattle.board.specs.Board.{Board, shapeOf, cells}
 use Rattle.board.specs.State.{updates}
 use Rattle.board.specs.Causes.{cause, causes}
 use Rattle.board.specs.Effects.{advance, advanceOf, effect}
 use Rattle.board.specs.Next.{Taken, taken, next, stepsOf, valueCounted, valueOf}
 use Rattle.board.specs.Sequence.{Run}
 use Rattle.board.specs.Foretold.{MarkSets, DirtyLines, StrayBits, CountsBits, CountWithin, CountLeaves, ToRelease, Gathered, Foretold, StepsWrite, EachLineOnce}
-use Rattle.board.proofs.Laws.Bools.{split, clash, chosen, passedOver}
-use Rattle.board.proofs.Laws.Taken.{Clear, take, standsAt, passed, taken-next, performed-number, performed-value, performed-taken, lines-in, record-within, record-cells}
+use Rattle.predicate.proofs.Bools.{split, clash, chosen, passedOver}
+use Rattle.board.proofs.Laws.Taken.{Clear, take, standsAt, passed, taken-next, performed-number, performed-value, performed-taken, limits-in, record-within, record-cells}
 use Rattle.board.proofs.Laws.Reading.{in-phase, running-passes}
-use Rattle.board.proofs.Invariant.{progress}
+
+use Rattle.board.specs.Checkpoint.{planned, progress, acts}
 use Rattle.board.proofs.Checkpoint.Run.{is-running}
 use Rattle.board.proofs.Checkpoint.Ends.{all-quiescent}
 use Rattle.board.proofs.Keeps.Every.{history-inv}
-use Rattle.board.proofs.Foretold.Rising.{plan}
+use Rattle.board.proofs.Checkpoint.Acts.{acts-length}
+use Rattle.board.proofs.Foretold.Rising.{writes, planned-writes}
 use Rattle.board.proofs.Foretold.Steps.{Waits, follow}
 
 -- ---- 1. which lines are dirty
@@ -41,10 +43,10 @@ mark-sets w c v b eight here t =
     let s = b .state in
     let l = cellLine c in
     let fine = passed (Advance w) b t 3 in
-    let cell : c < cells (s .lines) = leb-false (cells (s .lines)) c (subst (λ (k : Condition). updates (leb (cells (s .lines))) k ≡ false) here (record-cells s fine w (leb-false (s .workers) w (passed (Advance w) b t 6)))) in
+    let cell : c < cells (shapeOf s) = leb-false (cells (shapeOf s)) c (subst (λ (k : Condition). updates (leb (cells (shapeOf s))) k ≡ false) here (record-cells s fine w (leb-false (s .workers) w (passed (Advance w) b t 6)))) in
     let same : next (Advance w) b .state .dirty ≡ inserted (s .dirty) l = ap (λ (d : Board). d .state .dirty) (taken-next (Advance w) b t ∙ ap (λ (k : Condition). advanceOf k w s b) here) in
     record {
-      set = ap (λ (words : List ℕ). contains words l) same ∙ contains-inserted (s .dirty) l (omega (arith, eight, lines-in (s .lines) (record-within s fine .0) .1));
+      set = ap (λ (words : List ℕ). contains words l) same ∙ contains-inserted (s .dirty) l (omega (arith, eight, limits-in (shapeOf s) (s .workers) (record-within s fine .limits) .lines));
       others = λ i o. ap (λ (words : List ℕ). contains words i) same ∙ contains-other (s .dirty) l i o;
     }
 
@@ -52,7 +54,7 @@ mark-sets w c v b eight here t =
 pub dirty-lines : DirtyLines
 dirty-lines r h d e =
     let v = in-phase r (history-inv r h) d Running (is-running (r .board .state .phase) e) .0 in
-    (λ i p. v .dirty .lines i p, v .dirty .own)
+    (λ i p. v .checkpoint .dirty .lines i p, v .checkpoint .dirty .own)
 
 -- A record's bits stray exactly where one of them is no cell line's.
 pub stray-bits : StrayBits
@@ -71,7 +73,7 @@ counts-bits = size-count
 pub count-within : CountWithin
 count-within s e =
     let fine = record-within s e in
-    (omega arith, omega (arith, size-most (s .dirty) (s .lines) (fine .3) (omega (arith, lines-in (s .lines) (fine .0) .1))))
+    (omega arith, omega (arith, size-most (s .dirty) (s .lines) (fine .bits) (omega (arith, limits-in (shapeOf s) (s .workers) (fine .limits) .lines))))
 
 -- It changes nothing.
 pub count-leaves : CountLeaves
@@ -114,12 +116,13 @@ foretold r g number value b p =
       zero-number,
       λ n b′ calls.
           let f = follow (subst (λ (d : Board). ToRelease n d b′) same calls) (waits r g) in
-          omega (arith, f .count, unbegun r g, performed-value Count (r .board) p, count-value (r .board) t),
+          omega (arith, f .count, acts-length (r .board), unbegun r g, performed-value Count (r .board) p, count-value (r .board) t),
     )
 
 -- ---- 4. each line once
 
 -- Those steps write each dirty line once, rising, then line 0.
 pub each-line-once : EachLineOnce
+unfolding acts
 each-line-once r g n b′ calls =
-    subst (λ (p : ℕ). StepsWrite calls (drop p (plan (r .board .state)))) (unbegun r g) (follow calls (waits r g) .written)
+    subst (StepsWrite calls) (ap (λ (p : ℕ). map writes (drop p (planned (r .board)))) (unbegun r g) ∙ planned-writes (r .board)) (follow calls (waits r g) .written)

@@ -8,13 +8,13 @@ use Rattle.board.specs.declared.Phase.{Phase}
 use Rattle.board.specs.declared.Phase.the-variants.{Formatting}
 use Rattle.board.specs.declared.Call.{Call}
 use Rattle.board.specs.declared.Call.the-variants.{FormatStart, RecoveryStart, Step}
-use Rattle.board.specs.Board.{Board, linesOf}
+use Rattle.board.specs.Board.{Board, Shape, shaped, shapeIn}
 use Rattle.board.specs.State.{isOff, isFormatting, isRunning}
 use Rattle.board.specs.Next.{Taken, Kind, startsFormat, startsRecovery, stepping, writing, counting, other, reading, kind, isStart, isStep, Performed}
-use Rattle.board.specs.Effects.{undo}
+use Rattle.board.specs.Location.{undo}
 use Rattle.board.specs.Machine.{Machine, recoveryBeginning, formatSteps}
 use Rattle.board.specs.Sequence.{Takes, finished, steps, between, paged, Begins, formatted, recoveryStarted, opening}
-use Rattle.board.proofs.Laws.Bools.{clash}
+use Rattle.predicate.proofs.Bools.{clash}
 use Rattle.board.proofs.Laws.Takes.{takes-none}
 use Rattle.board.proofs.Invariant.{Inv}
 use Rattle.board.proofs.Laws.Taken.{phaseBars, phase-passed, performed-taken, performed-refused, page-board}
@@ -48,36 +48,36 @@ format-refuses k b p o t = barred (kind k) o (phase-passed k b t)
 -- ---- a format taken to its end
 
 -- A format ends once the steps left to it are taken, whatever else is called between.
-pub format-taken : (l : ℕ) {n : ℕ} {b b′ : Board} → Takes n b b′ → Formats l b → b .state .place + n ≡ l + 2 → Fresh l b′
-format-taken l (finished {b = b}) f e = absurd (omega (arith, f .format .within))
-format-taken l (steps {n = n} {b = b} p rest) f e =
-    elim (decLe (b .state .place) l) [
+pub format-taken : (σ : Shape) {n : ℕ} {b b′ : Board} → Takes n b b′ → Formats σ b → b .state .place + n ≡ σ .lines + 2 → Fresh σ b′
+format-taken σ (finished {b = b}) f e = absurd (omega (arith, f .format .within))
+format-taken σ (steps {n = n} {b = b} p rest) f e =
+    elim (decLe (b .state .place) (σ .lines)) [
       | yes h ↦
-          let same = performed-taken Step b p refl .1 ∙ erasing-step l b f h in
-          let after = format-erases l b f h in
-          format-taken l rest (subst (λ (d : Board). Formats l d) (sym same) (after .formats)) (ap (λ (d : Board). d .state .place + n) same ∙ omega arith)
+          let same = performed-taken Step b p refl .1 ∙ erasing-step σ b f h in
+          let after = format-erases σ b f h in
+          format-taken σ rest (subst (λ (d : Board). Formats σ d) (sym same) (after .formats)) (ap (λ (d : Board). d .state .place + n) same ∙ omega arith)
       | no h ↦
-          let last : b .state .place ≡ l + 1 = omega (arith, f .format .within) in
-          subst (λ (d : Board). Fresh l d) (sym (performed-taken Step b p refl .1 ∙ finishing-step l b f last) ∙ takes-none rest (omega arith)) (format-finishes l b f last)
+          let last : b .state .place ≡ σ .lines + 1 = omega (arith, f .format .within) in
+          subst (λ (d : Board). Fresh σ d) (sym (performed-taken Step b p refl .1 ∙ finishing-step σ b f last) ∙ takes-none rest (omega arith)) (format-finishes σ b f last)
     ]
-format-taken l (between {n = n} {number = number} k {b = b} p o rest) f e =
+format-taken σ (between {n = n} {number = number} k {b = b} p o rest) f e =
     let same = performed-refused k b p (λ z. format-refuses k b (f .phase) (o z) (performed-taken k b p z .0)) in
-    format-taken l rest (subst (λ (d : Board). Formats l d) (sym same) f) (ap (λ (d : Board). d .state .place + suc n) same ∙ e)
-format-taken l (paged {n = n} text left {b = b} p rest) f e =
+    format-taken σ rest (subst (λ (d : Board). Formats σ d) (sym same) f) (ap (λ (d : Board). d .state .place + suc n) same ∙ e)
+format-taken σ (paged {n = n} text left {b = b} p rest) f e =
     let same = page-board b text p in
-    format-taken l rest (subst (λ (d : Board). Formats l d) (sym same) f) (ap (λ (d : Board). d .state .place + suc n) same ∙ e)
+    format-taken σ rest (subst (λ (d : Board). Formats σ d) (sym same) f) (ap (λ (d : Board). d .state .place + suc n) same ∙ e)
 
 -- A started format and its steps leave a fresh board.
-pub format-fresh : (l w : ℕ) (b : Board) {value : ℕ} {d b′ : Board} → Performed (FormatStart l w) b 0 value d → Takes (formatSteps l) d b′ → Fresh l b′
+pub format-fresh : (l w : ℕ) (b : Board) {value : ℕ} {d b′ : Board} → Performed (FormatStart l w) b 0 value d → Takes (formatSteps l) d b′ → Fresh (shaped l) b′
 format-fresh l w b p takes =
     let (t, same) = performed-taken (FormatStart l w) b p refl in
     let begun = format-begins l w b t in
-    format-taken l takes (subst (λ (x : Board). Formats l x) (sym same) (begun .0))
+    format-taken (shaped l) takes (subst (λ (x : Board). Formats (shaped l) x) (sym same) (begun .0))
     (ap (λ (x : Board). x .state .place + formatSteps l) same ∙ omega (arith, begun .1))
 
 -- The invariant holds where a history begins.
 pub begins-inv : (b : Board) (m : Machine) → Begins b m → Inv (opening b m)
-begins-inv b m (formatted l w value d d′ b′ p takes) = fresh-inv l b′ false (format-fresh l w d p takes)
+begins-inv b m (formatted l w value d d′ b′ p takes) = fresh-inv (shaped l) b′ false (format-fresh l w d p takes)
 begins-inv b m (recoveryStarted value d b′ p) =
     let (t, same) = performed-taken RecoveryStart d p refl in
-    subst (λ (x : Board). Inv (opening x (recoveryBeginning (linesOf (d .memory)) (undo (d .memory))))) (sym same) (recovery-begins d t)
+    subst (λ (x : Board). Inv (opening x (recoveryBeginning (shapeIn (d .memory)) (undo (d .memory))))) (sym same) (recovery-begins d t)

@@ -9,6 +9,7 @@ use lib.Dec.{ltb}
 use lib.ListN.{length-set}
 use borrow.Author.Tests.{leb-false, ltb-false, lt-leb, le-ltb}
 use Rattle.locks.proofs.Holders.{any-none, none-any}
+use Rattle.board.specs.Board.{Shape}
 use Rattle.board.specs.declared.State.{State}
 use Rattle.board.specs.declared.Condition.{Condition}
 use Rattle.board.specs.declared.Condition.the-variants.{Free, Away}
@@ -21,9 +22,10 @@ use Rattle.board.specs.Next.{Taken}
 use Rattle.board.specs.Machine.{Unfinished, none, feed}
 use Rattle.board.specs.Sequence.{Run}
 use Rattle.board.specs.Statements.{HoldsNone}
-use Rattle.board.proofs.Laws.Bools.{split, chosen, passedOver, and-not, and-off, and-off-right, not-off, not-on}
-use Rattle.board.proofs.Invariant.{AllQuiescent, WorkerInv, Touches, progress, Inv}
-use Rattle.board.proofs.Laws.Taken.{Clear, take, standsAt, passed, afterTaken, workers-in}
+use Rattle.predicate.proofs.Bools.{split, chosen, passedOver, and-not, and-off, and-off-right, not-off, not-on}
+use Rattle.board.proofs.Invariant.{AllQuiescent, WorkerInv, Touches, Inv}
+use Rattle.board.specs.Checkpoint.{progress}
+use Rattle.board.proofs.Laws.Taken.{Clear, take, standsAt, passed, afterTaken, own-seat}
 use Rattle.board.proofs.Laws.Workers.{is-free, is-away, condition-at, condition-other}
 use Rattle.board.proofs.Laws.Reading.{running-passes}
 use Rattle.board.proofs.Laws.Count.{at-each}
@@ -47,15 +49,15 @@ begun-off requested place f =
 
 -- A condition without an unfinished update.
 record Idle (k : Condition) : Type 0 where
-  none-left : (l : ℕ) (cache : List ℕ) (u : Unfinished) → WorkerInv l cache k u → u ≡ none
-  fits-none : (l : ℕ) (cache : List ℕ) (u : Unfinished) → u ≡ none → WorkerInv l cache k u
+  none-left : (σ : Shape) (cache : List ℕ) (u : Unfinished) → WorkerInv σ cache k u → u ≡ none
+  fits-none : (σ : Shape) (cache : List ℕ) (u : Unfinished) → u ≡ none → WorkerInv σ cache k u
   no-cell : (d : ℕ) → Touches k d → ⊥
 
 free-idle : Idle Free
-free-idle = record { none-left = λ l cache u e. e; fits-none = λ l cache u e. e; no-cell = λ d t. t }
+free-idle = record { none-left = λ σ cache u e. e; fits-none = λ σ cache u e. e; no-cell = λ d t. t }
 
 away-idle : Idle Away
-away-idle = record { none-left = λ l cache u e. e; fits-none = λ l cache u e. e; no-cell = λ d t. t }
+away-idle = record { none-left = λ σ cache u e. e; fits-none = λ σ cache u e. e; no-cell = λ d t. t }
 
 -- A worker under W of a running board that goes from one condition without an update to another.
 module _ (r : Run) (w : ℕ) (k k′ : Condition) (inv : Inv r) (d : r .crashed ≡ false) (runs : notRunning (r .board) ≡ false) (there : noWorker (r .board .state) w ≡ false) (at : conditionOf (r .board .state) w ≡ k) (old : Idle k) (new : Idle k′) where
@@ -72,7 +74,7 @@ module _ (r : Run) (w : ℕ) (k k′ : Condition) (inv : Inv r) (d : r .crashed 
   put : conditionOf s′ w ≡ k′
   put =
       let v = running-run r inv d on .running in
-      condition-at s w k′ (omega (arith, leb-false (s .workers) w there, v .eight, workers-in (r .machine .lines) (s .workers) (v .workers) .1))
+      condition-at s w k′ (own-seat s (v .own) (leb-false (s .workers) w there))
 
   kept : (i : ℕ) → (w ≡ i → ⊥) → conditionOf s′ i ≡ conditionOf s i
   kept = condition-other s w k′
@@ -84,9 +86,9 @@ module _ (r : Run) (w : ℕ) (k k′ : Condition) (inv : Inv r) (d : r .crashed 
         eight = length-set (s .worker) w (record { condition = k′ });
         work =
             at-each
-            (λ (i : ℕ). i < s .workers → (l : ℕ) (cache : List ℕ) (u : Unfinished) → WorkerInv l cache (conditionOf s i) u → WorkerInv l cache (conditionOf s′ i) u) w
-            (λ h l cache u x. subst (λ (c : Condition). WorkerInv l cache c u) (sym put) (new .fits-none l cache u (old .none-left l cache u (subst (λ (c : Condition). WorkerInv l cache c u) at x))))
-            (λ i o h l cache u x. subst (λ (c : Condition). WorkerInv l cache c u) (sym (kept i o)) x);
+            (λ (i : ℕ). i < s .workers → (σ : Shape) (cache : List ℕ) (u : Unfinished) → WorkerInv σ cache (conditionOf s i) u → WorkerInv σ cache (conditionOf s′ i) u) w
+            (λ h σ cache u x. subst (λ (c : Condition). WorkerInv σ cache c u) (sym put) (new .fits-none σ cache u (old .none-left σ cache u (subst (λ (c : Condition). WorkerInv σ cache c u) at x))))
+            (λ i o h σ cache u x. subst (λ (c : Condition). WorkerInv σ cache c u) (sym (kept i o)) x);
         touches = λ i n.
             at-each (λ (j : ℕ). j < s .workers → Touches (conditionOf s′ j) n → Touches (conditionOf s j) n) w
             (λ h t. absurd (new .no-cell n (subst (λ (c : Condition). Touches c n) put t)))

@@ -1,47 +1,50 @@
 -- A taken step of a requested checkpoint keeps the invariant, act by act.
 use Prim.Native.Nat.{ℕ, _+_, _≤_, _<_}
 use mathlib.Core.Path.{_≡_, refl, sym, ap, subst, _∙_}
-use mathlib.Core.List.{List}
+use mathlib.Core.Logic.{⊎-elim}
+use mathlib.Core.List.{List, [], _∷_, List·Memᴰ}
 use mathlib.Core.Bool.{true, false, _&&_, false≢true}
 use native.Mathlib.Omega.{arith}
-use native.Mathlib.Decide.{ℕ-discrete, decLt}
-use lib.ListN.{set}
-use borrow.Author.Tests.{eq-eqb, ne-eqb}
-use Rattle.bitset.specs.Words.{capacity, contains, nth}
-use Rattle.bitset.proofs.Passing.{count-less, nth-one}
-use Rattle.bitset.proofs.Words.{size-count}
+use native.Mathlib.Decide.{ℕ-discrete}
+use lib.ListN.{length, set}
+use Rattle.bitset.specs.Words.{nth}
 use Rattle.bitset.proofs.Members.{nth-own}
-use Rattle.line.specs.Cell.{cellLine}
+use Rattle.bitset.proofs.Words.{size-count}
+use Rattle.predicate.proofs.Bools.{chosen}
+use Rattle.board.specs.Location.{Location, Has, lineFor}
+use Rattle.board.specs.declared.State.{State}
 use Rattle.board.specs.declared.Condition.{Condition}
 use Rattle.board.specs.declared.Condition.the-variants.{Free, Waiting, Updating, Away}
 use Rattle.board.specs.declared.Phase.the-variants.{Running}
 use Rattle.board.specs.declared.Call.the-variants.{Step}
-use Rattle.board.specs.Board.{Board, epochOf}
+use Rattle.board.specs.Board.{Board, Shape, epochOf}
 use Rattle.board.specs.State.{conditionOf, quiescent, afterRelease, placed, released, dirtyCount}
-use Rattle.board.specs.Effects.{writtenBack, cached, stated, Act, writeLine, storeEpoch, writeHeader, release, actAt, performAct}
-use Rattle.board.specs.Machine.{Unfinished, Machine, counted, completed, dropped, checkpointStep}
+use Rattle.board.specs.Checkpoint.{Act, writeLine, storeEpoch, writeHeader, release, progress, acts}
+use Rattle.board.specs.Effects.{writtenBack, cached, stated, performAct}
+use Rattle.board.specs.Machine.{Unfinished, Machine, markedCount, counted, completed, dropped, checkpointStep}
 use Rattle.board.specs.Sequence.{Run}
-use Rattle.board.proofs.Laws.Bools.{chosen}
 use Rattle.board.proofs.Laws.View.{View, view, Sized, view-backed, view-header}
-use Rattle.board.proofs.Invariant.{AllQuiescent, Undo, WorkerInv, Touches, SameRecords, Dirty, Early, Late, Stage, early, gap, late, RunningInv, Inv}
+use Rattle.board.proofs.Invariant.{AllQuiescent, Undo, WorkerInv, Touches, WorkersPart, SameValues, Lengths, Early, Late, Stage, early, gap, late, RunningInv, Inv}
 use Rattle.board.proofs.Laws.Rows.{epoch-set, sized-set, header-set, spare-set, own-same, sizes-same, sizes-set}
-use Rattle.board.proofs.Laws.Taken.{lines-in, workers-in, afterTaken}
+use Rattle.board.proofs.Laws.Taken.{limits-in, afterTaken}
 use Rattle.board.proofs.Laws.Workers.{released-condition}
-use Rattle.board.proofs.Laws.Dirty.{dirty-fine, marked-line, dirty-none}
-use Rattle.board.proofs.Checkpoint.Run.{Carried, quietly, RunningRun, running-run, running-count, inv-running}
-use Rattle.board.proofs.Checkpoint.Stages.{moved, early-placed, early-back}
+use Rattle.board.proofs.Laws.Dirty.{dirty-fine}
+use Rattle.board.proofs.Laws.Parts.{unbegun-part}
+use Rattle.board.proofs.Checkpoint.Memory.{value-back}
+use Rattle.board.proofs.Checkpoint.Run.{Carried, quietly, RunningRun, running-run, inv-running}
+use Rattle.board.proofs.Checkpoint.Stages.{Leaves, early-back}
 use Rattle.board.proofs.Checkpoint.Back.{quiet-back, header-back}
-use Rattle.board.proofs.Checkpoint.Acts.{act-line, act-epoch, act-header, act-release, machine-counts, machine-completes, machine-drops, acted, step-acts, step-ready}
+use Rattle.board.proofs.Checkpoint.Acts.{Remains, lineNext, epochNext, headerNext, releaseNext, acts-next, none-pending, pending-next, machine-counts, machine-completes, machine-drops, acted, step-acts, step-ready}
 use Rattle.board.specs.Next.{Taken}
 
 -- ---- workers that wait or are away
 
 -- Such a worker has no unfinished update, whatever the cache, and has none after the release.
-quiescent-worker : (l : ℕ) (cache cache′ : List ℕ) (d : Condition) (u : Unfinished) → quiescent d ≡ true → WorkerInv l cache d u → WorkerInv l cache′ d u × WorkerInv l cache′ (afterRelease d) u
-quiescent-worker l cache cache′ Free u w p = absurd (false≢true w)
-quiescent-worker l cache cache′ Waiting u w p = (p, p)
-quiescent-worker l cache cache′ (Updating next c v) u w p = absurd (false≢true w)
-quiescent-worker l cache cache′ Away u w p = (p, p)
+quiescent-worker : (σ : Shape) (cache cache′ : List ℕ) (d : Condition) (u : Unfinished) → quiescent d ≡ true → WorkerInv σ cache d u → WorkerInv σ cache′ d u × WorkerInv σ cache′ (afterRelease d) u
+quiescent-worker σ cache cache′ Free u w p = absurd (false≢true w)
+quiescent-worker σ cache cache′ Waiting u w p = (p, p)
+quiescent-worker σ cache cache′ (Updating next c v) u w p = absurd (false≢true w)
+quiescent-worker σ cache cache′ Away u w p = (p, p)
 
 -- No worker has an unfinished update after the release.
 released-touches : (k : Condition) (d : ℕ) → Touches (afterRelease k) d → ⊥
@@ -50,169 +53,152 @@ released-touches Waiting d t = t
 released-touches (Updating next c v) d t = t
 released-touches Away d t = t
 
--- ---- the epoch's store
-
--- Past the dirty lines memory has the record of every cell.
-early-same : {l : ℕ} (b : Board) {m : Machine} → l ≤ 511 → b .state .requested ≡ true → b .state .place ≡ dirtyCount (b .state) → Dirty l (b .state .dirty) (m .marked) → Early l b m → SameRecords l b
-early-same b {m} most on end d e c h =
-    elim (ℕ-discrete (view (b .cache) c .mark) (epochOf (b .memory))) [
-      | yes q ↦
-          let set = marked-line (b .state .dirty) (m .marked) d c h (e .marks c h ∙ eq-eqb _ _ q) in
-          let before = count-less (cellLine c) capacity (contains (b .state .dirty)) (omega arith) set in
-          e .written c h set (omega (arith, size-count (b .state .dirty), chosen (b .state .requested) (b .state .place) 0 on))
-      | no o ↦ e .clean c h o
-    ]
-
--- The epoch's store leads into the gap.
-running-epoch : {l : ℕ} (b : Board) (m : Machine) → l ≤ 511 → Sized l (b .cache) → b .state .requested ≡ true → b .state .place ≡ dirtyCount (b .state) → AllQuiescent (b .state) → Early l b m → RunningInv l b m → RunningInv l (cached (set (b .cache) 0 (epochOf (b .cache) + 1)) (placed (b .state) (b .state .place + 1) (b .state .undo)) b) (counted m)
-running-epoch {l} b m most z on end wait e v =
+-- The workers after the release.
+released-part : {σ : Shape} (s : State) {cache : List ℕ} {unfinished : ℕ → Unfinished} → s .workers ≤ 8 → AllQuiescent s → WorkersPart σ (s .workers) (s .worker) cache unfinished → WorkersPart σ (s .workers) (released s .worker) cache unfinished
+released-part {σ} s {cache} {unfinished} eight wait v =
     record {
-      lines = v .lines;
-      workers = v .workers;
-      holders = v .holders;
-      request = v .request;
-      eight = v .eight;
-      own = own-same b (cached (set (b .cache) 0 (epochOf (b .cache) + 1)) (placed (b .state) (b .state .place + 1) (b .state .undo)) b) refl (sizes-same (b .memory)) (sizes-set (b .cache) (epochOf (b .cache) + 1)) (v .own);
-      header = header-set (b .cache) (epochOf (b .cache) + 1) z (omega arith) (v .header);
-      undoes = λ c h. subst (Undo (epochOf (b .memory)) (m .checkpointed c)) (sym (same c)) (v .undoes c h);
-      current = λ c h. ap (λ (k : View). k .value) (same c) ∙ v .current c h;
-      spare = spare-set (b .memory) (b .cache) (epochOf (b .cache) + 1) (v .spare);
-      dirty = v .dirty;
-      steps = λ q. ap (λ (n : ℕ). n + 1) (v .steps q);
-      stage =
-          gap (record {
-            request = on;
-            place = ap (λ (n : ℕ). n + 1) end;
-            epochs = epoch-set (b .cache) (epochOf (b .cache) + 1) z ∙ ap (λ (n : ℕ). n + 1) (e .epochs);
-            same = λ c h. early-same b most on end (v .dirty) e c h ∙ sym (ap (λ (k : View). k .value) (same c));
-            waiting = wait;
-          });
-      worker = λ w h. quiescent-worker l (b .cache) (set (b .cache) 0 (epochOf (b .cache) + 1)) (conditionOf (b .state) w) (m .unfinished w) (wait w h) (v .worker w h) .0;
-      apart = v .apart;
+      each = λ w h. subst (λ (d : Condition). WorkerInv σ cache d (unfinished w)) (sym (after w h)) (quiescent-worker σ cache cache (conditionOf s w) (unfinished w) (wait w h) (v .each w h) .1);
+      apart = λ w w′ d h h′ t t′. absurd (released-touches (conditionOf s w) d (subst (λ (k : Condition). Touches k d) (after w h) t));
     }
   where
-    same : (c : ℕ) → view (set (b .cache) 0 (epochOf (b .cache) + 1)) c ≡ view (b .cache) c
-    same c = view-header (b .cache) 0 (epochOf (b .cache) + 1) c (omega arith)
+    after : (w : ℕ) → w < s .workers → conditionOf (released s) w ≡ afterRelease (conditionOf s w)
+    after w h = released-condition s w (omega arith)
 
--- ---- the release
-
--- The release leads to a running board with no request and no marks.
-running-release : {l : ℕ} (b : Board) (m : Machine) → Late l b m → RunningInv l b m → RunningInv l (stated (released (b .state)) b) (dropped (counted m))
-running-release {l} b m e v =
-    record {
-      lines = v .lines;
-      workers = v .workers;
-      holders = v .holders;
-      request = refl;
-      eight = refl;
-      own = own-same b (stated (released (b .state)) b) refl (sizes-same (b .memory)) (sizes-same (b .cache)) (v .own);
-      header = v .header;
-      undoes = v .undoes;
-      current = v .current;
-      spare = v .spare;
-      dirty = dirty-none l (λ c. false) (λ c. refl);
-      steps = λ q. absurd (false≢true q);
-      stage =
-          early (record {
-            epochs = e .epochs;
-            marks = λ c h. sym (ne-eqb (view (b .cache) c .mark) (epochOf (b .memory)) (e .unlogged c h));
-            clean = λ c h o. e .same c h;
-            written = λ c h t p. absurd (omega arith);
-            within = omega arith;
-            waiting = λ h. absurd (omega arith);
-            room = λ q. absurd (false≢true q);
-          });
-      worker = λ w h. subst (λ (d : Condition). WorkerInv l (b .cache) d (m .unfinished w)) (sym (after w h)) (quiescent-worker l (b .cache) (b .cache) (conditionOf (b .state) w) (m .unfinished w) (e .waiting w h) (v .worker w h) .1);
-      apart = λ w w′ d h h′ t t′. absurd (released-touches (conditionOf (b .state) w) d (subst (λ (k : Condition). Touches k d) (after w h) t));
-    }
-  where
-    after : (w : ℕ) → w < b .state .workers → conditionOf (released (b .state)) w ≡ afterRelease (conditionOf (b .state) w)
-    after w h = released-condition (b .state) w (omega (arith, workers-in l (b .state .workers) (v .workers) .1))
-
--- ---- the acts, by stage
+-- ---- the acts
 
 module _ (r : Run) (s : RunningRun r) (on : r .board .state .requested ≡ true) (wait : AllQuiescent (r .board .state)) where
-  -- The steps taken are the checkpoint's place.
-  placed-steps : r .board .state .requested ≡ true → r .machine .steps + 1 ≡ r .board .state .place + 1
-  placed-steps q = ap (λ (n : ℕ). n + 1) (s .running .steps q)
+  abbrev b : Board
+  b = r .board
+
+  abbrev m : Machine
+  m = r .machine
+
+  abbrev σ : Shape
+  σ = m .shape
+
+  abbrev next : ℕ
+  next = b .state .place + 1
+
+  -- The machine's steps and the acts that are left are all steps of the checkpoint.
+  steps : m .steps + length (acts b) ≡ markedCount m + 3
+  steps = s .running .checkpoint .steps on
+
+  -- W is at most 8.
+  eight : b .state .workers ≤ 8
+  eight = limits-in σ (b .state .workers) (s .running .own .limits) .eight
 
   -- A step, from its act with what the machine sees of it.
-  by-act : (act : Act) (m : Machine) → actAt (dirtyCount (r .board .state)) (r .board .state .place) ≡ act → checkpointStep (r .machine) ≡ m → Carried false r (acted r act m) → Carried false r (afterTaken Step r)
-  by-act act m p q o =
-      subst (Carried false r) (sym (step-acts r (s .phase) (s .running .request ∙ on) ∙ (λ i. acted r (p i) (q i)))) o
+  by-act : {act : Act} {later : List Act} (seen : Machine) → acts b ≡ act ∷ later → checkpointStep m ≡ seen → Carried false r (acted r act seen) → Carried false r (afterTaken Step r)
+  by-act {act} seen p q o =
+      subst (Carried false r) (sym (step-acts r (s .phase) (s .running .checkpoint .request ∙ on) p ∙ ap (acted r act) q)) o
+
+  -- One step more is counted, and one act fewer is left.
+  one-fewer : {act : Act} {later : List Act} → acts b ≡ act ∷ later → b .state .requested ≡ true → m .steps + 1 + length later ≡ markedCount m + 3
+  one-fewer p on = omega (arith, steps, ap length p)
 
   -- A dirty line written back.
-  line-carried : r .board .state .place < dirtyCount (r .board .state) → Early (r .machine .lines) (r .board) (r .machine) → Carried false r (acted r writeLine (counted (r .machine)))
+  line-carried : {later : List Act} → acts b ≡ writeLine (nth (b .state .dirty) (progress (b .state))) ∷ later → progress (b .state) < dirtyCount (b .state) → 3 ≤ length later → Early σ b m → Carried false r (acted r (writeLine (nth (b .state .dirty) (progress (b .state)))) (counted m))
   unfolding performAct
-  line-carried h e =
-      let b = r .board in
-      let m = r .machine in
+  line-carried {later} p low three e =
       let z = s .inv .sizes in
-      let v = s .running in
-      let i = nth (b .state .dirty) (b .state .place) in
-      let found = nth-own (b .state .dirty) (m .lines) (dirty-fine (b .state .dirty) (m .marked) (v .dirty)) (b .state .place) h in
-      let q : i ≤ m .lines = found .2 in
-      quiet-back r s (b .state .place + 1) (m .steps + 1) placed-steps (r .crashed && true) i q (λ k. e .epochs) (m .checkpointed) (λ d k. refl)
-      (early (early-placed (moved b (writtenBack i b) (b .state .place)) (m .steps + 1) (early-back b z i q e) on h wait
-      (λ c p t k. ap (λ (w : View). w .value) (view-backed (b .memory) (b .cache) (z .memory) (z .cache) i c p
-      (nth-one {n = capacity} {m = capacity} (contains (b .state .dirty)) (cellLine c) i (record { passes = t; rank = k; within = omega (arith, lines-in (m .lines) (z .limits) .1) }) (found .0))))))
+      let i = nth (b .state .dirty) (progress (b .state)) in
+      let h : i ≤ σ .lines = nth-own (b .state .dirty) (σ .lines) (dirty-fine (b .state .dirty) (m .marked) (s .running .checkpoint .dirty)) (progress (b .state)) low .2 in
+      let leaves : Leaves b next later = λ memory. acts-next b memory (b .cache) on p in
+      quiet-back r s next (m .steps + 1) leaves (one-fewer p) (r .crashed && true) i h (λ q. e .epochs) (m .checkpointed) (λ u k. refl)
+      (early (early-back b z i h next (m .steps + 1) leaves three (λ k. wait)
+      (λ u k o. elim (ℕ-discrete (lineFor u) i) [
+        | yes q ↦ ap (λ (v : View). v .value) (view-backed (b .memory) (b .cache) (z .memory) (z .cache) i u h q)
+        | no d ↦
+            value-back (b .memory) (b .cache) (z .memory) (z .cache) i u h
+            (e .written u k (λ n. ⊎-elim d o (pending-next (lineFor u) i later (subst (List·Memᴰ (writeLine (lineFor u))) p n))))
+      ]) e))
 
   -- The epoch stored.
-  epoch-carried : r .board .state .place ≡ dirtyCount (r .board .state) → Early (r .machine .lines) (r .board) (r .machine) → Carried false r (acted r storeEpoch (counted (r .machine)))
+  epoch-carried : acts b ≡ storeEpoch ∷ writeHeader ∷ release ∷ [] → Early σ b m → Carried false r (acted r storeEpoch (counted m))
   unfolding performAct
-  epoch-carried end e =
-      let b = r .board in
-      let z = s .inv .sizes in
-      quietly (inv-running (acted r storeEpoch (counted (r .machine))) (s .on) (s .phase)
-      (record { limits = z .limits; memory = z .memory; cache = sized-set (b .cache) (epochOf (b .cache) + 1) (z .cache) })
-      (s .inv .kept (s .on)) (running-epoch b (r .machine) (lines-in (r .machine .lines) (z .limits) .1) (z .cache) on end wait e (s .running))) refl refl (λ c. refl)
+  epoch-carried p e =
+      quietly (inv-running (acted r storeEpoch (counted m)) (s .on) (s .phase) (record { limits = z .limits; memory = z .memory; cache = sized-set (b .cache) (epochOf (b .cache) + 1) (z .cache) }) (s .inv .kept (s .on))
+      (record {
+        own = v .own;
+        rows =
+            record {
+              sizes = own-same (sizes-same (b .memory)) (sizes-set (b .cache) (epochOf (b .cache) + 1)) (v .rows .sizes);
+              header = header-set (b .cache) (epochOf (b .cache) + 1) (z .cache) (omega arith) (v .rows .header);
+              undoes = λ u h. subst (Undo u (epochOf (b .memory)) (m .checkpointed u)) (sym (same u h)) (v .rows .undoes u h);
+              current = λ u h. ap (λ (k : View). k .value) (same u h) ∙ v .rows .current u h;
+              spare = spare-set (b .memory) (b .cache) (epochOf (b .cache) + 1) (v .rows .spare);
+            };
+        workers = record { each = λ w h. quiescent-worker σ (b .cache) cache (conditionOf (b .state) w) (m .unfinished w) (wait w h) (v .workers .each w h) .0; apart = v .workers .apart };
+        checkpoint =
+            record {
+              request = v .checkpoint .request;
+              dirty = v .checkpoint .dirty;
+              steps = λ q. ap (λ (xs : List Act). m .steps + 1 + length xs) left ∙ one-fewer p q;
+              stage =
+                  gap (record {
+                    request = on;
+                    left = ap length left;
+                    epochs = epoch-set (b .cache) (epochOf (b .cache) + 1) (z .cache) ∙ ap (λ (n : ℕ). n + 1) (e .epochs);
+                    same = λ u h. e .written u h (λ n. none-pending (lineFor u) (subst (List·Memᴰ (writeLine (lineFor u))) p n)) ∙ sym (ap (λ (k : View). k .value) (same u h));
+                    waiting = wait;
+                  });
+            };
+      })) refl refl (λ u. refl)
+    where
+      z : Lengths σ (b .memory) (b .cache)
+      z = s .inv .sizes
+
+      v : RunningInv σ b m
+      v = s .running
+
+      cache : List ℕ
+      cache = set (b .cache) 0 (epochOf (b .cache) + 1)
+
+      left : acts (cached cache (placed (b .state) next (b .state .undo)) b) ≡ writeHeader ∷ release ∷ []
+      left = acts-next b (b .memory) cache on p
+
+      same : (u : Location) → Has σ u → view cache u ≡ view (b .cache) u
+      same u h = view-header σ (b .cache) 0 (epochOf (b .cache) + 1) u h (omega arith)
 
   -- Line 0 written back.
-  header-carried : r .board .state .place ≡ dirtyCount (r .board .state) + 1 → Carried false r (acted r writeHeader (completed (counted (r .machine))))
+  header-step : acts b ≡ writeHeader ∷ release ∷ [] → Carried false r (afterTaken Step r)
   unfolding performAct
-  header-carried e =
-      header-back r s (r .board .state .place + 1) (r .machine .steps + 1) placed-steps (r .crashed && true) on (omega arith) (omega arith) (omega arith) (s .running .stage)
+  header-step p =
+      by-act (completed (counted m)) p (machine-completes m (omega (arith, steps, ap length p)))
+      (header-back r s next (m .steps + 1) (λ memory. acts-next b memory (b .cache) on p) (one-fewer p) (r .crashed && true) on (omega (arith, ap length p)) (omega arith) (omega arith) (s .running .checkpoint .stage))
 
   -- The workers released.
-  release-carried : Late (r .machine .lines) (r .board) (r .machine) → Carried false r (acted r release (dropped (counted (r .machine))))
+  release-step : acts b ≡ release ∷ [] → Late σ b m → Carried false r (afterTaken Step r)
   unfolding performAct
-  release-carried e =
-      let z = s .inv .sizes in
-      quietly (inv-running (acted r release (dropped (counted (r .machine)))) (s .on) (s .phase)
-      (record { limits = z .limits; memory = z .memory; cache = z .cache })
-      (s .inv .kept (s .on)) (running-release (r .board) (r .machine) e (s .running))) refl refl (λ c. refl)
+  release-step p e =
+      let v = s .running in
+      by-act (dropped (counted m)) p (machine-drops m (omega (arith, steps, ap length p)))
+      (quietly (inv-running (acted r release (dropped (counted m))) (s .on) (s .phase) (s .inv .sizes) (s .inv .kept (s .on))
+      (record {
+        own = record { shape = v .own .shape; limits = v .own .limits; holders = v .own .holders; eight = refl };
+        rows = v .rows;
+        workers = released-part (b .state) eight wait (v .workers);
+        checkpoint = unbegun-part (stated (released (b .state)) b) (dropped (counted m)) refl refl refl (λ u. refl) (e .epochs) (e .unlogged) (e .same);
+      })) refl refl (λ u. refl))
 
-  -- A step at line 0's write-back.
-  header-step : r .board .state .place ≡ dirtyCount (r .board .state) + 1 → Carried false r (afterTaken Step r)
-  header-step e =
-      by-act writeHeader (completed (counted (r .machine))) (act-header (dirtyCount (r .board .state)) (r .board .state .place) e)
-      (machine-completes (r .machine) (omega (arith, running-count s, s .running .steps on))) (header-carried e)
-
-  -- A step in each stage.
-  stage-step : Stage (r .machine .lines) (r .board) (r .machine) → Carried false r (afterTaken Step r)
-  stage-step (early e) =
-      let n = dirtyCount (r .board .state) in
-      let place = r .board .state .place in
-      let within : place ≤ n = omega (arith, e .within, chosen (r .board .state .requested) place 0 on) in
-      let counts : checkpointStep (r .machine) ≡ counted (r .machine) = machine-counts (r .machine) (omega (arith, running-count s, s .running .steps on)) in
-      elim (decLt place n) [
-        | yes h ↦ by-act writeLine (counted (r .machine)) (act-line n place h) counts (line-carried h e)
-        | no o ↦ let end : place ≡ n = omega arith in by-act storeEpoch (counted (r .machine)) (act-epoch n place end) counts (epoch-carried end e)
-      ]
-  stage-step (gap g) = header-step (g .place)
-  stage-step (late e) =
-      let n = dirtyCount (r .board .state) in
-      let place = r .board .state .place in
-      elim (ℕ-discrete place (n + 1)) [
-        | yes q ↦ header-step q
-        | no o ↦
-            let end : place ≡ n + 2 = omega (arith, e .low, e .high) in
-            by-act release (dropped (counted (r .machine))) (act-release n place end) (machine-drops (r .machine) (omega (arith, running-count s, s .running .steps on))) (release-carried e)
-      ]
+  -- A step, by the stage and the act that comes next.
+  stage-step : (xs : List Act) → acts b ≡ xs → Remains b xs → Stage σ b m → Carried false r (afterTaken Step r)
+  stage-step xs p (lineNext later low three) (early e) = by-act (counted m) p (machine-counts m (omega (arith, steps, ap length p))) (line-carried p low three e)
+  stage-step xs p epochNext (early e) = by-act (counted m) p (machine-counts m (omega (arith, steps, ap length p))) (epoch-carried p e)
+  stage-step xs p headerNext (early e) = absurd (omega (arith, e .left, ap length p))
+  stage-step xs p releaseNext (early e) = absurd (omega (arith, e .left, ap length p))
+  stage-step xs p (lineNext later low three) (gap g) = absurd (omega (arith, g .left, ap length p))
+  stage-step xs p epochNext (gap g) = absurd (omega (arith, g .left, ap length p))
+  stage-step xs p headerNext (gap g) = header-step p
+  stage-step xs p releaseNext (gap g) = absurd (omega (arith, g .left, ap length p))
+  stage-step xs p (lineNext later low three) (late e) = absurd (omega (arith, e .high, ap length p))
+  stage-step xs p epochNext (late e) = absurd (omega (arith, e .high, ap length p))
+  stage-step xs p headerNext (late e) = header-step p
+  stage-step xs p releaseNext (late e) = release-step p e
 
 -- What a taken step of a running board leaves.
 pub carried-checkpoint-step : (r : Run) → Inv r → r .crashed ≡ false → r .board .state .phase ≡ Running → Taken Step (r .board) → Carried false r (afterTaken Step r)
 carried-checkpoint-step r inv d e t =
     let s = running-run r inv d e in
-    let ready = step-ready (r .board) e (workers-in (r .machine .lines) (r .board .state .workers) (s .running .workers) .1) t in
-    stage-step r s (ready .0) (ready .1) (s .running .stage)
+    let now = step-ready (r .board) e t in
+    stage-step r s (now .request) (now .waiting) (acts (r .board)) refl (now .left) (s .running .checkpoint .stage)

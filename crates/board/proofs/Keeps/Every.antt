@@ -15,7 +15,7 @@ use Rattle.board.specs.Causes.{causes}
 use Rattle.board.specs.Machine.{feed}
 use Rattle.board.specs.Sequence.{Run, takenCall, unfed, Happens, performs, pages, cuts, History, begun, further}
 use Rattle.board.specs.Statements.{formatStepIn}
-use Rattle.board.proofs.Laws.Bools.{split, clash, decide}
+use Rattle.predicate.proofs.Bools.{split, clash, decide}
 use Rattle.board.proofs.Invariant.{Inv}
 use Rattle.board.proofs.Laws.Taken.{standsAt, passed, performed-taken, performed-refused, page-board, afterTaken}
 use Rattle.board.proofs.Format.Begins.{begins-inv}

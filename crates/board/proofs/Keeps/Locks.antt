@@ -11,7 +11,7 @@ use Rattle.board.specs.Machine.{feed}
 use Rattle.board.specs.Sequence.{Run}
 use Rattle.locks.specs.Holders.{heldBy, givenBack}
 use Rattle.board.proofs.Invariant.{Inv}
-use Rattle.board.proofs.Laws.Taken.{standsAt, passed, afterTaken, record-within, workers-in}
+use Rattle.board.proofs.Laws.Taken.{standsAt, passed, afterTaken, eight-within}
 use Rattle.board.proofs.Laws.Locks.{taken-under, given-back-under}
 use Rattle.board.proofs.Checkpoint.Run.{Carried}
 use Rattle.board.proofs.Keeps.Quiet.{carried-holders}
@@ -22,8 +22,7 @@ unfolding standsAt causes effect feed
 carried-take-lock r w k inv d t =
     let s = r .board .state in
     let pass = passed (TakeLock w k) (r .board) t in
-    let most = workers-in (s .lines) (s .workers) (record-within s (pass 3) .1) .1 in
-    carried-holders r (heldBy (s .holders) k w) _ inv d (pass 2) (taken-under (s .holders) (s .workers) k w most (leb-false (s .workers) w (pass 6)))
+    carried-holders r (heldBy (s .holders) k w) _ inv d (pass 2) (taken-under (s .holders) (s .workers) k w (eight-within s (pass 3)) (leb-false (s .workers) w (pass 6)))
 
 -- A lock given back.
 pub carried-give-back-lock : (r : Run) (w k : ℕ) → Inv r → r .crashed ≡ false → Taken (GiveBackLock w k) (r .board) → Carried false r (afterTaken (GiveBackLock w k) r)

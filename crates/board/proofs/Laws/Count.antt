@@ -1,12 +1,11 @@
--- Laws of a function changed at one place, and crate `bitset`'s of counting the numbers that pass a test.
+-- Laws of a function changed at one place.
 use Prim.Native.Nat.{ℕ}
 use mathlib.Core.Path.{_≡_, refl, sym, subst}
 use native.Mathlib.Decide.{ℕ-discrete}
 use lib.Dec.{eqb}
 use borrow.Author.Tests.{eq-eqb, ne-eqb}
 use Rattle.board.specs.Machine.{changed}
-use Rattle.board.proofs.Laws.Bools.{chosen, passedOver}
-pub use Rattle.bitset.proofs.Passing.{count-most, count-none, count-alike}
+use Rattle.predicate.proofs.Bools.{chosen, passedOver}
 
 -- ---- a function changed at one place
 

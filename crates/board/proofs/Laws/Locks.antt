@@ -5,7 +5,7 @@ use mathlib.Core.Bool.{true, false}
 use native.Mathlib.Omega.{arith}
 use Rattle.locks.specs.Holders.{holds, heldFrom, heldBy, givenBack}
 use Rattle.locks.proofs.Holders.{none-held, held-own, held-other, back-own, back-other, one-holder, from-under, under-from}
-use Rattle.board.proofs.Laws.Bools.{clash}
+use Rattle.predicate.proofs.Bools.{clash}
 use Rattle.board.proofs.Laws.Count.{at-each}
 
 -- Where nobody holds a lock, no holder is past W.

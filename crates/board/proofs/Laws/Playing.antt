@@ -13,7 +13,7 @@ use Rattle.board.specs.Next.{Taken, taken, next, Kind, startsFormat, sta
 use Rattle.board.specs.Sequence.{Takes, finished, steps, between, Run, takenCall, unfed, called, Happens, performs, History, further, recoverySteps}
 use Rattle.board.specs.Statements.{Recovered}
 use Rattle.board.specs.Bench.{afterCalls}
-use Rattle.board.proofs.Laws.Bools.{on, split, chosen, passedOver, and-off, and-left, and-right}
+use Rattle.predicate.proofs.Bools.{on, split, chosen, passedOver, and-off, and-left, and-right}
 use Rattle.board.proofs.Laws.Taken.{of-kind, performing}
 
 -- ---- calls are a history

@@ -15,15 +15,16 @@ use Rattle.board.specs.declared.State.{State}
 use Rattle.board.specs.declared.Condition.{Condition}
 use Rattle.board.specs.declared.Call.{Call}
 use Rattle.board.specs.declared.Call.the-variants.{FormatStart, RecoveryStart, Step, Update, RestartPoint, Advance, Request, WriteBack, Read, GoAway, ComeBack, Count, TakeLock, GiveBackLock}
-use Rattle.board.specs.Board.{Board, cells, rowWords, linesOf, linesOutside, workersOutside, outside}
+use Rattle.board.specs.Board.{Board, Shape, shapeOf, shapeIn, cells, rowWords, shapeOutside, workersOutside, outside}
 use Rattle.board.specs.State.{conditionOf, updates, anyWorker}
 use Rattle.board.specs.Causes.{Cause, causes, firstStanding, cause, badRecord, badRows, laterMark, placePast, notOn, notRecoveringOrRunning, notRunning}
 use Rattle.board.specs.Effects.{effect}
 use Rattle.board.specs.Page.{PageOutcome, PagePerformed}
 use Rattle.board.specs.Sequence.{Run, takenCall}
 use Rattle.board.specs.Next.{Taken, taken, next, Kind, startsFormat, startsRecovery, stepping, writing, counting, other, reading, kind, valueOf, Outcome, Performed}
-use Rattle.board.proofs.Laws.Bools.{split, chosen, passedOver, or-left, or-right, or-none, and-left, and-right, and-both, and-not, and-if, not-off, not-on, none-under, under-none}
-use Rattle.board.proofs.Invariant.{Sizes}
+use Rattle.predicate.proofs.Bools.{split, chosen, passedOver, or-left, or-right, or-none, and-left, and-right, and-both, and-not, and-if, not-off, not-on}
+use Rattle.predicate.proofs.Passing.{none-under, under-none}
+use Rattle.board.proofs.Invariant.{RecordInv, Lengths}
 
 -- ---- a call's causes
 
@@ -185,43 +186,63 @@ performing k b t v e = λ i. record { number = sym t i; value = v i; board = e i
 
 -- ---- the tests of limits, record and rows
 
--- L within its limits.
-pub lines-in : (l : ℕ) → linesOutside l ≡ false → (1 ≤ l) × (l ≤ 511)
-lines-in l e =
+-- A shape within its limits.
+pub shape-in : (σ : Shape) → shapeOutside σ ≡ false → (1 ≤ σ .lines) × (σ .lines ≤ 511)
+shape-in σ e =
+    let l = σ .lines in
     let t = not-off (leb 1 l && leb l 511) e in
     (leb-true 1 l (and-left (leb 1 l) (leb l 511) t), leb-true l 511 (and-right (leb 1 l) (leb l 511) t))
 
--- W within its limits.
-pub workers-in : (l w : ℕ) → workersOutside l w ≡ false → (1 ≤ w) × (w ≤ 8) × (w < cells l)
-workers-in l w e =
-    let t = not-off (leb 1 w && leb w 8 && ltb w (cells l)) e in
-    let u = and-left (leb 1 w && leb w 8) (ltb w (cells l)) t in
-    (leb-true 1 w (and-left (leb 1 w) (leb w 8) u), leb-true w 8 (and-right (leb 1 w) (leb w 8) u), ltb-true w (cells l) (and-right (leb 1 w && leb w 8) (ltb w (cells l)) t))
+-- And back.
+pub in-shape : (σ : Shape) → (1 ≤ σ .lines) × (σ .lines ≤ 511) → shapeOutside σ ≡ false
+in-shape σ h =
+    let l = σ .lines in
+    not-on (leb 1 l && leb l 511) (and-both (leb 1 l) (leb l 511) (le-leb 1 l (h .0)) (le-leb l 511 (h .1)))
+
+-- Shape and W within the limits.
+pub record Limits (σ : Shape) (w : ℕ) : Type 0 where
+  pub shape : shapeOutside σ ≡ false
+  pub lines : σ .lines ≤ 511
+  pub some : 1 ≤ w
+  pub eight : w ≤ 8
+  pub fewer : w < cells σ
+
+pub limits-in : (σ : Shape) (w : ℕ) → outside σ w ≡ false → Limits σ w
+limits-in σ w e =
+    let shape = or-left (shapeOutside σ) (workersOutside σ w) e in
+    let t = not-off (leb 1 w && leb w 8 && ltb w (cells σ)) (or-right (shapeOutside σ) (workersOutside σ w) e) in
+    let u = and-left (leb 1 w && leb w 8) (ltb w (cells σ)) t in
+    record {
+      shape = shape;
+      lines = shape-in σ shape .1;
+      some = leb-true 1 w (and-left (leb 1 w) (leb w 8) u);
+      eight = leb-true w 8 (and-right (leb 1 w) (leb w 8) u);
+      fewer = ltb-true w (cells σ) (and-right (leb 1 w && leb w 8) (ltb w (cells σ)) t);
+    }
 
 -- And back.
-pub in-lines : (l : ℕ) → (1 ≤ l) × (l ≤ 511) → linesOutside l ≡ false
-in-lines l h = not-on (leb 1 l && leb l 511) (and-both (leb 1 l) (leb l 511) (le-leb 1 l (h .0)) (le-leb l 511 (h .1)))
-
-pub in-workers : (l w : ℕ) → (1 ≤ w) × (w ≤ 8) × (w < cells l) → workersOutside l w ≡ false
-in-workers l w h =
-    not-on (leb 1 w && leb w 8 && ltb w (cells l))
-    (and-both (leb 1 w && leb w 8) (ltb w (cells l)) (and-both (leb 1 w) (leb w 8) (le-leb 1 w (h .0)) (le-leb w 8 (h .1))) (lt-ltb w (cells l) (h .2)))
+pub in-limits : (σ : Shape) (w : ℕ) → shapeOutside σ ≡ false → 1 ≤ w → w ≤ 8 → w < cells σ → outside σ w ≡ false
+in-limits σ w shape some eight fewer =
+    or-none (shapeOutside σ) (workersOutside σ w) shape
+    (not-on (leb 1 w && leb w 8 && ltb w (cells σ))
+    (and-both (leb 1 w && leb w 8) (ltb w (cells σ)) (and-both (leb 1 w) (leb w 8) (le-leb 1 w some) (le-leb w 8 eight)) (lt-ltb w (cells σ) fewer)))
 
 -- Rows of the right lengths pass.
-pub rows-fine : (l : ℕ) (b : Board) → Sizes l b → badRows l b ≡ false
-rows-fine l b z =
-    or-none (not (eqb (length (b .cache)) (rowWords l))) (not (eqb (length (b .memory)) (rowWords l)))
-    (not-on (eqb (length (b .cache)) (rowWords l)) (eq-eqb _ _ (z .cache .size)))
-    (not-on (eqb (length (b .memory)) (rowWords l)) (eq-eqb _ _ (z .memory .size)))
+pub rows-fine : (σ : Shape) (b : Board) → Lengths σ (b .memory) (b .cache) → badRows (σ .lines) b ≡ false
+rows-fine σ b z =
+    let n = rowWords (σ .lines) in
+    or-none (not (eqb (length (b .cache)) n)) (not (eqb (length (b .memory)) n))
+    (not-on (eqb (length (b .cache)) n) (eq-eqb _ _ (z .cache .size)))
+    (not-on (eqb (length (b .memory)) n) (eq-eqb _ _ (z .memory .size)))
 
 -- Where no mark is later than the epoch, each is at most the epoch.
-pub later-bounds : (e : ℕ) (row : List ℕ) → laterMark e row ≡ false → (c : ℕ) → c < cells (linesOf row) → fieldOf row c Mark ≤ e
+pub later-bounds : (e : ℕ) (row : List ℕ) → laterMark e row ≡ false → (c : ℕ) → c < cells (shapeIn row) → fieldOf row c Mark ≤ e
 later-bounds e row p c h = ltb-false e (fieldOf row c Mark) (none-under _ (λ k. ltb e (fieldOf row k Mark)) p c (omega arith))
 
 -- And back.
-pub bounds-later : (e : ℕ) (row : List ℕ) → ((c : ℕ) → c < cells (linesOf row) → fieldOf row c Mark ≤ e) → laterMark e row ≡ false
+pub bounds-later : (e : ℕ) (row : List ℕ) → ((c : ℕ) → c < cells (shapeIn row) → fieldOf row c Mark ≤ e) → laterMark e row ≡ false
 bounds-later e row bounded =
-    under-none (cells (linesOf row)) (λ c. ltb e (fieldOf row c Mark)) (λ c h. le-ltb e (fieldOf row c Mark) (bounded c h))
+    under-none (cells (shapeIn row)) (λ c. ltb e (fieldOf row c Mark)) (λ c h. le-ltb e (fieldOf row c Mark) (bounded c h))
 
 -- No worker under W has a condition that passes the test.
 pub none-worker : (s : State) (test : Condition → Bool) → ((w : ℕ) → w < s .workers → test (conditionOf s w) ≡ false) → anyWorker s test ≡ false
@@ -229,39 +250,57 @@ none-worker s test f =
     under-none 8 (λ i. ltb i (s .workers) && test (conditionOf s i)) (λ i h. and-if (ltb i (s .workers)) (test (conditionOf s i)) (λ t. f i (ltb-true i (s .workers) t)))
 
 -- A state record within its bounds passes.
-pub record-fine : (l : ℕ) (s : State) → s .lines ≡ l → linesOutside l ≡ false → workersOutside l (s .workers) ≡ false → strays (s .dirty) l ≡ false → heldFrom (s .holders) (s .workers) ≡ false → placePast (s .phase) s ≡ false → ((w : ℕ) → w < s .workers → updates (leb (cells l)) (conditionOf s w) ≡ false) → badRecord s ≡ false
+pub record-fine : (σ : Shape) (s : State) → RecordInv σ s → strays (s .dirty) (σ .lines) ≡ false → placePast (s .phase) s ≡ false → ((w : ℕ) → w < s .workers → updates (leb (cells σ)) (conditionOf s w) ≡ false) → badRecord s ≡ false
 unfolding badRecord
-record-fine l s e lo wo n h p u =
-    or-none _ (anyWorker s (updates (leb (cells (s .lines)))))
+record-fine σ s own n p u =
+    let back = sym (own .shape) in
+    or-none _ (anyWorker s (updates (leb (cells (shapeOf s)))))
     (or-none _ (placePast (s .phase) s)
-    (or-none (outside (s .lines) (s .workers) || strays (s .dirty) (s .lines)) (heldFrom (s .holders) (s .workers))
-    (or-none (outside (s .lines) (s .workers)) (strays (s .dirty) (s .lines))
-    (subst (λ (k : ℕ). outside k (s .workers) ≡ false) (sym e) (or-none (linesOutside l) (workersOutside l (s .workers)) lo wo))
-    (subst (λ (k : ℕ). strays (s .dirty) k ≡ false) (sym e) n))
-    h)
+    (or-none (outside (shapeOf s) (s .workers) || strays (s .dirty) (s .lines)) (heldFrom (s .holders) (s .workers))
+    (or-none (outside (shapeOf s) (s .workers)) (strays (s .dirty) (s .lines))
+    (subst (λ (τ : Shape). outside τ (s .workers) ≡ false) back (own .limits))
+    (subst (λ (τ : Shape). strays (s .dirty) (τ .lines) ≡ false) back n))
+    (own .holders))
     p)
-    (subst (λ (k : ℕ). anyWorker s (updates (leb (cells k))) ≡ false) (sym e) (none-worker s (updates (leb (cells l))) u))
+    (subst (λ (τ : Shape). anyWorker s (updates (leb (cells τ))) ≡ false) back (none-worker s (updates (leb (cells σ))) u))
 
--- A state record that passes its test has L and W within the limits, its place within bounds, no bit but cell lines', and no lock's holder past W.
-pub record-within : (s : State) → badRecord s ≡ false → (linesOutside (s .lines) ≡ false) × (workersOutside (s .lines) (s .workers) ≡ false) × (placePast (s .phase) s ≡ false) × (strays (s .dirty) (s .lines) ≡ false) × (heldFrom (s .holders) (s .workers) ≡ false)
+-- Each worker under W is one of the eight.
+pub own-seat : {σ : Shape} (s : State) {w : ℕ} → RecordInv σ s → w < s .workers → w < length (s .worker)
+own-seat {σ} s own h = omega (arith, own .eight, limits-in σ (s .workers) (own .limits) .eight)
+
+-- Shapes that are one have one L.
+pub same-lines : {σ τ : Shape} → σ ≡ τ → σ .lines ≡ τ .lines
+same-lines e = ap (λ (σ : Shape). σ .lines) e
+
+-- What a state record that passes its test has: shape and W within the limits, no bit but of lines 1 to L, no lock's holder past W, its place within bounds.
+pub record RecordPasses (s : State) : Type 0 where
+  pub limits : outside (shapeOf s) (s .workers) ≡ false
+  pub bits : strays (s .dirty) (s .lines) ≡ false
+  pub holders : heldFrom (s .holders) (s .workers) ≡ false
+  pub place : placePast (s .phase) s ≡ false
+
+pub record-within : (s : State) → badRecord s ≡ false → RecordPasses s
 unfolding badRecord
 record-within s e =
-    let limits = outside (s .lines) (s .workers) in
-    let long = strays (s .dirty) (s .lines) in
+    let limits = outside (shapeOf s) (s .workers) in
+    let bits = strays (s .dirty) (s .lines) in
     let held = heldFrom (s .holders) (s .workers) in
     let past = placePast (s .phase) s in
-    let four : limits || long || held || past ≡ false = or-left (limits || long || held || past) (anyWorker s (updates (leb (cells (s .lines))))) e in
-    let three : limits || long || held ≡ false = or-left (limits || long || held) past four in
-    let two : limits || long ≡ false = or-left (limits || long) held three in
-    let sizes : limits ≡ false = or-left limits long two in
-    (or-left (linesOutside (s .lines)) (workersOutside (s .lines) (s .workers)) sizes, or-right (linesOutside (s .lines)) (workersOutside (s .lines) (s .workers)) sizes, or-right (limits || long || held) past four, or-right limits long two, or-right (limits || long) held three)
+    let four : limits || bits || held || past ≡ false = or-left (limits || bits || held || past) (anyWorker s (updates (leb (cells (shapeOf s))))) e in
+    let three : limits || bits || held ≡ false = or-left (limits || bits || held) past four in
+    let two : limits || bits ≡ false = or-left (limits || bits) held three in
+    record { limits = or-left limits bits two; bits = or-right limits bits two; holders = or-right (limits || bits) held three; place = or-right (limits || bits || held) past four }
+
+-- Its W is at most 8.
+pub eight-within : (s : State) → badRecord s ≡ false → s .workers ≤ 8
+eight-within s e = limits-in (shapeOf s) (s .workers) (record-within s e .limits) .eight
 
 -- Nor has a worker under W an update of a cell that is not there.
-pub record-cells : (s : State) → badRecord s ≡ false → (w : ℕ) → w < s .workers → updates (leb (cells (s .lines))) (conditionOf s w) ≡ false
+pub record-cells : (s : State) → badRecord s ≡ false → (w : ℕ) → w < s .workers → updates (leb (cells (shapeOf s))) (conditionOf s w) ≡ false
 unfolding badRecord
 record-cells s e w h =
-    let test = updates (leb (cells (s .lines))) in
-    let none : anyWorker s test ≡ false = or-right (outside (s .lines) (s .workers) || strays (s .dirty) (s .lines) || heldFrom (s .holders) (s .workers) || placePast (s .phase) s) (anyWorker s test) e in
+    let test = updates (leb (cells (shapeOf s))) in
+    let none : anyWorker s test ≡ false = or-right (outside (shapeOf s) (s .workers) || strays (s .dirty) (s .lines) || heldFrom (s .holders) (s .workers) || placePast (s .phase) s) (anyWorker s test) e in
     and-not (ltb w (s .workers)) (test (conditionOf s w))
-    (none-under 8 (λ i. ltb i (s .workers) && test (conditionOf s i)) none w (omega (arith, workers-in (s .lines) (s .workers) (record-within s e .1) .1)))
+    (none-under 8 (λ i. ltb i (s .workers) && test (conditionOf s i)) none w (omega (arith, eight-within s e)))
     (lt-ltb w (s .workers) h)

@@ -17,7 +17,8 @@ use Rattle.board.specs.declared.Call.the-variants.{FormatStart, Recovery
 use Rattle.board.specs.Board.{Board}
 use Rattle.board.specs.State.{conditionOf, updates, othersUpdate, lockOf}
 use Rattle.board.specs.Causes.{Cause, causes, firstStanding, cause}
-use Rattle.board.proofs.Laws.Bools.{decide, split, chosen, passedOver, or-left, and-right, and-if, not-off, not-of, under-none}
+use Rattle.predicate.proofs.Bools.{decide, split, chosen, passedOver, or-left, and-right, and-if, not-off, not-of}
+use Rattle.predicate.proofs.Passing.{under-none}
 use Rattle.board.proofs.Laws.Taken.{Clear, standsAt, clear-at}
 use Rattle.board.proofs.Locks.Held.{Holding, LockInv}
 

@@ -23,9 +23,9 @@ use Rattle.board.specs.Causes.{causes, badRecord}
 use Rattle.board.specs.Effects.{firstStore, afterLast, advance, advanceOf, effect}
 use Rattle.board.specs.Next.{Taken, Kind, startsFormat, startsRecovery, stepping, writing, counting, other, reading, kind, isStart}
 use Rattle.board.specs.Locks.{FromStart, starts, performs, pages}
-use Rattle.board.proofs.Laws.Bools.{on, split, clash, or-left, and-left, and-both, not-off}
+use Rattle.predicate.proofs.Bools.{on, split, clash, or-left, and-left, and-both, not-off}
 use Rattle.board.proofs.Laws.Count.{at-each}
-use Rattle.board.proofs.Laws.Taken.{standsAt, passed, of-kind, performed-taken, performed-refused, page-board, record-within, workers-in}
+use Rattle.board.proofs.Laws.Taken.{standsAt, passed, of-kind, performed-taken, performed-refused, page-board, eight-within}
 use Rattle.board.proofs.Laws.Workers.{is-free, condition-at, condition-other, busy-within, free-condition, released-condition}
 use Rattle.board.proofs.Laws.Locks.{unheld-under, taken-under, given-back-under}
 use Rattle.board.proofs.Invariant.{HeldUnder}
@@ -141,7 +141,7 @@ back-fits s w k u held idle =
 -- A worker under W is one of the eight.
 within : (b : Board) (w : ℕ) → badRecord (b .state) ≡ false → leb (b .state .workers) w ≡ false → w < 8
 within b w e h =
-    omega (arith, workers-in (b .state .lines) (b .state .workers) (record-within (b .state) e .1) .1, leb-false (b .state .workers) w h)
+    omega (arith, eight-within (b .state) e, leb-false (b .state .workers) w h)
 
 -- An advance of worker `w`, which is one of the eight.
 advance-held : (n : Store) (w c v : ℕ) (b : Board) → LockInv (b .state) → w < 8 → Holding (b .state .workers) (b .state .holders) w (Updating n c v) → LockInv (advance n w c v (b .state) b .state)
@@ -208,7 +208,7 @@ keeps-locks Count b i t = i
 keeps-locks (TakeLock w k) b i t =
     let s = b .state in
     let pass = passed (TakeLock w k) b t in
-    let most = workers-in (s .lines) (s .workers) (record-within s (pass 3) .1) .1 in
+    let most = eight-within s (pass 3) in
     let there = leb-false (s .workers) w (pass 6) in
     let free : conditionOf s w ≡ Free = is-free (conditionOf s w) (not-off (isFree (conditionOf s w)) (pass 8)) in
     record {

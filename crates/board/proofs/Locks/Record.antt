@@ -1,7 +1,7 @@
 -- What a step leaves of the state record, and that no call but four changes a lock's holder.
 use Prim.Native.Nat.{ℕ, _+_}
 use mathlib.Core.Path.{_≡_, refl, sym, subst}
-use mathlib.Core.List.{List}
+use mathlib.Core.List.{List, [], _∷_}
 use mathlib.Core.Bool.{false, true≢false}
 use lib.Dec.{leb}
 use Rattle.board.specs.declared.State.{State}
@@ -15,24 +15,32 @@ use Rattle.board.specs.declared.Phase.the-variants.{Off, Formatting, Rec
 use Rattle.board.specs.declared.Call.{Call}
 use Rattle.board.specs.declared.Call.the-variants.{FormatStart, RecoveryStart, Step, Update, RestartPoint, Advance, Request, WriteBack, Read, GoAway, ComeBack, Count, TakeLock, GiveBackLock}
 use Rattle.board.specs.Board.{Board}
-use Rattle.board.specs.State.{conditionOf, placed, opened, released, dirtyCount}
-use Rattle.board.specs.Effects.{Act, performAct, pastCell, formatStep, step, advance, advanceOf, effect}
+use Rattle.board.specs.State.{conditionOf, placed, opened, released}
+use Rattle.board.specs.Effects.{performAct, performFirst, pastStop, formatStep, step, advance, advanceOf, effect}
+use Rattle.board.specs.Checkpoint.{Act, writeLine, storeEpoch, writeHeader, release, acts}
 use Rattle.board.specs.Next.{next, taken, kind, isStart}
 use Rattle.board.specs.Locks.{HoldersStay}
-use Rattle.board.proofs.Laws.Bools.{on}
+use Rattle.predicate.proofs.Bools.{on}
 use Rattle.board.proofs.Recovery.Board.{recovery-cases, past-cases}
-use Rattle.board.proofs.Checkpoint.Acts.{act-cases, effect-acts}
+use Rattle.board.proofs.Checkpoint.Acts.{effect-acts}
 
 -- What holds of a record, of it at another place, opened and released holds of what a step leaves of it.
 pub step-record : (P : State → Type 0) (b : Board) → P (b .state) → ((place : ℕ) (undo : UndoStep) → P (placed (b .state) place undo)) → ((dirty : List ℕ) → P (opened (b .state) dirty)) → P (released (b .state)) → P (effect Step b .state)
-unfolding effect step formatStep performAct
+unfolding effect step formatStep performAct performFirst
 step-record P b same moved ended freed = go (b .state .phase) refl
   where
     s : State
     s = b .state
 
-    past : P (pastCell s)
+    past : P (pastStop s)
     past = past-cases P s (λ h. moved _ _) (λ h. ended (s .dirty))
+
+    first : (xs : List Act) → P (performFirst xs s b .state)
+    first [] = same
+    first (writeLine l ∷ later) = moved _ _
+    first (storeEpoch ∷ later) = moved _ _
+    first (writeHeader ∷ later) = moved _ _
+    first (release ∷ later) = freed
 
     go : (p : Phase) → s .phase ≡ p → P (effect Step b .state)
     go Off e = subst (λ (p : Phase). P (step p s b .state)) (sym e) same
@@ -40,9 +48,7 @@ step-record P b same moved ended freed = go (b .state .phase) refl
         subst (λ (p : Phase). P (step p s b .state)) (sym e)
         (on (λ (d : Board). P (d .state)) (leb (s .place) (s .lines)) _ _ (λ t. moved (s .place + 1) (s .undo)) (λ t. ended _))
     go Recovering e = recovery-cases (λ (d : Board). P (d .state)) b e (λ q t. moved _ _) (λ q t. past) (λ q. moved _ _) (λ q. past)
-    go Running e =
-        subst (λ (d : Board). P (d .state)) (sym (effect-acts b e))
-        (act-cases (λ (a : Act). P (performAct a s b .state)) (dirtyCount s) (s .place) (λ h. moved _ _) (λ h. moved _ _) (λ h. moved _ _) (λ h. freed))
+    go Running e = subst (λ (d : Board). P (d .state)) (sym (effect-acts b e refl)) (first (acts b))
 
 -- ---- who changes a lock's holder
 

@@ -17,9 +17,9 @@ use Rattle.board.specs.declared.Call.{Call}
 use Rattle.board.specs.declared.Phase.{Phase}
 use Rattle.board.specs.declared.Phase.the-variants.{Running}
 use Rattle.board.specs.declared.Call.the-variants.{FormatStart, RecoveryStart, Step, Update, RestartPoint, Advance, Request, WriteBack, Read, GoAway, ComeBack, Count, TakeLock, GiveBackLock}
-use Rattle.board.specs.Board.{Board, cells}
+use Rattle.board.specs.Board.{Board, shapeOf, cells}
 use Rattle.board.specs.State.{conditionOf, isFree, updates, isOff, isFormatting, isRunning, updatesUnder, lockOf, locked}
-use Rattle.board.specs.Causes.{Cause, row, badRecord, causes, firstStanding, cause}
+use Rattle.board.specs.Causes.{Cause, check, badRecord, causes, firstStanding, cause}
 use Rattle.board.specs.Effects.{stated, effect}
 use Rattle.board.specs.Next.{Taken, next, Performed, kind, isStart}
 use Rattle.board.specs.Page.{pageCauses, pageCause}
@@ -27,8 +27,8 @@ use Rattle.board.specs.Sequence as sequence
 use Rattle.board.specs.Machine.{Machine}
 use Rattle.board.specs.Sequence.{Run, Takes, Begins, History, called, takenCall, unfed}
 use Rattle.board.specs.Locks.{FromStart, starts, performs, pages, NoConflict, LocksHeld, OneHolder, HeldOrFree, StrayHolder, StrayHolders, FreeWorker, NoneUnder, LockAnswers, OnlyHolders, TakesLock, GivesLockBack}
-use Rattle.board.proofs.Laws.Bools.{chosen, passedOver, decide, split, clash, or-left, or-right, or-none, and-both, and-if, not-off, not-on}
-use Rattle.board.proofs.Laws.Taken.{Clear, take, standsAt, passed, performed-number, taken-next, record-within, workers-in}
+use Rattle.predicate.proofs.Bools.{chosen, passedOver, decide, split, clash, or-left, or-right, or-none, and-both, and-if, not-off, not-on}
+use Rattle.board.proofs.Laws.Taken.{Clear, take, standsAt, passed, performed-number, taken-next, record-within, eight-within}
 use Rattle.board.proofs.Laws.Workers.{is-free}
 use Rattle.board.proofs.Laws.Reading.{Passes, running-passes}
 use Rattle.board.proofs.Checkpoint.Run.{is-running}
@@ -68,8 +68,8 @@ held-or-free holders k = (λ t w. free-none holders w k t, none-free holders k)
 
 -- ---- a holder that is not there
 
--- A table whose row of cause 3 is the second answers 3 where that row stands and the phase's does not.
-third : (phase bad : Bool) (ks : List Cause) → phase ≡ false → bad ≡ true → firstStanding (row 2 phase ∷ row 3 bad ∷ ks) ≡ 3
+-- A table whose second line is of cause 3 answers 3 where that line stands and the phase's does not.
+third : (phase bad : Bool) (ks : List Cause) → phase ≡ false → bad ≡ true → firstStanding (check 2 phase ∷ check 3 bad ∷ ks) ≡ 3
 unfolding firstStanding
 third phase bad ks off on = passedOver phase 2 _ off ∙ chosen bad 3 (firstStanding ks) on
 
@@ -104,7 +104,7 @@ module _ (b : Board) (running : b .state .phase ≡ Running) (bad : badRecord (b
 stray-bad : (s : State) → StrayHolder s → badRecord s ≡ true
 stray-bad s x =
     split (badRecord s) (λ t. t)
-    (λ f. let under = from-under (s .holders) (s .workers) (record-within s f .4) (x .worker) (x .lock) (x .one) (x .held) in absurd (omega (arith, x .past)))
+    (λ f. let under = from-under (s .holders) (s .workers) (record-within s f .holders) (x .worker) (x .lock) (x .one) (x .held) in absurd (omega (arith, x .past)))
 
 pub stray-holders : StrayHolders
 stray-holders b e x = let bad = stray-bad (b .state) x in (bars b e bad, bars-page b e bad)
@@ -189,8 +189,8 @@ module _ (b : Board) (y : Passes b) (i : LockInv (b .state)) where
       let pass = passed (Update w c v) b in (
         λ t. (
           free-worker w (pass t 6) (pass t 8),
-          ltb-false c (s .workers) (or-left (ltb c (s .workers)) (leb (cells (s .lines)) c) (pass t 7)),
-          leb-false (cells (s .lines)) c (or-right (ltb c (s .workers)) (leb (cells (s .lines)) c) (pass t 7)),
+          ltb-false c (s .workers) (or-left (ltb c (s .workers)) (leb (cells (shapeOf s)) c) (pass t 7)),
+          leb-false (cells (shapeOf s)) c (or-right (ltb c (s .workers)) (leb (cells (shapeOf s)) c) (pass t 7)),
           not-off (holds (s .holders) w (lockOf c)) (pass t 16),
         ),
         λ h.
@@ -203,7 +203,7 @@ module _ (b : Board) (y : Passes b) (i : LockInv (b .state)) where
                   (
                     lt-leb (s .workers) w (h .0 .there),
                     (
-                      or-none (ltb c (s .workers)) (leb (cells (s .lines)) c) (le-ltb c (s .workers) (h .1)) (lt-leb (cells (s .lines)) c (h .2)),
+                      or-none (ltb c (s .workers)) (leb (cells (shapeOf s)) c) (le-ltb c (s .workers) (h .1)) (lt-leb (cells (shapeOf s)) c (h .2)),
                       (busy-off w (h .0), (not-on (holds (s .holders) w (lockOf c)) (h .3), (none-other s w c i (λ l. h .3) (λ l. absurd (omega (arith, h .1))), tt))),
                     ),
                   ),
@@ -239,7 +239,7 @@ unfolding effect standsAt causes
 takes-lock w k b t =
     let h = b .state .holders in
     let pass = passed (TakeLock w k) b t in
-    let under : w < 15 = omega (arith, workers-in (b .state .lines) (b .state .workers) (record-within (b .state) (pass 3) .1) .1, leb-false (b .state .workers) w (pass 6)) in
+    let under : w < 15 = omega (arith, eight-within (b .state) (pass 3), leb-false (b .state .workers) w (pass 6)) in
     let done = taken-next (TakeLock w k) b t in
     let now : next (TakeLock w k) b .state .holders ≡ heldBy h k w = ap (λ (d : Board). d .state .holders) done in (
       not-off (unheld h k) (pass 16),

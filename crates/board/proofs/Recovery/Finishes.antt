@@ -10,14 +10,15 @@ use Rattle.board.specs.declared.Phase.{Phase}
 use Rattle.board.specs.declared.Phase.the-variants.{Recovering, Running}
 use Rattle.board.specs.declared.Call.{Call}
 use Rattle.board.specs.declared.Call.the-variants.{RecoveryStart, Step, WriteBack, Read}
-use Rattle.board.specs.Board.{Board, cells, workersOf}
+use Rattle.board.specs.Board.{Board, Shape, shapeOf, cells, workersOf}
+use Rattle.board.specs.Location.{Location, cell, stops}
 use Rattle.board.specs.State.{isRunning}
 use Rattle.board.specs.Effects.{effect}
 use Rattle.board.specs.Next.{Taken, valueRead, Kind, startsFormat, startsRecovery, stepping, writing, counting, other, reading, kind, isStart, isStep}
 use Rattle.board.specs.Machine.{Machine, feed, stepped, finishesFormat, beginning, counted, completed, checkpointStep, writeBackSeen, markedCount}
 use Rattle.board.specs.Sequence.{Run, Takes, finished, steps, between, paged, recoverySteps}
 use Rattle.board.specs.Statements.{Recovered, SameBoard, Completes}
-use Rattle.board.proofs.Laws.Bools.{on, split, clash, and-off, and-off-right, passedOver}
+use Rattle.predicate.proofs.Bools.{on, split, clash, and-off, and-off-right, passedOver}
 use Rattle.board.proofs.Laws.Takes.{takes-none}
 use Rattle.board.proofs.Invariant.{Inv, RecoveryInv, RecoveryMachine}
 use Rattle.board.proofs.Laws.Taken.{phaseBars, phase-passed, of-kind, performed-taken, performed-refused, page-board, afterTaken}
@@ -28,32 +29,32 @@ use Rattle.board.proofs.Keeps.RecoveryStart.{keeps-recovery-start}
 use Rattle.board.proofs.Keeps.RecoveryStep.{carried-recovery-step}
 use Rattle.board.proofs.Keeps.WriteBack.{carried-write-back}
 
--- A run in the middle of a recovery that has `n` steps left and was started for the values `xs` on a header of `l` lines and `w` workers.
-pub record Underway (n l w : ℕ) (xs : ℕ → ℕ) (r : Run) : Type 0 where
+-- A run in the middle of a recovery that has `n` steps left and was started for the values `xs` on a header of shape `σ` and `w` workers.
+pub record InRecovery (n : ℕ) (σ : Shape) (w : ℕ) (xs : Location → ℕ) (r : Run) : Type 0 where
   pub inv : Inv r
   pub uncut : r .crashed ≡ false
   pub phase : r .board .state .phase ≡ Recovering
   pub left : remaining (r .board) ≡ n
-  pub lines : r .machine .lines ≡ l
+  pub shape : r .machine .shape ≡ σ
   pub workers : workersOf (r .board .memory) ≡ w
-  pub values : (c : ℕ) → r .machine .current c ≡ xs c
+  pub values : (u : Location) → r .machine .current u ≡ xs u
 
 -- What is shown of the board after the last step.
-pub record Done (l w : ℕ) (xs : ℕ → ℕ) (b : Board) : Type 0 where
-  pub lines : b .state .lines ≡ l
+pub record Done (σ : Shape) (w : ℕ) (xs : Location → ℕ) (b : Board) : Type 0 where
+  pub shape : shapeOf (b .state) ≡ σ
   pub workers : b .state .workers ≡ w
-  pub reads : (c : ℕ) → c < cells l → Taken (Read c) b × (valueRead c b ≡ xs c)
+  pub reads : (c : ℕ) → c < cells σ → Taken (Read c) b × (valueRead c b ≡ xs (cell c))
 
 -- A running run with those values is done.
-done : (l w : ℕ) (xs : ℕ → ℕ) (r : Run) → Inv r → r .crashed ≡ false → r .board .state .phase ≡ Running → r .machine .lines ≡ l → workersOf (r .board .memory) ≡ w → ((c : ℕ) → r .machine .current c ≡ xs c) → Done l w xs (r .board)
-done l w xs r i d p e n v =
+done : (σ : Shape) (w : ℕ) (xs : Location → ℕ) (r : Run) → Inv r → r .crashed ≡ false → r .board .state .phase ≡ Running → r .machine .shape ≡ σ → workersOf (r .board .memory) ≡ w → ((u : Location) → r .machine .current u ≡ xs u) → Done σ w xs (r .board)
+done σ w xs r i d p e n v =
     let running = in-phase r i d Running p .0 in
     record {
-      lines = running .lines ∙ e;
-      workers = running .own .workers ∙ n;
+      shape = running .own .shape ∙ e;
+      workers = running .rows .sizes .workers ∙ n;
       reads = λ c h.
-          let k : c < cells (r .machine .lines) = omega (arith, e) in
-          (read-taken r i d p c k, read-current r i d p c k ∙ v c);
+          let k : c < cells (r .machine .shape) = subst (λ (τ : Shape). c < cells τ) (sym e) h in
+          (read-taken r i d p c k, read-current r i d p c k ∙ v (cell c));
     }
 
 -- Whatever is no step of a format leaves the board's size.
@@ -64,11 +65,11 @@ same-board c = ⊎-elim (λ u. u .board) (λ u. u .board) c
 pub step-counts : (m : Machine) → m .requested ≡ false → m .formatting ≡ false → feed Step m ≡ counted m
 unfolding feed stepped
 step-counts m q f =
-    passedOver (m .requested) (checkpointStep m) (cond (finishesFormat m) (beginning (m .lines)) (counted m)) q
-    ∙ passedOver (finishesFormat m) (beginning (m .lines)) (counted m) (and-off (m .formatting) (eqb (m .steps + 1) (m .lines + 2)) f)
+    passedOver (m .requested) (checkpointStep m) (cond (finishesFormat m) (beginning (m .shape)) (counted m)) q
+    ∙ passedOver (finishesFormat m) (beginning (m .shape)) (counted m) (and-off (m .formatting) (eqb (m .steps + 1) (m .shape .lines + 2)) f)
 
 -- A write-back leaves the machine's current values.
-back-current : (i : ℕ) (m : Machine) (c : ℕ) → feed (WriteBack i) m .current c ≡ m .current c
+back-current : (i : ℕ) (m : Machine) (c : Location) → feed (WriteBack i) m .current c ≡ m .current c
 unfolding feed writeBackSeen
 back-current i m c =
     on (λ (n : Machine). n .current c ≡ m .current c) (eqb i 0 && m .requested && leb (markedCount m + 1) (m .steps)) (completed m) m (λ t. refl) (λ t. refl)
@@ -82,27 +83,27 @@ phase-back : (i : ℕ) (b : Board) → effect (WriteBack i) b .state .phase ≡ 
 unfolding effect
 phase-back i b = refl
 
--- The place of a recovery is a cell's.
-place-within : (r : Run) → Inv r → r .crashed ≡ false → r .board .state .phase ≡ Recovering → r .board .state .place < cells (r .board .state .lines)
+-- The place of a recovery is a stop's.
+pub place-within : (r : Run) → Inv r → r .crashed ≡ false → r .board .state .phase ≡ Recovering → r .board .state .place < stops (shapeOf (r .board .state))
 place-within r i d p =
-    let v : RecoveryInv (r .machine .lines) (r .machine .checkpointed) (r .board) = in-phase r i d Recovering p .0 in
-    omega (arith, v .within, v .lines)
+    let v : RecoveryInv (r .machine .shape) (r .machine .checkpointed) (r .board) = in-phase r i d Recovering p .0 in
+    subst (λ (τ : Shape). r .board .state .place < stops τ) (sym (v .underway .own .shape)) (v .underway .within)
 
 -- A recovery has a step left, so none is not all of it.
-some-left : {l w : ℕ} {xs : ℕ → ℕ} (r : Run) → Underway zero l w xs r → ⊥
-some-left r u =
+steps-left : {σ : Shape} {w : ℕ} {xs : Location → ℕ} (r : Run) → InRecovery zero σ w xs r → ⊥
+steps-left r u =
     omega (arith, remaining-positive (r .board) (place-within r (u .inv) (u .uncut) (u .phase)), u .left)
 
 -- In a recovery the phase doesn't allow a call that needs running.
 not-running : (b : Board) → b .state .phase ≡ Recovering → not (isRunning (b .state .phase)) ≡ false → ⊥
 not-running b p e = clash (ap (λ (q : Phase). not (isRunning q)) p) e
 
-module _ (l w : ℕ) (xs : ℕ → ℕ) where
+module _ (σ : Shape) (w : ℕ) (xs : Location → ℕ) where
   -- After a taken step of the recovery one step fewer is left, or it was the last and the board is done.
-  stepped-on : (n : ℕ) (r : Run) → Underway (suc n) l w xs r → Underway n l w xs (afterTaken Step r) ⊎ ((n ≡ 0) × Done l w xs (effect Step (r .board)))
+  stepped-on : (n : ℕ) (r : Run) → InRecovery (suc n) σ w xs r → InRecovery n σ w xs (afterTaken Step r) ⊎ ((n ≡ 0) × Done σ w xs (effect Step (r .board)))
   stepped-on n r u = go (remaining-step (r .board) (u .phase) (place-within r (u .inv) (u .uncut) (u .phase)))
     where
-      known : RecoveryInv (r .machine .lines) (r .machine .checkpointed) (r .board) × RecoveryMachine (r .machine) × (r .erased ≡ false)
+      known : RecoveryInv (r .machine .shape) (r .machine .checkpointed) (r .board) × RecoveryMachine (r .machine) × (r .erased ≡ false)
       known = in-phase r (u .inv) (u .uncut) Recovering (u .phase)
 
       carried : Carried false r (afterTaken Step r)
@@ -117,17 +118,17 @@ module _ (l w : ℕ) (xs : ℕ → ℕ) where
       workers : workersOf (effect Step (r .board) .memory) ≡ w
       workers = size .header 2 (omega arith) (omega arith) ∙ u .workers
 
-      values : (c : ℕ) → afterTaken Step r .machine .current c ≡ xs c
+      values : (c : Location) → afterTaken Step r .machine .current c ≡ xs c
       values c = ap (λ (m : Machine). m .current c) (step-counts (r .machine) (known .1 .request) (known .1 .formatting)) ∙ u .values c
 
-      go : ((effect Step (r .board) .state .phase ≡ Recovering) × (remaining (effect Step (r .board)) + 1 ≡ remaining (r .board))) ⊎ ((effect Step (r .board) .state .phase ≡ Running) × (remaining (r .board) ≡ 1)) → Underway n l w xs (afterTaken Step r) ⊎ ((n ≡ 0) × Done l w xs (effect Step (r .board)))
+      go : ((effect Step (r .board) .state .phase ≡ Recovering) × (remaining (effect Step (r .board)) + 1 ≡ remaining (r .board))) ⊎ ((effect Step (r .board) .state .phase ≡ Running) × (remaining (r .board) ≡ 1)) → InRecovery n σ w xs (afterTaken Step r) ⊎ ((n ≡ 0) × Done σ w xs (effect Step (r .board)))
       go (inl x) =
-          inl (record { inv = carried .keeps; uncut = uncut; phase = x .0; left = omega (arith, x .1, u .left); lines = size .lines ∙ u .lines; workers = workers; values = values })
+          inl (record { inv = carried .keeps; uncut = uncut; phase = x .0; left = omega (arith, x .1, u .left); shape = size .shape ∙ u .shape; workers = workers; values = values })
       go (inr x) =
-          inr (omega (arith, x .1, u .left), done l w xs (afterTaken Step r) (carried .keeps) uncut (x .0) (size .lines ∙ u .lines) workers values)
+          inr (omega (arith, x .1, u .left), done σ w xs (afterTaken Step r) (carried .keeps) uncut (x .0) (size .shape ∙ u .shape) workers values)
 
   -- A write-back leaves the recovery underway.
-  written-back : (n i : ℕ) (r : Run) → Underway n l w xs r → Taken (WriteBack i) (r .board) → Underway n l w xs (afterTaken (WriteBack i) r)
+  written-back : (n i : ℕ) (r : Run) → InRecovery n σ w xs r → Taken (WriteBack i) (r .board) → InRecovery n σ w xs (afterTaken (WriteBack i) r)
   written-back n i r u t =
       let carried = carried-write-back r i (u .inv) (u .uncut) t in
       let size = same-board (carried .completion) in
@@ -136,34 +137,34 @@ module _ (l w : ℕ) (xs : ℕ → ℕ) where
         uncut = and-off (r .crashed) true (u .uncut);
         phase = phase-back i (r .board) ∙ u .phase;
         left = remaining-back i (r .board) ∙ u .left;
-        lines = size .lines ∙ u .lines;
+        shape = size .shape ∙ u .shape;
         workers = size .header 2 (omega arith) (omega arith) ∙ u .workers;
         values = λ c. back-current i (r .machine) c ∙ u .values c;
       }
 
   -- A call other than a start or step that is taken in a recovery is a write-back.
-  goes-on : (n : ℕ) (k : Call) (r : Run) → Underway n l w xs r → Taken k (r .board) → isStart (kind k) || isStep (kind k) ≡ false → Underway n l w xs (afterTaken k r)
+  goes-on : (n : ℕ) (k : Call) (r : Run) → InRecovery n σ w xs r → Taken k (r .board) → isStart (kind k) || isStep (kind k) ≡ false → InRecovery n σ w xs (afterTaken k r)
   goes-on n k r u t e = by-kind (kind k) refl e (phase-passed k (r .board) t)
     where
-      by-kind : (d : Kind) → kind k ≡ d → isStart d || isStep d ≡ false → phaseBars d (r .board) ≡ false → Underway n l w xs (afterTaken k r)
+      by-kind : (d : Kind) → kind k ≡ d → isStart d || isStep d ≡ false → phaseBars d (r .board) ≡ false → InRecovery n σ w xs (afterTaken k r)
       by-kind startsFormat q o p = absurd (true≢false o)
       by-kind startsRecovery q o p = absurd (true≢false o)
       by-kind stepping q o p = absurd (true≢false o)
       by-kind writing q o p =
           let (i, same) = of-kind k writing q in
-          subst (λ (x : Call). Underway n l w xs (afterTaken x r)) (sym same) (written-back n i r u (subst (λ (x : Call). Taken x (r .board)) same t))
+          subst (λ (x : Call). InRecovery n σ w xs (afterTaken x r)) (sym same) (written-back n i r u (subst (λ (x : Call). Taken x (r .board)) same t))
       by-kind counting q o p = absurd (not-running (r .board) (u .phase) p)
       by-kind other q o p = absurd (not-running (r .board) (u .phase) p)
       by-kind (reading c) q o p = absurd (not-running (r .board) (u .phase) p)
 
   -- To the last step, and the board is done.
-  to-the-end : {n : ℕ} {b b′ : Board} → Takes n b b′ → (r : Run) → r .board ≡ b → Underway n l w xs r → Done l w xs b′
-  to-the-end finished r e u = absurd (some-left r u)
+  to-the-end : {n : ℕ} {b b′ : Board} → Takes n b b′ → (r : Run) → r .board ≡ b → InRecovery n σ w xs r → Done σ w xs b′
+  to-the-end finished r e u = absurd (steps-left r u)
   to-the-end (steps {n = n} {b = b} p rest) r e u =
       let now : effect Step (r .board) ≡ _ = ap (effect Step) e ∙ sym (performed-taken Step b p refl .1) in
       ⊎-elim
       (λ v. to-the-end rest (afterTaken Step r) now v)
-      (λ v. subst (Done l w xs) (now ∙ takes-none rest (v .0)) (v .1))
+      (λ v. subst (Done σ w xs) (now ∙ takes-none rest (v .0)) (v .1))
       (stepped-on n r u)
   to-the-end (between {n = n} {number = number} k {b = b} p f rest) r e u =
       split (eqb number 0)
@@ -174,12 +175,12 @@ module _ (l w : ℕ) (xs : ℕ → ℕ) where
       (λ t. to-the-end rest r (e ∙ sym (performed-refused k b p (eqb-false number 0 t))) u)
   to-the-end (paged text left {b = b} p rest) r e u = to-the-end rest r (e ∙ sym (page-board b text p)) u
 
-phase-start : (b : Board) → effect RecoveryStart b .state .phase ≡ Recovering
+pub phase-start : (b : Board) → effect RecoveryStart b .state .phase ≡ Recovering
 unfolding effect
 phase-start b = refl
 
 -- A recovery's start leaves it underway, with all the steps that memory calls for.
-started : (r : Run) → Inv r → Taken RecoveryStart (r .board) → Underway (recoverySteps (r .board .memory)) (r .machine .lines) (workersOf (r .board .memory)) (r .machine .checkpointed) (afterTaken RecoveryStart r)
+started : (r : Run) → Inv r → Taken RecoveryStart (r .board) → InRecovery (recoverySteps (r .board .memory)) (r .machine .shape) (workersOf (r .board .memory)) (r .machine .checkpointed) (afterTaken RecoveryStart r)
 unfolding feed effect
 started r i t =
     record {
@@ -187,13 +188,13 @@ started r i t =
       uncut = and-off-right (r .crashed) false refl;
       phase = phase-start (r .board);
       left = remaining-start (r .board);
-      lines = refl;
+      shape = refl;
       workers = refl;
       values = λ c. refl;
     }
 
 -- After a finished recovery every cell reads the value checkpointed at its start, and L and W are the header's.
-pub recovers : (r : Run) → Inv r → (b : Board) → Recovered r b → Done (r .machine .lines) (workersOf (r .board .memory)) (r .machine .checkpointed) b
+pub recovers : (r : Run) → Inv r → (b : Board) → Recovered r b → Done (r .machine .shape) (workersOf (r .board .memory)) (r .machine .checkpointed) b
 recovers r i b e =
     let (t, same) = performed-taken RecoveryStart (r .board) (e .begun) refl in
-    to-the-end (r .machine .lines) (workersOf (r .board .memory)) (r .machine .checkpointed) (e .ended) (afterTaken RecoveryStart r) (sym same) (started r i t)
+    to-the-end (r .machine .shape) (workersOf (r .board .memory)) (r .machine .checkpointed) (e .ended) (afterTaken RecoveryStart r) (sym same) (started r i t)

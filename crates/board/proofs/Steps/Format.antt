@@ -7,7 +7,7 @@ use lib.ListN.{length}
 use Rattle.line.specs.Line.{withLine}
 use Rattle.line.proofs.Laws.{length-withLine, getD-withLine-in, getD-withLine-out}
 use Rattle.board.specs.declared.Call.the-variants.{FormatStart, Step}
-use Rattle.board.specs.Board.{Board, headerWords, zeroWords}
+use Rattle.board.specs.Board.{Board, Shape, shaped, shapeOf, headerWords, zeroWords}
 use Rattle.board.specs.Effects.{effect}
 use Rattle.board.specs.Next.{next, Taken}
 use Rattle.board.specs.Statements.{stepsFrom, AllTaken}
@@ -36,7 +36,7 @@ step-taken (suc n) (suc i) b t h = step-taken n i (next Step b) (t .1) (omega ar
 
 -- A format (l, w) at place `i`.
 record At (l w i : ℕ) (b : Board) : Type 0 where
-  formats : Formats l b
+  formats : Formats (shaped l) b
   place : b .state .place ≡ i
   workers : b .state .workers ≡ w
 
@@ -48,7 +48,7 @@ at-start l w b t = record { formats = format-begins l w b t .0; place = format-b
 -- A step that is not the last leaves it one place further.
 at-next : (l w i : ℕ) (b : Board) → At l w i b → i ≤ l → At l w (suc i) (erasing b)
 at-next l w i b a h =
-    let e = format-erases l b (a .formats) (omega (arith, a .place)) in
+    let e = format-erases (shaped l) b (a .formats) (omega (arith, a .place)) in
     record { formats = e .formats; place = omega (arith, a .place); workers = a .workers }
 
 module _ (l w : ℕ) (b : Board) (t : Taken (FormatStart l w) b) where
@@ -65,13 +65,13 @@ module _ (l w : ℕ) (b : Board) (t : Taken (FormatStart l w) b) where
   format-at (suc i) h =
       let a = format-at i (omega arith) in
       subst (At l w (suc i))
-      (sym (format-step-at i (omega arith) ∙ erasing-step l (formatAfter l w b i) (a .formats) (omega (arith, a .place))))
+      (sym (format-step-at i (omega arith) ∙ erasing-step (shaped l) (formatAfter l w b i) (a .formats) (omega (arith, a .place))))
       (at-next l w i (formatAfter l w b i) a (omega arith))
 
 -- ---- one line stored
 
 -- A stored line differs alone.
-only-line : {l : ℕ} (row : List ℕ) (i : ℕ) (words : List ℕ) → Sized l row → i ≤ l → length words ≡ 8 → OnlyLine i words row (withLine row i words)
+only-line : {σ : Shape} (row : List ℕ) (i : ℕ) (words : List ℕ) → Sized σ row → i ≤ σ .lines → length words ≡ 8 → OnlyLine i words row (withLine row i words)
 only-line row i words z h n =
     let inside = line-in row i z h in
     record {
@@ -92,13 +92,13 @@ erasing-line l w i b a h =
 
 -- The header that a format's last step stores.
 abbrev headerOf : Board → List ℕ
-headerOf b = headerWords 1 (b .state .lines) (b .state .workers)
+headerOf b = headerWords 1 (shapeOf (b .state)) (b .state .workers)
 
 -- The last step writes the header in line 0.
-finishing-line : (l w i : ℕ) (b : Board) → At l w i b → OnlyLineInBoth 0 (headerWords 1 l w) b (finishing b)
+finishing-line : (l w i : ℕ) (b : Board) → At l w i b → OnlyLineInBoth 0 (headerWords 1 (shaped l) w) b (finishing b)
 finishing-line l w i b a =
     let z = a .formats .sizes in
-    let e : headerOf b ≡ headerWords 1 l w = λ i. headerWords 1 (a .formats .format .lines i) (a .workers i) in
+    let e : headerOf b ≡ headerWords 1 (shaped l) w = λ i. headerWords 1 (a .formats .format .own .shape i) (a .workers i) in
     subst (λ (words : List ℕ). OnlyLineInBoth 0 words b (finishing b)) e
     (record {
       memory = only-line (b .memory) 0 (headerOf b) (z .memory) (omega arith) refl;
@@ -110,10 +110,10 @@ pub format-writes : FormatWrites
 format-writes l w b t = (
   λ i h. let a = format-at l w b t i (omega arith) in
       subst (OnlyLineInBoth i zeroWords (formatAfter l w b i))
-      (sym (format-step-at l w b t i (omega arith) ∙ erasing-step l (formatAfter l w b i) (a .formats) (omega (arith, a .place))))
+      (sym (format-step-at l w b t i (omega arith) ∙ erasing-step (shaped l) (formatAfter l w b i) (a .formats) (omega (arith, a .place))))
       (erasing-line l w i (formatAfter l w b i) a h),
   let a = format-at l w b t (l + 1) (omega arith) in
-      subst (OnlyLineInBoth 0 (headerWords 1 l w) (formatAfter l w b (l + 1)))
-      (sym (format-step-at l w b t (l + 1) (omega arith) ∙ finishing-step l (formatAfter l w b (l + 1)) (a .formats) (a .place)))
+      subst (OnlyLineInBoth 0 (headerWords 1 (shaped l) w) (formatAfter l w b (l + 1)))
+      (sym (format-step-at l w b t (l + 1) (omega arith) ∙ finishing-step (shaped l) (formatAfter l w b (l + 1)) (a .formats) (a .place)))
       (finishing-line l w (l + 1) (formatAfter l w b (l + 1)) a),
 )

@@ -13,9 +13,9 @@ use Rattle.board.specs.declared.Phase.the-variants.{Recovering}
 use Rattle.board.specs.declared.Call.the-variants.{Request, Step}
 use Rattle.board.specs.Board.{Board}
 use Rattle.board.specs.State.{opened}
-use Rattle.board.specs.Effects.{pastCell, formatStep, step, effect}
+use Rattle.board.specs.Effects.{pastStop, formatStep, step, effect}
 use Rattle.board.specs.Steps.{Asked, Requests, Opened, FormatOpens, RecoveryOpens}
-use Rattle.board.proofs.Laws.Bools.{passedOver}
+use Rattle.predicate.proofs.Bools.{passedOver}
 use Rattle.board.proofs.Laws.Taken.{taken-next}
 use Rattle.board.proofs.Laws.Workers.{free-condition}
 use Rattle.board.proofs.Format.Board.{erasing, finishing}
@@ -53,7 +53,7 @@ format-opens b p t e =
     ∙ passedOver (leb (b .state .place) (b .state .lines)) (erasing b) (finishing b) (lt-leb (b .state .place) (b .state .lines) (omega arith))))
 
 -- Past its last cell a recovery opens the board.
-past-opens : (s : State) → s .phase ≡ Recovering → (pastCell s .phase ≡ Recovering → ⊥) → pastCell s ≡ opened s (s .dirty)
+past-opens : (s : State) → s .phase ≡ Recovering → (pastStop s .phase ≡ Recovering → ⊥) → pastStop s ≡ opened s (s .dirty)
 past-opens s p = past-cases (λ (x : State). (x .phase ≡ Recovering → ⊥) → x ≡ opened s (s .dirty)) s (λ h o. absurd (o p)) (λ h o. refl)
 
 -- The last step of a recovery.

@@ -1,47 +1,48 @@
 -- A call of a running board leaves every worker that it does not name in its condition.
 use Prim.Native.Nat.{ℕ, _+_, _≤_}
 use mathlib.Core.Path.{_≡_, refl, sym, ap, subst, _∙_}
+use mathlib.Core.List.{List}
 use mathlib.Core.Bool.{false, true≢false}
 use native.Mathlib.Omega.{arith}
-use lib.Dec.{ltb, eqb}
-use borrow.Author.Tests.{ltb-false, eqb-false}
+use lib.Dec.{eqb}
+use lib.ListN.{length}
+use borrow.Author.Tests.{eqb-false}
 use Rattle.board.specs.declared.Condition.{Condition}
 use Rattle.board.specs.declared.Condition.the-variants.{Free, Waiting, Updating, Away}
 use Rattle.board.specs.declared.Store.{Store}
 use Rattle.board.specs.declared.Store.the-variants.{Backup, Mark, Record}
-use Rattle.board.specs.declared.Phase.{Phase}
 use Rattle.board.specs.declared.Phase.the-variants.{Running}
 use Rattle.board.specs.declared.Call.{Call}
 use Rattle.board.specs.declared.Call.the-variants.{FormatStart, RecoveryStart, Step, Update, RestartPoint, Advance, Request, WriteBack, Read, GoAway, ComeBack, Count, TakeLock, GiveBackLock}
 use Rattle.board.specs.Board.{Board}
 use Rattle.board.specs.State.{conditionOf, dirtyCount}
-use Rattle.board.specs.Causes.{causes, placePast}
-use Rattle.board.specs.Effects.{Act, performAct, firstStore, afterLast, advance, advanceOf, effect}
+use Rattle.board.specs.Effects.{performAct, performFirst, firstStore, afterLast, advance, advanceOf, effect}
+use Rattle.board.specs.Checkpoint.{Act, acts}
 use Rattle.board.specs.Next.{Taken, kind, isStart}
 use Rattle.board.specs.Steps.{names, OthersStay}
-use Rattle.board.proofs.Laws.Bools.{and-not}
-use Rattle.board.proofs.Laws.Taken.{standsAt, passed, taken-next, workers-in, record-within}
+use Rattle.predicate.proofs.Bools.{chosen}
+use Rattle.board.proofs.Laws.Taken.{taken-next}
 use Rattle.board.proofs.Laws.Workers.{condition-other}
-use Rattle.board.proofs.Checkpoint.Acts.{act-cases, effect-acts, step-ready}
+use Rattle.board.proofs.Checkpoint.Acts.{Remains, lineNext, epochNext, headerNext, releaseNext, acts-length, effect-acts, Stepping, step-ready}
 
 -- ---- a checkpoint's step
 
--- A taken step of a running board is at most at the release.
-pub step-within : (b : Board) → b .state .phase ≡ Running → Taken Step b → b .state .place ≤ dirtyCount (b .state) + 2
-unfolding standsAt causes
-step-within b e t =
-    let s = b .state in
-    let fine = record-within s (passed Step b t 3) in
-    let on = step-ready b e (workers-in (s .lines) (s .workers) (fine .1) .1) t .0 in
-    ltb-false (dirtyCount s + 2) (s .place) (and-not (s .requested) (ltb (dirtyCount s + 2) (s .place)) (subst (λ (p : Phase). placePast p s ≡ false) e (fine .2)) on)
-
 -- Before the release a step keeps the workers.
 step-keeps : (b : Board) → b .state .phase ≡ Running → Taken Step b → (b .state .place ≡ dirtyCount (b .state) + 2 → ⊥) → (i : ℕ) → conditionOf (effect Step b .state) i ≡ conditionOf (b .state) i
-unfolding performAct
-step-keeps b e t o i =
-    ap (λ (d : Board). conditionOf (d .state) i) (effect-acts b e)
-    ∙ act-cases (λ (a : Act). conditionOf (performAct a (b .state) b .state) i ≡ conditionOf (b .state) i) (dirtyCount (b .state)) (b .state .place)
-    (λ h. refl) (λ h. refl) (λ h. refl) (λ h. absurd (o (omega (arith, step-within b e t))))
+unfolding performAct performFirst
+step-keeps b e t o i = go (now .left) refl
+  where
+    now : Stepping b
+    now = step-ready b e t
+
+    kept : {xs : List Act} → acts b ≡ xs → conditionOf (performFirst xs (b .state) b .state) i ≡ conditionOf (b .state) i → conditionOf (effect Step b .state) i ≡ conditionOf (b .state) i
+    kept p same = ap (λ (d : Board). conditionOf (d .state) i) (effect-acts b e p) ∙ same
+
+    go : {xs : List Act} → Remains b xs → acts b ≡ xs → conditionOf (effect Step b .state) i ≡ conditionOf (b .state) i
+    go (lineNext later low three) p = kept p refl
+    go epochNext p = kept p refl
+    go headerNext p = kept p refl
+    go releaseNext p = absurd (o (omega (arith, ap length p, acts-length b, chosen (b .state .requested) (b .state .place) 0 (now .request))))
 
 -- ---- calls of a worker
 

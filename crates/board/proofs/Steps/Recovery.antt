@@ -13,14 +13,14 @@ use Rattle.board.specs.declared.Phase.{Phase}
 use Rattle.board.specs.declared.Phase.the-variants.{Recovering}
 use Rattle.board.specs.declared.UndoStep.the-variants.{Unmark, WriteLine}
 use Rattle.board.specs.declared.Call.the-variants.{Step}
-use Rattle.board.specs.Board.{Board, cells}
+use Rattle.board.specs.Board.{Board, shapeOf, cells}
 use Rattle.board.specs.State.{placed, isRecovering}
 use Rattle.board.specs.Causes.{causes, placePast}
-use Rattle.board.specs.Effects.{cached, stated, backed, pastCell}
+use Rattle.board.specs.Effects.{cached, stated, backed, pastStop}
 use Rattle.board.specs.Steps.{OnlyCell, RecoveryWrites}
 use Rattle.board.proofs.Laws.View.{cell-in}
-use Rattle.board.proofs.Invariant.{Sizes}
-use Rattle.board.proofs.Laws.Taken.{standsAt, passed, taken-next, record-within}
+use Rattle.board.proofs.Invariant.{Lengths}
+use Rattle.board.proofs.Laws.Taken.{standsAt, passed, taken-next, limits-in, record-within}
 use Rattle.board.proofs.Format.Board.{rows-sized}
 use Rattle.board.proofs.Recovery.Board.{recovery-cases, past-cases}
 use Rattle.board.specs.Next.{Taken}
@@ -28,22 +28,22 @@ use Rattle.board.specs.Next.{Taken}
 -- ---- what a taken step finds
 
 -- A taken step finds rows of the lengths that the record's L asks.
-step-sizes : (b : Board) → Taken Step b → Sizes (b .state .lines) b
+step-sizes : (b : Board) → Taken Step b → Lengths (shapeOf (b .state)) (b .memory) (b .cache)
 unfolding standsAt causes
 step-sizes b t =
-    rows-sized (b .state .lines) b (record-within (b .state) (passed Step b t 3) .0) (passed Step b t 4)
+    rows-sized (shapeOf (b .state)) b (limits-in (shapeOf (b .state)) (b .state .workers) (record-within (b .state) (passed Step b t 3) .limits) .shape) (passed Step b t 4)
 
 -- A taken step of a recovery is at a cell of the board.
-step-cell : (b : Board) → b .state .phase ≡ Recovering → Taken Step b → b .state .place < cells (b .state .lines)
+step-cell : (b : Board) → b .state .phase ≡ Recovering → Taken Step b → b .state .place < cells (shapeOf (b .state))
 unfolding standsAt causes
 step-cell b e t =
-    leb-false (cells (b .state .lines)) (b .state .place)
-    (subst (λ (p : Phase). placePast p (b .state) ≡ false) e (record-within (b .state) (passed Step b t 3) .2))
+    leb-false (cells (shapeOf (b .state))) (b .state .place)
+    (subst (λ (p : Phase). placePast p (b .state) ≡ false) e (record-within (b .state) (passed Step b t 3) .place))
 
 -- ---- what it writes
 
 -- Past a cell a recovery that goes on is at the next one.
-past-place : (s : State) → pastCell s .phase ≡ Recovering → (pastCell s .place ≡ s .place) ⊎ (pastCell s .place ≡ s .place + 1)
+past-place : (s : State) → pastStop s .phase ≡ Recovering → (pastStop s .place ≡ s .place) ⊎ (pastStop s .place ≡ s .place + 1)
 past-place s =
     past-cases (λ (x : State). x .phase ≡ Recovering → (x .place ≡ s .place) ⊎ (x .place ≡ s .place + 1)) s
     (λ h p. inr refl)
@@ -61,12 +61,12 @@ stores-cell b f v other s e =
     }
 
 -- A step that stores nothing.
-stores-none : (b : Board) → OnlyCell (b .state .place) b (stated (pastCell (b .state)) b)
+stores-none : (b : Board) → OnlyCell (b .state .place) b (stated (pastStop (b .state)) b)
 stores-none b =
     record { cache = λ i r m. refl; cacheSize = refl; memory = λ i o. refl; memorySize = refl; place = past-place (b .state) }
 
 -- The line of the cell at the place written back.
-stores-line : (b : Board) → Sizes (b .state .lines) b → b .state .place < cells (b .state .lines) → OnlyCell (b .state .place) b (backed (cellLine (b .state .place)) (pastCell (b .state)) b)
+stores-line : (b : Board) → Lengths (shapeOf (b .state)) (b .memory) (b .cache) → b .state .place < cells (shapeOf (b .state)) → OnlyCell (b .state .place) b (backed (cellLine (b .state .place)) (pastStop (b .state)) b)
 stores-line b z h =
     let l = cellLine (b .state .place) in
     let inside = cell-in (b .memory) (b .state .place) (z .memory) h in

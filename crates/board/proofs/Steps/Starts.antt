@@ -14,21 +14,21 @@ use Rattle.line.specs.Cell.{cellLine, cellWord, fieldOffset, fieldIndex, fieldO
 use Rattle.board.specs.declared.Phase.{Phase}
 use Rattle.board.specs.declared.Phase.the-variants.{Formatting, Recovering}
 use Rattle.board.specs.declared.Call.the-variants.{FormatStart, RecoveryStart}
-use Rattle.board.specs.Board.{Board, workersOutside, epochOf, linesOf, workersOf, restNotZero}
+use Rattle.board.specs.Board.{Board, shaped, shapeIn, outside, epochOf, linesOf, workersOf, restNotZero}
 use Rattle.board.specs.State.{started}
 use Rattle.board.specs.Effects.{cached, effect}
 use Rattle.board.specs.Steps.{Begun, FormatBegins, RecoveryBegins, markWord, Recoverable, RecoveryTakes}
 use Rattle.board.specs.Next.{Taken}
-use Rattle.board.proofs.Laws.Bools.{and-left, and-right, not-off}
-use Rattle.board.proofs.Laws.Rows as Rows
-use Rattle.board.proofs.Laws.Taken.{taken-next, lines-in, workers-in, in-lines, in-workers}
+use Rattle.predicate.proofs.Bools.{and-left, and-right, not-off}
+use Rattle.board.proofs.Laws.Rows.{rest-zero}
+use Rattle.board.proofs.Laws.Taken.{taken-next, shape-in, in-shape, limits-in, in-limits}
 use Rattle.board.proofs.Recovery.Board.{started-header, started-rows}
 use Rattle.board.proofs.Recovery.Starts.{recoverable-taken}
 use Rattle.board.proofs.Keeps.RecoveryStart.{started-marks}
 use Rattle.board.proofs.Laws.Workers.{free-condition}
 
 -- A board with a record as the starts set it.
-begun : (phase : Phase) (l w : ℕ) (cache : List ℕ) (b : Board) → Begun phase l w cache b (cached cache (started phase l w) b)
+begun : (phase : Phase) (l w : ℕ) (cache : List ℕ) (b : Board) → Begun phase l w cache b (cached cache (started phase (shaped l) w) b)
 begun phase l w cache b =
     record {
       inPhase = refl;
@@ -40,7 +40,7 @@ begun phase l w cache b =
       undo = refl;
       request = refl;
       eight = refl;
-      free = λ i. free-condition (started phase l w) i refl;
+      free = λ i. free-condition (started phase (shaped l) w) i refl;
       memory = refl;
       current = refl;
     }
@@ -82,8 +82,8 @@ module _ (row : List ℕ) where
   zero k = eqb (getD row k 0) 0
 
   -- Where the test of words 3 to 7 passes, each is zero.
-  rest-zero : restNotZero row ≡ false → (k : ℕ) → 3 ≤ k → k < 8 → getD row k 0 ≡ 0
-  rest-zero e =
+  words-zero : restNotZero row ≡ false → (k : ℕ) → 3 ≤ k → k < 8 → getD row k 0 ≡ 0
+  words-zero e =
       let all = not-off (zero 3 && zero 4 && zero 5 && zero 6 && zero 7) e in
       let four = and-left (zero 3 && zero 4 && zero 5 && zero 6) (zero 7) all in
       let three = and-left (zero 3 && zero 4 && zero 5) (zero 6) four in
@@ -98,31 +98,34 @@ module _ (row : List ℕ) where
   -- Where each is zero the test passes.
   zero-rest : ((k : ℕ) → 3 ≤ k → k < 8 → getD row k 0 ≡ 0) → restNotZero row ≡ false
   zero-rest f =
-      Rows.rest-zero (f 3 (omega arith) (omega arith)) (f 4 (omega arith) (omega arith)) (f 5 (omega arith) (omega arith)) (f 6 (omega arith) (omega arith)) (f 7 (omega arith) (omega arith))
+      rest-zero (f 3 (omega arith) (omega arith)) (f 4 (omega arith) (omega arith)) (f 5 (omega arith) (omega arith)) (f 6 (omega arith) (omega arith)) (f 7 (omega arith) (omega arith))
 
 -- A taken recovery start finds a board that can be recovered.
 taken-recoverable : (b : Board) → Taken RecoveryStart b → Recoverable (linesOf (b .memory)) (workersOf (b .memory)) b
 taken-recoverable b t =
     let header = started-header b t in
     let rows = started-rows b t in
+    let limits = limits-in (shapeIn (b .memory)) (workersOf (b .memory)) (header .limits) in
     record {
-      linesWithin = lines-in (linesOf (b .memory)) (rows .limits);
-      workersWithin = workers-in (linesOf (b .memory)) (workersOf (b .memory)) (header .2);
+      linesWithin = shape-in (shapeIn (b .memory)) (rows .limits);
+      workersWithin = (limits .some, limits .eight, limits .fewer);
       memory = rows .memory .size;
       cache = rows .cache .size;
-      epoch = omega (arith, header .0);
+      epoch = omega (arith, header .epoch);
       lines = refl;
       workers = refl;
-      rest = rest-zero (b .memory) (header .3);
+      rest = words-zero (b .memory) (header .rest);
       marks = λ c h. subst (λ (m : ℕ). m ≤ epochOf (b .memory)) (mark-word (b .memory) c) (started-marks b t c h);
     }
 
 -- A recovery's start takes a board that can be recovered.
 recoverable-starts : (l w : ℕ) (b : Board) → Recoverable l w b → Taken RecoveryStart b
 recoverable-starts l w b k =
-    recoverable-taken l b
-    (record { limits = in-lines l (k .linesWithin); memory = record { size = k .memory }; cache = record { size = k .cache } })
-    (record { epoch = k .epoch; lines = k .lines; workers = subst (λ (n : ℕ). workersOutside l n ≡ false) (sym (k .workers)) (in-workers l w (k .workersWithin)); rest = zero-rest (b .memory) (k .rest) })
+    let shape = in-shape (shaped l) (k .linesWithin) in
+    let within = k .workersWithin in
+    recoverable-taken (shaped l) b
+    (record { limits = shape; memory = record { size = k .memory }; cache = record { size = k .cache } })
+    (record { epoch = k .epoch; shape = ap shaped (k .lines); limits = subst (λ (n : ℕ). outside (shaped l) n ≡ false) (sym (k .workers)) (in-limits (shaped l) w shape (within .0) (within .1) (within .2)); rest = zero-rest (b .memory) (k .rest) })
     (λ c h. subst (λ (m : ℕ). m ≤ epochOf (b .memory)) (sym (mark-word (b .memory) c)) (k .marks c h))
 
 -- It takes those and no other.

@@ -4,12 +4,12 @@ use mathlib.Core.Logic.{_⊎_, inl, inr, ⊎-elim}
 use mathlib.Core.List.{List, [], _∷_, List·Memᴰ·head, List·Memᴰ·tail, List·Memᴰ·cases-cons, List·Memᴰ·not-nil}
 use mathlib.Core.Bool.{false, cond}
 use Rattle.board.specs.declared.Call.the-variants.{FormatStart}
-use Rattle.board.specs.Board.{linesOutside, workersOutside}
+use Rattle.board.specs.Board.{shaped}
 use Rattle.board.specs.Causes.{Cause, causes, firstStanding, cause}
 use Rattle.board.specs.Steps.{NoneStands, StandsFirst, TableBothWays, FormatStarts}
-use Rattle.board.proofs.Laws.Bools.{split, chosen, passedOver, or-none}
-use Rattle.board.proofs.Invariant.{Sizes}
-use Rattle.board.proofs.Laws.Taken.{Clear, first-clear, table-numbered, take, refused-next, in-lines, in-workers, rows-fine}
+use Rattle.predicate.proofs.Bools.{split, chosen, passedOver}
+use Rattle.board.proofs.Invariant.{Lengths}
+use Rattle.board.proofs.Laws.Taken.{Clear, first-clear, table-numbered, take, refused-next, in-shape, in-limits, rows-fine}
 
 -- ---- no row stands
 
@@ -66,6 +66,6 @@ table-both-ways k b =
 pub format-starts : FormatStarts
 unfolding Clear causes
 format-starts l w b l1 l511 w1 w8 less memory cache =
-    let limits = in-lines l (l1, l511) in
-    let sizes : Sizes l b = record { limits = limits; memory = record { size = memory }; cache = record { size = cache } } in
-    take (FormatStart l w) b (or-none (linesOutside l) (workersOutside l w) limits (in-workers l w (w1, w8, less)), (rows-fine l b sizes, tt))
+    let shape = in-shape (shaped l) (l1, l511) in
+    let lengths : Lengths (shaped l) (b .memory) (b .cache) = record { limits = shape; memory = record { size = memory }; cache = record { size = cache } } in
+    take (FormatStart l w) b (in-limits (shaped l) w shape w1 w8 less, (rows-fine (shaped l) b lengths, tt))

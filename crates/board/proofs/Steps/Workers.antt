@@ -2,6 +2,7 @@
 use Prim.Native.Nat.{ℕ, _+_, _<_}
 use mathlib.Core.Path.{_≡_, refl, sym, ap, subst, _∙_}
 use mathlib.Core.Logic.{_↔_}
+use mathlib.Core.List.{List}
 use mathlib.Core.Bool.{true, _&&_, false≢true}
 use native.Mathlib.Omega.{arith}
 use lib.Dec.{ltb}
@@ -15,21 +16,33 @@ use Rattle.board.specs.declared.Call.the-variants.{Step, Advance, GoAway
 use Rattle.board.specs.Board.{Board}
 use Rattle.board.specs.State.{released, conditioned, conditionOf, isAway, isWaiting, dirtyCount}
 use Rattle.board.specs.Causes.{causes}
-use Rattle.board.specs.Effects.{Act, performAct, stated, afterLast, advance, advanceOf, effect}
+use Rattle.board.specs.Effects.{performAct, performFirst, stated, afterLast, advance, advanceOf, effect}
+use Rattle.board.specs.Checkpoint.{Act, acts}
 use Rattle.board.specs.Next.{next, Taken}
 use Rattle.board.specs.Steps.{Released, Releases, MustWait, LastStore, OnlyWorker, GoesAway, ComesBack}
-use Rattle.board.proofs.Laws.Bools.{split, chosen, passedOver, and-left, and-right, and-both, not-off, clash}
-use Rattle.board.proofs.Laws.Taken.{standsAt, passed, taken-next, workers-in, record-within}
+use Rattle.predicate.proofs.Bools.{split, chosen, passedOver, and-left, and-right, and-both, not-off, clash}
+use Rattle.board.proofs.Laws.Taken.{standsAt, passed, taken-next, eight-within}
 use Rattle.board.proofs.Laws.Workers.{condition-at, condition-other, is-away, busy-within, released-away}
-use Rattle.board.proofs.Checkpoint.Acts.{act-release, effect-acts}
+use Rattle.board.proofs.Checkpoint.Acts.{Remains, lineNext, epochNext, headerNext, releaseNext, acts-length, effect-acts, Stepping, step-ready}
 
 -- ---- release
 
 -- The step at place n+2 releases.
 step-releases : (b : Board) → b .state .phase ≡ Running → Taken Step b → b .state .place ≡ dirtyCount (b .state) + 2 → next Step b ≡ stated (released (b .state)) b
-unfolding performAct
-step-releases b e t p =
-    taken-next Step b t ∙ effect-acts b e ∙ ap (λ (a : Act). performAct a (b .state) b) (act-release (dirtyCount (b .state)) (b .state .place) p)
+unfolding performAct performFirst
+step-releases b e t p = taken-next Step b t ∙ go (now .left) refl
+  where
+    now : Stepping b
+    now = step-ready b e t
+
+    one : length (acts b) ≡ 1
+    one = acts-length b ∙ omega (arith, chosen (b .state .requested) (b .state .place) 0 (now .request))
+
+    go : {xs : List Act} → Remains b xs → acts b ≡ xs → effect Step b ≡ stated (released (b .state)) b
+    go (lineNext later low three) q = absurd (omega (arith, one, ap length q))
+    go epochNext q = absurd (omega (arith, one, ap length q))
+    go headerNext q = absurd (omega (arith, one, ap length q))
+    go releaseNext q = effect-acts b e q
 
 -- A release frees the eight workers but those that are away.
 pub releases : Releases
@@ -109,7 +122,7 @@ unfolding effect standsAt causes
 goes-away w b eight t =
     let pass = passed (GoAway w) b t in
     let under : w < b .state .workers = leb-false (b .state .workers) w (pass 6) in
-    let most = workers-in (b .state .lines) (b .state .workers) (record-within (b .state) (pass 3) .1) .1 in
+    let most = eight-within (b .state) (pass 3) in
     subst (OnlyWorker w Away b) (sym (taken-next (GoAway w) b t)) (only-worker w Away b (omega arith))
 
 -- A worker that comes back is free, and nothing else has changed.

@@ -11,7 +11,7 @@ use Rattle.board.specs.declared.Phase.the-variants.{Off, Formatting, Rec
 use Rattle.board.specs.declared.Call.{Call}
 use Rattle.bitset.specs.Words.{empty}
 use Rattle.locks.specs.Holders.{allUnheld, heldBy}
-use Rattle.board.specs.Board.{Board, headerWords}
+use Rattle.board.specs.Board.{Board, shaped, headerWords}
 use Rattle.board.specs.State.{freeWorker, started, placed, conditioned, dirtied, locked}
 use Rattle.board.specs.Effects.{cached, stated}
 use Rattle.board.specs.Bench.{Case, answers, fromEvents}
@@ -30,11 +30,11 @@ givesOn n k bs = map (gives n k) bs
 
 -- A row of words with the header of (L, W) in epoch 1, and cells of zeros.
 abbrev pub rowFor : ℕ → ℕ → List ℕ
-rowFor l w = headerWords 1 l w ++ replicate (8 * l) 0
+rowFor l w = headerWords 1 (shaped l) w ++ replicate (8 * l) 0
 
 -- A board in a phase, with L, W and rows that fit: no cause but the phase and the call's arguments stands.
 abbrev pub sound : Phase → ℕ → ℕ → Board
-sound phase l w = record { state = started phase l w; memory = rowFor l w; cache = rowFor l w }
+sound phase l w = record { state = started phase (shaped l) w; memory = rowFor l w; cache = rowFor l w }
 
 -- ---- the state record put otherwise
 
@@ -84,7 +84,7 @@ updating w c b = worker w (Updating Backup c 5) b
 abbrev pub ready : ℕ → ℕ → Board
 ready l w =
     record {
-      state = record { phase = Running; lines = l; workers = w; place = 0; undo = started Running l w .undo; requested = true; holders = allUnheld; dirty = empty; worker = replicate w (record { condition = Waiting }) ++ replicate (8 - w) freeWorker };
+      state = record { phase = Running; lines = l; workers = w; place = 0; undo = started Running (shaped l) w .undo; requested = true; holders = allUnheld; dirty = empty; worker = replicate w (record { condition = Waiting }) ++ replicate (8 - w) freeWorker };
       memory = rowFor l w;
       cache = rowFor l w;
     }

@@ -5,7 +5,7 @@ use lib.ListN.{set, replicate}
 use Rattle.board.specs.declared.Condition.the-variants.{Free, Waiting}
 use Rattle.board.specs.declared.Phase.the-variants.{Off, Formatting, Recovering, Running}
 use Rattle.board.specs.declared.Call.the-variants.{FormatStart, RecoveryStart, Step}
-use Rattle.board.specs.Board.{Board, headerWords}
+use Rattle.board.specs.Board.{Board, shaped, headerWords}
 use Rattle.board.specs.Bench.{Case, blank}
 use Rattle.board.specs.Refusals.Boards.{gives, givesOn, rowFor, sound, inPhase, limits, requested, setting, straying, placedAt, worker, updating, ready, remembered, epoch, spent, shortCache, misfits, outsides, badRecords}
 
@@ -66,25 +66,25 @@ offWith l header = remembered (header ++ replicate (8 * l) 0) (blank (8 * l + 8)
 -- Cause 5: epoch 0; L not (words div 8) − 1; W 0, 9 and 2L; each of words 3 to 7 not zero.
 abbrev pub recoveryHeader : List Case
 recoveryHeader =
-    gives 5 RecoveryStart (offWith 1 (headerWords 0 1 1))
-    ∷ gives 5 RecoveryStart (offWith 2 (headerWords 1 1 1))
-    ∷ gives 5 RecoveryStart (offWith 2 (headerWords 1 3 1))
-    ∷ gives 5 RecoveryStart (offWith 1 (headerWords 1 1 0))
-    ∷ gives 5 RecoveryStart (offWith 5 (headerWords 1 5 9))
-    ∷ gives 5 RecoveryStart (offWith 1 (headerWords 1 1 2))
-    ∷ gives 5 RecoveryStart (offWith 1 (set (headerWords 1 1 1) 3 1))
-    ∷ gives 5 RecoveryStart (offWith 1 (set (headerWords 1 1 1) 4 1))
-    ∷ gives 5 RecoveryStart (offWith 1 (set (headerWords 1 1 1) 5 1))
-    ∷ gives 5 RecoveryStart (offWith 1 (set (headerWords 1 1 1) 6 1))
-    ∷ gives 5 RecoveryStart (offWith 1 (set (headerWords 1 1 1) 7 1))
+    gives 5 RecoveryStart (offWith 1 (headerWords 0 (shaped 1) 1))
+    ∷ gives 5 RecoveryStart (offWith 2 (headerWords 1 (shaped 1) 1))
+    ∷ gives 5 RecoveryStart (offWith 2 (headerWords 1 (shaped 3) 1))
+    ∷ gives 5 RecoveryStart (offWith 1 (headerWords 1 (shaped 1) 0))
+    ∷ gives 5 RecoveryStart (offWith 5 (headerWords 1 (shaped 5) 9))
+    ∷ gives 5 RecoveryStart (offWith 1 (headerWords 1 (shaped 1) 2))
+    ∷ gives 5 RecoveryStart (offWith 1 (set (headerWords 1 (shaped 1) 1) 3 1))
+    ∷ gives 5 RecoveryStart (offWith 1 (set (headerWords 1 (shaped 1) 1) 4 1))
+    ∷ gives 5 RecoveryStart (offWith 1 (set (headerWords 1 (shaped 1) 1) 5 1))
+    ∷ gives 5 RecoveryStart (offWith 1 (set (headerWords 1 (shaped 1) 1) 6 1))
+    ∷ gives 5 RecoveryStart (offWith 1 (set (headerWords 1 (shaped 1) 1) 7 1))
     ∷ []
 
 -- Taken: 16 and 72 words (`RecoveryTakes` has every size); W = 2L − 1; in every phase over any record.
 abbrev pub recoveryTaken : List Case
 recoveryTaken =
-    gives 0 RecoveryStart (offWith 1 (headerWords 1 1 1))
-    ∷ gives 0 RecoveryStart (offWith 8 (headerWords 1 8 8))
-    ∷ gives 0 RecoveryStart (offWith 2 (headerWords (2 ^ 64 - 1) 2 3))
+    gives 0 RecoveryStart (offWith 1 (headerWords 1 (shaped 1) 1))
+    ∷ gives 0 RecoveryStart (offWith 8 (headerWords 1 (shaped 8) 8))
+    ∷ gives 0 RecoveryStart (offWith 2 (headerWords (2 ^ 64 - 1) (shaped 2) 3))
     ∷ givesOn 0 RecoveryStart anyRecord
 
 -- The same board with another word in memory; of line 1, words 10 and 13 are the marks of cells 0 and 1.
@@ -94,29 +94,29 @@ holding i v b = remembered (set (b .memory) i v) b
 -- Causes 4 and 5, while cause 14 stands too: cache of another length; epoch 0; W outside; a word of 3 to 7 not zero.
 abbrev pub recoveryBeforeMarks : List Case
 recoveryBeforeMarks =
-    gives 4 RecoveryStart (shortCache (holding 10 2 (offWith 1 (headerWords 1 1 1))))
-    ∷ gives 5 RecoveryStart (holding 10 1 (offWith 1 (headerWords 0 1 1)))
-    ∷ gives 5 RecoveryStart (holding 10 2 (offWith 1 (headerWords 1 1 2)))
-    ∷ gives 5 RecoveryStart (holding 10 2 (offWith 1 (set (headerWords 1 1 1) 7 1)))
+    gives 4 RecoveryStart (shortCache (holding 10 2 (offWith 1 (headerWords 1 (shaped 1) 1))))
+    ∷ gives 5 RecoveryStart (holding 10 1 (offWith 1 (headerWords 0 (shaped 1) 1)))
+    ∷ gives 5 RecoveryStart (holding 10 2 (offWith 1 (headerWords 1 (shaped 1) 2)))
+    ∷ gives 5 RecoveryStart (holding 10 2 (offWith 1 (set (headerWords 1 (shaped 1) 1) 7 1)))
     ∷ []
 
 -- Cause 14: a mark one past the epoch, in the first cell and in the last, of 2 and of 16; 2^64 − 1 past 2^64 − 2; with a later epoch in the cache.
 abbrev pub recoveryMarks : List Case
 recoveryMarks =
-    gives 14 RecoveryStart (holding 10 2 (offWith 1 (headerWords 1 1 1)))
-    ∷ gives 14 RecoveryStart (holding 13 6 (offWith 1 (headerWords 5 1 1)))
-    ∷ gives 14 RecoveryStart (holding 69 8 (offWith 8 (headerWords 7 8 8)))
-    ∷ gives 14 RecoveryStart (holding 13 (2 ^ 64 - 1) (offWith 1 (headerWords (2 ^ 64 - 2) 1 1)))
-    ∷ gives 14 RecoveryStart (epoch 9 (holding 10 2 (offWith 1 (headerWords 1 1 1))))
+    gives 14 RecoveryStart (holding 10 2 (offWith 1 (headerWords 1 (shaped 1) 1)))
+    ∷ gives 14 RecoveryStart (holding 13 6 (offWith 1 (headerWords 5 (shaped 1) 1)))
+    ∷ gives 14 RecoveryStart (holding 69 8 (offWith 8 (headerWords 7 (shaped 8) 8)))
+    ∷ gives 14 RecoveryStart (holding 13 (2 ^ 64 - 1) (offWith 1 (headerWords (2 ^ 64 - 2) (shaped 1) 1)))
+    ∷ gives 14 RecoveryStart (epoch 9 (holding 10 2 (offWith 1 (headerWords 1 (shaped 1) 1))))
     ∷ []
 
 -- Taken: every mark the epoch, though the cache's epoch is 0; that epoch 2^64 − 1; a mark under it; records, backups and words 6 and 7 that are greater.
 abbrev pub recoveryMarksTaken : List Case
 recoveryMarksTaken =
-    gives 0 RecoveryStart (holding 10 1 (holding 13 1 (offWith 1 (headerWords 1 1 1))))
-    ∷ gives 0 RecoveryStart (holding 10 (2 ^ 64 - 1) (holding 13 (2 ^ 64 - 1) (offWith 1 (headerWords (2 ^ 64 - 1) 1 1))))
-    ∷ gives 0 RecoveryStart (holding 10 4 (offWith 1 (headerWords 5 1 1)))
-    ∷ gives 0 RecoveryStart (holding 8 9 (holding 9 9 (holding 11 9 (holding 12 9 (holding 14 9 (holding 15 9 (offWith 1 (headerWords 1 1 1))))))))
+    gives 0 RecoveryStart (holding 10 1 (holding 13 1 (offWith 1 (headerWords 1 (shaped 1) 1))))
+    ∷ gives 0 RecoveryStart (holding 10 (2 ^ 64 - 1) (holding 13 (2 ^ 64 - 1) (offWith 1 (headerWords (2 ^ 64 - 1) (shaped 1) 1))))
+    ∷ gives 0 RecoveryStart (holding 10 4 (offWith 1 (headerWords 5 (shaped 1) 1)))
+    ∷ gives 0 RecoveryStart (holding 8 9 (holding 9 9 (holding 11 9 (holding 12 9 (holding 14 9 (holding 15 9 (offWith 1 (headerWords 1 (shaped 1) 1))))))))
     ∷ []
 
 -- ---- the step call

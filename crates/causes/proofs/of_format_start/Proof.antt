@@ -6,7 +6,7 @@ use native.Mathlib.Omega.{arith}
 use Rattle.board.specs.Board.{Board, outside, linesOutside, workersOutside}
 use Rattle.board.specs.Causes.{cause, causes, firstStanding, badRows}
 use Rattle.board.specs.Next.{lent}
-use Rattle.board.proofs.Laws.Bools.{chosen, or-left, split}
+use Rattle.predicate.proofs.Bools.{chosen, or-left, split}
 use Rattle.board.proofs.Laws.Taken.{lines-in}
 use Rattle.causes.proofs.of_format_start.Statement.{statement}
 use Rattle.causes.proofs.of_format_start.Tie as tie

@@ -6,8 +6,8 @@ use native.Mathlib.Omega.{arith}
 use lib.Dec.{ltb}
 use borrow.Author.Needs.{needs}
 use borrow.Author.Tests.{le-ltb}
-use Rattle.bitset.specs.Passing.{anyUnder}
-use Rattle.bitset.proofs.Passing.{under-none}
+use Rattle.predicate.specs.Passing.{anyUnder}
+use Rattle.predicate.proofs.Passing.{under-none}
 use Rattle.locks.specs.Holders.{digitOf, heldFrom}
 use Rattle.locks.proofs.Holders.{digit-lt, digit-next}
 use Rattle.locks.proofs.Lanes.{any-halves}

@@ -7,7 +7,7 @@ use lib.ListN.{length}
 use borrow.Author.Needs.{needs}
 use borrow.Author.Tests.{ltb-false, eq-eqb, ne-eqb}
 use Rattle.text.specs.Writing.{put}
-use Rattle.text.proofs.Bools.{chosen, passedOver}
+use Rattle.predicate.proofs.Bools.{chosen, passedOver}
 use Rattle.board.specs.Board.{Board, cells, rowWords}
 use Rattle.board.specs.Next.{lent}
 use Rattle.board.specs.Page.{pageText, pageBytes, pageCauses, pageCause, pageLeft, PagePerformed}

@@ -7,7 +7,8 @@ use lib.ListN.{length, getD}
 use borrow.Author.Needs.{needs}
 use Rattle.text.specs.Writing.{put}
 use Rattle.text.proofs.Writing.{put-put}
-use Rattle.board.specs.Page.{lineText, headingText, cellText, before, ordered, numbersUnder, cellOrder, pageText}
+use Rattle.board.specs.Page.{lineText, headingText, cellText, before, ordered, cellOrder, pageText}
+use Rattle.predicate.specs.Passing.{numbersUnder}
 use Rattle.page.specs.Cells.{AllHeld, HeldUnder}
 use Rattle.page.proofs.Ordering.{order-length, cell-below}
 use Rattle.page.proofs.put_ordered.Statement.{statement}

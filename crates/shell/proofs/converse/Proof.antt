@@ -6,7 +6,7 @@ use native.Mathlib.Omega.{arith}
 use lib.ListN.{length, take, drop, length-take, length-drop}
 use lib.Seq.{take-all}
 use borrow.Author.Needs.{needs}
-use Rattle.board.proofs.Laws.Bools.{clash}
+use Rattle.predicate.proofs.Bools.{clash}
 use Rattle.console.specs.Pieces.{Fed, fed, carriedBy, Ready}
 use Rattle.console.proofs.Pieces.{used-more}
 use Rattle.shell.proofs.converse.Statement.{statement}

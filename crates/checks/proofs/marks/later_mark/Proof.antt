@@ -3,7 +3,7 @@ use borrow.Author.Needs.{needs}
 use Prim.Native.Nat.{_≤_, _-_, _+_}
 use mathlib.Core.Path.{_≡_, refl, ap, _∙_}
 use native.Mathlib.Omega.{arith}
-use Rattle.bitset.specs.Passing.{anyUnder}
+use Rattle.predicate.specs.Passing.{anyUnder}
 use Rattle.board.specs.Board.{linesOf}
 use Rattle.checks.proofs.Walk.{laterWithin, line-walked}
 use Rattle.checks.proofs.marks.later_mark.Statement.{statement}

@@ -3,7 +3,7 @@ use borrow.Author.Needs.{needs}
 use Prim.Native.Nat.{_≤_, _-_, min}
 use mathlib.Core.Path.{_≡_, refl, sym, _∙_}
 use native.Mathlib.Omega.{arith}
-use Rattle.bitset.specs.Passing.{anyUnder}
+use Rattle.predicate.specs.Passing.{anyUnder}
 use Rattle.checks.specs.Sought.{soughtAt}
 use Rattle.checks.proofs.Tests.{under-more}
 use Rattle.checks.proofs.Scan.{scan-end, sought-under}

@@ -1,7 +1,7 @@
 -- `damage::record::put_field` meets its contract.
 use borrow.Author.Needs.{needs}
 use mathlib.Core.Path.{sym, _∙_}
-use Rattle.board.proofs.Laws.Bools.{chosen, passedOver}
+use Rattle.predicate.proofs.Bools.{chosen, passedOver}
 use Rattle.damage.proofs.record.put_field.Statement.{statement}
 use Rattle.damage.proofs.record.put_field.Tie as tie
 

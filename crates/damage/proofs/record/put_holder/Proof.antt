@@ -4,7 +4,7 @@ use lib.Dec.{ltb, leb}
 use borrow.Author.Needs.{needs}
 use borrow.Author.Tests.{lt-ltb, le-ltb, le-leb, lt-leb}
 use Rattle.board.specs.State.{locked}
-use Rattle.board.proofs.Laws.Bools.{chosen, passedOver, and-both, and-off, and-off-right}
+use Rattle.predicate.proofs.Bools.{chosen, passedOver, and-both, and-off, and-off-right}
 use Rattle.damage.proofs.record.put_holder.Statement.{statement}
 use Rattle.damage.proofs.record.put_holder.Tie as tie
 

@@ -5,7 +5,7 @@ use lib.Dec.{ltb}
 use borrow.Author.Tests.{lt-ltb, le-ltb}
 use Rattle.board.specs.State.{conditioned}
 use Rattle.damage.specs.Record.{conditionFits}
-use Rattle.board.proofs.Laws.Bools.{chosen, passedOver, and-both, and-off, and-off-right}
+use Rattle.predicate.proofs.Bools.{chosen, passedOver, and-both, and-off, and-off-right}
 use Rattle.damage.proofs.record.put_worker.Statement.{statement}
 use Rattle.damage.proofs.record.put_worker.Tie as tie
 

@@ -2,7 +2,7 @@
 use mathlib.Core.Path.{sym, _∙_}
 use borrow.Author.Needs.{needs}
 use borrow.Author.Tests.{eq-eqb, ne-eqb}
-use Rattle.board.proofs.Laws.Bools.{chosen, passedOver}
+use Rattle.predicate.proofs.Bools.{chosen, passedOver}
 use Rattle.damage.proofs.record.with_holder.Statement.{statement}
 use Rattle.damage.proofs.record.with_holder.Tie as tie
 

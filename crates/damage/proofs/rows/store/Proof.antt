@@ -5,7 +5,7 @@ use lib.ListN.{length, take}
 use lib.Seq.{length-take-le, take-set-lt}
 use borrow.Author.Needs.{needs}
 use borrow.Author.Tests.{lt-ltb, le-ltb}
-use Rattle.board.proofs.Laws.Bools.{chosen, passedOver}
+use Rattle.predicate.proofs.Bools.{chosen, passedOver}
 use Rattle.damage.proofs.rows.store.Statement.{statement}
 use Rattle.damage.proofs.rows.store.Tie as tie
 

@@ -6,7 +6,7 @@ use lib.Dec.{leb}
 use lib.ListN.{length, drop, getD}
 use borrow.Author.Needs.{needs}
 use borrow.Author.Tests.{lt-leb}
-use Rattle.board.proofs.Laws.Bools.{and-off, and-off-right}
+use Rattle.predicate.proofs.Bools.{and-off, and-off-right}
 use Rattle.text.specs.Ascii.{'0', '9'}
 use Rattle.script.specs.Fields.{numberOf}
 use Rattle.script.proofs.NumberLaws.{numberFrom, number-starts, number-empty, number-ends, number-goes-on, number-breaks, number-past}

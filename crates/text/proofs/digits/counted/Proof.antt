@@ -7,7 +7,7 @@ use native.Mathlib.Nat.{add-mul, mul-suc, mul-left-comm, mul-le-mul-right}
 use lib.Dec.{ltb}
 use borrow.Author.Needs.{needs}
 use borrow.Author.Tests.{ltb-true, ltb-false}
-use Rattle.text.proofs.Bools.{on}
+use Rattle.predicate.proofs.Bools.{on}
 use Rattle.text.proofs.Counting.{Counting, too-many, so-many, halved, all-counted}
 use Rattle.text.proofs.digits.counted.Statement.{statement}
 use Rattle.text.proofs.digits.counted.Tie as tie

@@ -1,5 +1,6 @@
--- The numbers that pass a test: whether there is one, how many there are, and which is the p-th.
+-- The numbers that pass a test: whether there is one, how many there are, which is the p-th, and all of them, rising.
 use Prim.Native.Nat.{ℕ, zero, suc, _+_, _-_}
+use mathlib.Core.List.{List, [], _∷_, _++_}
 use mathlib.Core.Bool.{Bool, false, cond, _&&_, _||_}
 use lib.Dec.{eqb}
 
@@ -21,3 +22,13 @@ nthFrom test (suc left) i p = cond (test i && eqb p 0) i (nthFrom test left (suc
 -- The same below `n`, from 0 up.
 unfoldable pub nthUnder : ℕ → (ℕ → Bool) → ℕ → ℕ
 nthUnder n test p = nthFrom test n 0 p
+
+-- The numbers below `n`, rising.
+unfoldable pub numbersUnder : ℕ → List ℕ
+numbersUnder zero = []
+numbersUnder (suc n) = numbersUnder n ++ (n ∷ [])
+
+-- The numbers of a list that pass the test, in their order.
+unfoldable pub passing : (ℕ → Bool) → List ℕ → List ℕ
+passing test [] = []
+passing test (i ∷ is) = cond (test i) (i ∷ passing test is) (passing test is)

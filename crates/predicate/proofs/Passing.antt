@@ -7,8 +7,8 @@ use native.Mathlib.Decide.{decLt}
 use native.Mathlib.Nat.{zero-add, add-suc}
 use lib.Dec.{ltb, eqb}
 use borrow.Author.Tests.{ltb-true, ltb-false, eqb-true, eqb-false}
-use Rattle.text.proofs.Bools.{on, split, chosen, passedOver, or-left, or-right, or-none, and-left, and-right}
-use Rattle.bitset.specs.Passing.{anyUnder, countUnder, nthFrom, nthUnder}
+use Rattle.predicate.proofs.Bools.{on, split, chosen, passedOver, or-left, or-right, or-none, and-left, and-right}
+use Rattle.predicate.specs.Passing.{anyUnder, countUnder, nthFrom, nthUnder}
 
 -- ---- whether one passes
 

@@ -1,0 +1,2 @@
+-- Definitions that every crate above may cite.
+pub mod Passing
