@@ -1,2 +1,2 @@
--- `Sizes` says what a plan keeps to.
-pub mod Sizes
+-- `Plans` says what a plan keeps to.
+pub mod Plans

@@ -1,5 +1,5 @@
 // Workloads for measuring the calls: `bench KIND L W N ROUNDS SEED` prints the same checksum as the reference program's.
-ghost use Rattle.bench.specs.Sizes.{Allowed};
+ghost use Rattle.bench.specs.Plans.{Allowed};
 
 mod pages;
 mod rounds;

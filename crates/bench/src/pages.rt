@@ -5,7 +5,7 @@ ghost use lib.ListN.{length};
 ghost use Rattle.board.specs.Board.{cells, rowWords};
 ghost use Rattle.line.specs.Line.{lineStart};
 ghost use Rattle.line.specs.Cell.{cellLine};
-ghost use Rattle.bench.specs.Sizes.{Allowed};
+ghost use Rattle.bench.specs.Plans.{Allowed};
 use crate::rounds::Marks;
 use crate::rounds::Plan;
 use crate::rounds::draw;

@@ -1,6 +1,6 @@
 // The rounds that are played: how many calls one has, and which.
 ghost use Prim.Native.Nat.{_<_, _≤_};
-ghost use Rattle.board.specs.Board.{cells};
+ghost use Rattle.board.specs.Board.{shaped, cells};
 use crate::setup;
 use board::Call;
 
@@ -88,8 +88,8 @@ pub struct Drawn {
 
 // The draw after the random number `last`.
 pub fn draw(plan: Plan, last: u64) -> Drawn
-    requires { ⌜ plan .workers < cells (plan .lines) ⌝ }
-    ensures { λ r. ⌜ r .cell < cells (plan .lines) ⌝ }
+    requires { ⌜ plan .workers < cells (shaped (plan .lines)) ⌝ }
+    ensures { λ r. ⌜ r .cell < cells (shaped (plan .lines)) ⌝ }
 {
     let random = setup::next(last);
     let workers = plan.workers as u64;

@@ -15,7 +15,7 @@ use Rattle.board.specs.Next.{Taken, next, valueOf}
 use Rattle.board.specs.Location.{Location, cell, Has}
 use Rattle.board.specs.Machine.{Machine, beginning, formatSteps}
 use Rattle.board.specs.Sequence.{Begins, formatted, recoveryStarted, Run, cutRun, cuts, History, begun, further, rose, lastCheckpoint, recoverySteps}
-use Rattle.board.specs.Statements.{Reads, ReadsCheckpointed, Recovery, CutAndRecovered, ReadAlike, Demand3, LastCheckpoint, Sizes, RecoveredSizes, Completes, formatStepIn, Completion, stepsFrom, FormatEnds, RecoveryEnds, CheckpointEnds, AwayHoldsUpNone, GoesAndComes, RecoveryStarts, OwnMemory, RequestAnswers, HistoryBegins, HasRecovery, UpdateEnds, SingleStores, SpareWords, FormatSpare}
+use Rattle.board.specs.Statements.{Reads, ReadsCheckpointed, Recovery, CutAndRecovered, ReadAlike, Demand3, LastCheckpoint, HeaderSizes, RecoveredSizes, Completes, formatStepIn, Completion, stepsFrom, FormatEnds, RecoveryEnds, CheckpointEnds, AwayHoldsUpNone, GoesAndComes, RecoveryStarts, OwnMemory, RequestAnswers, HistoryBegins, HasRecovery, UpdateEnds, SingleStores, SpareWords, FormatSpare}
 use Rattle.predicate.proofs.Bools.{on, not-off}
 use Rattle.board.proofs.Invariant.{Inv}
 use Rattle.board.proofs.Laws.Taken.{standsAt, passed, performed-number, performed-value, performed-taken, performing, same-lines}
@@ -124,8 +124,8 @@ last-checkpoint r (further {r = q} h e) c p =
     last-stays (formatStepIn e) q r (lastCheckpoint h) (carried (history-inv q h) e .completion) c p (λ i. last-checkpoint q h c i)
 
 -- L and W are the header's.
-pub sizes : Sizes
-sizes r h e =
+pub header-sizes : HeaderSizes
+header-sizes r h e =
     record { header = header; lines = λ d f. lines (r .board .state .phase) refl d f .0; workers = λ d f. lines (r .board .state .phase) refl d f .1 }
   where
     i : Inv r

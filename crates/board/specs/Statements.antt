@@ -79,8 +79,8 @@ pub record OwnSizes (r : Run) : Type 0 where
   pub lines : r .crashed ≡ false → isFormatting (r .board .state .phase) ≡ false → r .board .state .lines ≡ linesOf (r .board .memory)
   pub workers : r .crashed ≡ false → isFormatting (r .board .state .phase) ≡ false → r .board .state .workers ≡ workersOf (r .board .memory)
 
-abbrev pub Sizes : Type 0
-Sizes = (r : Run) → History r → r .erased ≡ false → OwnSizes r
+abbrev pub HeaderSizes : Type 0
+HeaderSizes = (r : Run) → History r → r .erased ≡ false → OwnSizes r
 
 -- L and W survive a recovery: the record's are then those of the header that it was started on.
 abbrev pub RecoveredSizes : Type 0

@@ -4,10 +4,10 @@ use mathlib.Core.Path.{_≡_, refl, sym, ap, _∙_}
 use mathlib.Core.Bool.{Bool, true, false, cond, _||_, false≢true}
 use lib.ListN.{length}
 use Rattle.board.specs.declared.Call.the-variants.{RecoveryStart}
-use Rattle.board.specs.Board.{Board, rowWords, epochOf, linesOf, workersOf}
+use Rattle.board.specs.Board.{Board, shapeIn, rowWords, epochOf, linesOf, workersOf}
 use Rattle.board.specs.Causes.{cause, causes, firstStanding, badRecoveryRows, badHeader, laterMark}
 use Rattle.predicate.proofs.Bools.{or-left, or-right, passedOver}
-use Rattle.board.proofs.Laws.Taken.{lines-in, workers-in}
+use Rattle.board.proofs.Laws.Taken.{limits-in}
 use Rattle.board.proofs.Recovery.Board.{header-passed, rows-passed}
 
 -- Rows and a header that pass: both rows have the length that the header's L asks, within the limits.
@@ -20,11 +20,12 @@ pub record Whole (b : Board) : Type 0 where
 pub whole : (b : Board) → badRecoveryRows b ≡ false → badHeader (b .memory) ≡ false → Whole b
 whole b r h =
     let z = rows-passed b r h in
+    let limits = limits-in (shapeIn (b .memory)) (workersOf (b .memory)) (header-passed (b .memory) h .limits) in
     record {
       memory = z .memory .size;
       cache = z .cache .size ∙ sym (z .memory .size);
-      lines = lines-in (linesOf (b .memory)) (z .limits) .1;
-      workers = workers-in (linesOf (b .memory)) (workersOf (b .memory)) (header-passed (b .memory) h .2) .1;
+      lines = limits .lines;
+      workers = limits .eight;
     }
 
 -- The tests of the rows and of the header, as they were made.

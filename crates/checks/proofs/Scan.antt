@@ -16,7 +16,7 @@ use Rattle.board.specs.declared.Phase.{Phase}
 use Rattle.board.specs.declared.Phase.the-variants.{Off, Formatting, Recovering, Running}
 use Rattle.board.specs.declared.Condition.{Condition}
 use Rattle.board.specs.declared.Condition.the-variants.{Free, Waiting, Updating, Away}
-use Rattle.board.specs.Board.{cells, outside}
+use Rattle.board.specs.Board.{shapeOf, cells, outside}
 use Rattle.board.specs.State.{anyWorker, conditionOf, quiescent, isRunning, updates, othersUpdate}
 use Rattle.board.specs.Causes.{placePast, badRecord, notReady}
 use Rattle.predicate.proofs.Bools.{and-off, and-left, and-right, and-not, or-right, not-of}
@@ -88,7 +88,7 @@ place-told Running s = refl
 -- So is all of cause 3 but the workers' updates.
 pub head-told : (s : State) → badHead (headed (headOf s) (s .holders) (s .dirty)) ≡ badHead s
 head-told s =
-    ap (λ (past : Bool). outside (s .lines) (s .workers) || strays (s .dirty) (s .lines) || heldFrom (s .holders) (s .workers) || past) (place-told (s .phase) s)
+    ap (λ (past : Bool). outside (shapeOf s) (s .workers) || strays (s .dirty) (s .lines) || heldFrom (s .holders) (s .workers) || past) (place-told (s .phase) s)
 
 -- The record of a running step that is ready is told without its workers: all workers under W wait or are away, so that none has an update.
 pub ready-record : {running unready : Bool} (s : State) → running ≡ isRunning (s .phase) → unready ≡ notReady s → running && not unready ≡ true → badHead s ≡ badRecord s
@@ -100,4 +100,4 @@ ready-record {running} {unready} s p q t =
     let all : waits ≡ false = or-right (not (s .requested)) waits (and-not (isRunning (s .phase)) (not (s .requested) || waits) ready on) in
     sym
     (or-off (badHead s) _
-    (under-none 8 _ (λ i h. waits-idle (ltb i (s .workers)) (conditionOf s i) (leb (cells (s .lines))) (none-under 8 _ all i h))))
+    (under-none 8 _ (λ i h. waits-idle (ltb i (s .workers)) (conditionOf s i) (leb (cells (shapeOf s))) (none-under 8 _ all i h))))

@@ -10,7 +10,7 @@ use Rattle.predicate.specs.Passing.{anyUnder}
 use Rattle.line.specs.declared.Field.the-variants.{Mark}
 use Rattle.line.specs.Cell.{cellLine, fieldOffset, fieldOf}
 use Rattle.line.proofs.Part.{lent, field-read}
-use Rattle.board.specs.Board.{cells}
+use Rattle.board.specs.Board.{shaped, cells}
 use Rattle.checks.specs.Marks.{laterAt}
 use Rattle.checks.proofs.Tests.{under-more}
 
@@ -27,7 +27,7 @@ later epoch row c = ltb epoch (fieldOf row c Mark)
 
 -- Some cell of lines 1 to `lines` has such a mark.
 abbrev pub laterWithin : ℕ → List ℕ → ℕ → Bool
-laterWithin epoch row lines = anyUnder (cells lines) (later epoch row)
+laterWithin epoch row lines = anyUnder (cells (shaped lines)) (later epoch row)
 
 -- A mark that is read in the part lent for a cell's line is the cell's.
 part-mark : (epoch : ℕ) (row : List ℕ) (l c half : ℕ) → l ≡ cellLine c → half ≡ c % 2 → laterAt epoch (lent row l) half ≡ later epoch row c
@@ -38,6 +38,6 @@ part-mark epoch row l c half e h =
 pub line-walked : (epoch : ℕ) (row : List ℕ) (l : ℕ) → 1 ≤ l →
     laterWithin epoch row (l - 1) || (laterAt epoch (lent row l) 0 || laterAt epoch (lent row l) 1) ≡ laterWithin epoch row (l + 1 - 1)
 line-walked epoch row l h =
-    let n = cells (l - 1) in
+    let n = cells (shaped (l - 1)) in
     rw (part-mark epoch row l n 0 (omega arith) (omega arith), part-mark epoch row l (n + 1) 1 (omega arith) (omega arith))
-    (sym (under-two-more n (later epoch row)) ∙ ap (λ (k : ℕ). anyUnder k (later epoch row)) (let e : n + 1 + 1 ≡ cells (l + 1 - 1) = omega arith in e))
+    (sym (under-two-more n (later epoch row)) ∙ ap (λ (k : ℕ). anyUnder k (later epoch row)) (let e : n + 1 + 1 ≡ cells (shaped (l + 1 - 1)) = omega arith in e))

@@ -6,7 +6,7 @@ use Rattle.bitset.specs.Words.{strays}
 use Rattle.locks.specs.Holders.{heldFrom}
 use Rattle.board.specs.declared.State.{State}
 use Rattle.board.specs.declared.UndoStep.the-variants.{Restore}
-use Rattle.board.specs.Board.{outside}
+use Rattle.board.specs.Board.{shapeOf, outside}
 use Rattle.board.specs.State.{allFree}
 use Rattle.board.specs.Causes.{placePast}
 use Rattle.checks.specs.declared.record.Head.{Head}
@@ -23,4 +23,4 @@ headed h holders dirty =
 -- "L or W outside the limits; place ..", "A bit set for line 0 or past L", "each lock's holder, a worker under W or none".
 abbrev pub badHead : State → Bool
 badHead s =
-    outside (s .lines) (s .workers) || strays (s .dirty) (s .lines) || heldFrom (s .holders) (s .workers) || placePast (s .phase) s
+    outside (shapeOf s) (s .workers) || strays (s .dirty) (s .lines) || heldFrom (s .holders) (s .workers) || placePast (s .phase) s

@@ -9,7 +9,7 @@ ghost use lib.Dec.{ltb};
 ghost use lib.ListN.{length};
 ghost use Rattle.board.specs.declared.State.{State};
 ghost use Rattle.board.specs.Causes.{badRows, badRecoveryRows, badHeader, epochSpent, storesSpentEpoch};
-ghost use Rattle.board.specs.Board.{restNotZero};
+ghost use Rattle.board.specs.Board.{shaped, restNotZero};
 ghost use Rattle.board.specs.Next.{lent};
 ghost use Rattle.board.specs.Page.{pageBytes};
 
@@ -27,7 +27,7 @@ pub fn bad_rows(lines: u16, memory: &[u64], cache: &[u64]) -> bool
 
 // A page's text row is shorter than the page.
 pub fn short_text(lines: u16, text: &[u8]) -> bool
-    ensures { λ r. ⌜ r ≡ ltb (length (now (text .entry))) (pageBytes lines) ⌝ }
+    ensures { λ r. ⌜ r ≡ ltb (length (now (text .entry))) (pageBytes (shaped lines)) ⌝ }
 {
     text.len() < board::page_bytes(lines)
 }
@@ -59,7 +59,7 @@ pub fn bad_header(row: &[u64]) -> bool
     let lines = line::header_word_or_zero(row, 1);
     (line::header_word_or_zero(row, 0) == 0)
         | !(lines == limits::less(row.len() / 8, 1) as u64)
-        | limits::workers_outside(lines, line::header_word_or_zero(row, 2))
+        | limits::outside(lines, line::header_word_or_zero(row, 2))
         | rest_not_zero(row)
 }
 

@@ -7,8 +7,8 @@ use native.Mathlib.Omega.{arith}
 use lib.Dec.{eqb, ltb}
 use lib.ListN.{length, take, length-replicate}
 use borrow.Author.Tests.{eq-eqb, ne-eqb, le-ltb}
-use Rattle.board.specs.Board.{Board, cells, outside}
-use Rattle.board.specs.Causes.{row, badRecord, badRows, notRunning, firstStanding}
+use Rattle.board.specs.Board.{Board, shaped, shapeOf, cells, outside}
+use Rattle.board.specs.Causes.{check, guarded, badRecord, badRows, notRunning, firstStanding}
 use Rattle.board.specs.Page.{pageText, pageBytes, pageCauses, pageCause, pageLeft, PageOutcome, PagePerformed}
 use Rattle.predicate.proofs.Bools.{chosen, passedOver, clash, or-left}
 use Rattle.board.proofs.Laws.Taken.{numbered, Clear, first-clear}
@@ -21,26 +21,26 @@ use Rattle.console.specs.Printing.{printing, largestRow, printedOf, Neve
 cause-by-length : (b : Board) (s t : List ℕ) → length s ≡ length t → pageCause b s ≡ pageCause b t
 unfolding pageCause pageCauses
 cause-by-length b s t e =
-    ap (λ (n : ℕ). firstStanding (row 2 (notRunning b) ∷ row 3 (badRecord (b .state)) ∷ row 4 (badRows (b .state .lines) b) ∷ row 12 (ltb n (pageBytes (b .state .lines))) ∷ [])) e
+    ap (λ (n : ℕ). firstStanding (guarded (notRunning b) b (check 12 (ltb n (pageBytes (shapeOf (b .state)))) ∷ []))) e
 
 -- The row that is lent has the largest page's length.
-largest-size : length largestRow ≡ pageBytes 511
+largest-size : length largestRow ≡ pageBytes (shaped 511)
 unfolding largestRow
-largest-size = length-replicate {A = ℕ} (pageBytes 511) 0
+largest-size = length-replicate {A = ℕ} (pageBytes (shaped 511)) 0
 
 -- A record that is not bad has its lines within the limits.
 lines-fine : (b : Board) → badRecord (b .state) ≡ false → b .state .lines ≤ 511
 unfolding badRecord
 lines-fine b e =
     let s = b .state in
-    lines-within (s .lines) (s .workers) (or-left (outside (s .lines) (s .workers)) _ (or-left _ _ (or-left _ _ (or-left _ _ e))))
+    lines-within (s .lines) (s .workers) (or-left (outside (shapeOf s) (s .workers)) _ (or-left _ _ (or-left _ _ (or-left _ _ e))))
 
 -- A page that is taken is of a board within the limits.
 taken-lines : (b : Board) (text : List ℕ) → pageCause b text ≡ 0 → b .state .lines ≤ 511
 unfolding pageCause pageCauses numbered Clear
 taken-lines b text e = lines-fine b (first-clear (pageCauses b text) refl e .1 .0)
 
-module _ (b : Board) (text left : List ℕ) (number : ℕ) (size : length text ≡ pageBytes 511) (made : PagePerformed b text number b left) where
+module _ (b : Board) (text left : List ℕ) (number : ℕ) (size : length text ≡ pageBytes (shaped 511)) (made : PagePerformed b text number b left) where
   told : number ≡ pageCause b largestRow
   told = ap (λ (o : PageOutcome). o .number) made ∙ cause-by-length b text largestRow (size ∙ sym largest-size)
 
@@ -52,15 +52,15 @@ module _ (b : Board) (text left : List ℕ) (number : ℕ) (size : length text �
       ∙ ap (printing (pageCause b largestRow)) (sym (passedOver (eqb (pageCause b largestRow) 0) _ _ (ne-eqb _ 0 (λ z. some (told ∙ z)))))
 
   -- Of a taken one its bytes are, which are the page.
-  pub taken-printed : (bytes : ℕ) → number ≡ 0 → bytes ≡ pageBytes (b .state .lines) →
-      ((l : ℕ) → l ≤ 511 → length (pageText (b .cache) (cells l)) ≡ pageBytes l) →
+  pub taken-printed : (bytes : ℕ) → number ≡ 0 → bytes ≡ pageBytes (shapeOf (b .state)) →
+      ((l : ℕ) → l ≤ 511 → length (pageText (b .cache) (cells (shaped l))) ≡ pageBytes (shaped l)) →
       (printing number (take bytes left) ≡ printedOf b) × (bytes ≤ 69564)
   unfolding printedOf pageLeft
   taken-printed bytes none e sizes =
-      let page = pageText (b .cache) (cells (b .state .lines)) in
+      let page = pageText (b .cache) (cells (shapeOf (b .state))) in
       let zero : pageCause b text ≡ 0 = sym (ap (λ (o : PageOutcome). o .number) made) ∙ none in
       let few : b .state .lines ≤ 511 = taken-lines b text zero in
-      let length-page : length page ≡ pageBytes (b .state .lines) = sizes (b .state .lines) few in
+      let length-page : length page ≡ pageBytes (shapeOf (b .state)) = sizes (b .state .lines) few in
       let holds = ap (λ (o : PageOutcome). o .text) made ∙ chosen (eqb (pageCause b text) 0) _ _ (eq-eqb _ 0 zero) in
       let printed : take bytes left ≡ page = put-front {row = text} {text = page} {at = 0} {end = bytes} (record { ends = omega (arith, length-page); holds = holds }) (omega (arith, length-page)) in (
         ap (printing number) printed
@@ -88,6 +88,6 @@ not-last false false false false off e = omega arith
 pub never-short : NeverShort
 unfolding pageCause pageCauses firstStanding
 never-short b e =
-    let enough : badRecord (b .state) ≡ false → ltb (length largestRow) (pageBytes (b .state .lines)) ≡ false =
-    λ fine. le-ltb (length largestRow) (pageBytes (b .state .lines)) (omega (arith, largest-size, lines-fine b fine)) in
+    let enough : badRecord (b .state) ≡ false → ltb (length largestRow) (pageBytes (shapeOf (b .state))) ≡ false =
+    λ fine. le-ltb (length largestRow) (pageBytes (shapeOf (b .state))) (omega (arith, largest-size, lines-fine b fine)) in
     not-last (notRunning b) (badRecord (b .state)) (badRows (b .state .lines) b) _ enough e

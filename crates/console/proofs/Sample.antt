@@ -4,11 +4,12 @@ use mathlib.Core.Path.{_≡_, refl}
 use mathlib.Core.List.{List, [], _∷_, _++_, flatten}
 use Rattle.line.specs.Line.{lineOf, withLine}
 use Rattle.line.specs.Cell.{fieldIndex, fieldOf, withField}
-use Rattle.predicate.specs.Passing.{anyUnder}
+use Rattle.predicate.specs.Passing.{anyUnder, numbersUnder}
+use Rattle.board.specs.Checkpoint.{acts, storesEpoch}
 use Rattle.bitset.specs.Words.{bitOf, withBit, contains, inserted, strays}
 use Rattle.locks.specs.Holders.{digitOf, unheld, holds, holdsAny, heldFrom, withDigit}
 use Rattle.board.specs.Causes.{badRecord, causes, firstStanding, cause}
-use Rattle.board.specs.Effects.{formatStep, recoveryStep, actAt, performAct, step, advance, advanceOf, effect}
+use Rattle.board.specs.Effects.{formatStep, recoveryStep, performAct, performFirst, step, advance, advanceOf, effect}
 use Rattle.board.specs.Next.{next, valueRead, valueOf}
 use Rattle.board.specs.Statements.{stepsFrom}
 use Rattle.text.specs.Ascii.{tab, feed, '-', '0', 'A', 'E', 'F', 'G', 'H', 'R', 'S', 'U', 'V', 'X'}
@@ -92,10 +93,10 @@ printed =
 
 -- The sample script prints what document 01 says, and 0 for its two locks.
 pub sample : transcript Drill (flatten script) ≡ headerText ++ flatten printed
-unfolding script printed flatten linesOf answers fields allDigits valueAfter isNumber allNumbers drilled formed meaning spelled answerText next valueOf valueRead stepsFrom cause causes firstStanding badRecord anyUnder bitOf withBit contains inserted strays digitOf unheld holds holdsAny heldFrom withDigit effect step formatStep recoveryStep actAt performAct advance advanceOf lineOf withLine fieldIndex fieldOf withField
+unfolding script printed flatten linesOf answers fields allDigits valueAfter isNumber allNumbers drilled formed meaning spelled answerText next valueOf valueRead stepsFrom cause causes firstStanding badRecord anyUnder bitOf withBit contains inserted strays digitOf unheld holds holdsAny heldFrom withDigit effect step formatStep recoveryStep acts numbersUnder performAct performFirst storesEpoch advance advanceOf lineOf withLine fieldIndex fieldOf withField
 sample = refl
 
 -- "K12: update of cell 0 or 2 gives 7", "from a fresh format (1, 1)".
 pub k12 : transcript Drill (format ++ ('U' ∷ tab ∷ '0' ∷ tab ∷ '0' ∷ tab ∷ '7' ∷ feed ∷ []) ++ ('U' ∷ tab ∷ '0' ∷ tab ∷ '2' ∷ tab ∷ '7' ∷ feed ∷ [])) ≡ headerText ++ ('1' ∷ tab ∷ 'F' ∷ tab ∷ '0' ∷ tab ∷ '-' ∷ feed ∷ []) ++ ('2' ∷ tab ∷ 'U' ∷ tab ∷ '7' ∷ tab ∷ '-' ∷ feed ∷ []) ++ ('3' ∷ tab ∷ 'U' ∷ tab ∷ '7' ∷ tab ∷ '-' ∷ feed ∷ [])
-unfolding linesOf answers fields allDigits valueAfter isNumber allNumbers drilled formed meaning spelled answerText next valueOf valueRead stepsFrom cause causes firstStanding badRecord anyUnder bitOf withBit contains inserted strays digitOf unheld holds holdsAny heldFrom withDigit effect step formatStep recoveryStep actAt performAct advance advanceOf lineOf withLine fieldIndex fieldOf withField
+unfolding linesOf answers fields allDigits valueAfter isNumber allNumbers drilled formed meaning spelled answerText next valueOf valueRead stepsFrom cause causes firstStanding badRecord anyUnder bitOf withBit contains inserted strays digitOf unheld holds holdsAny heldFrom withDigit effect step formatStep recoveryStep acts numbersUnder performAct performFirst storesEpoch advance advanceOf lineOf withLine fieldIndex fieldOf withField
 k12 = refl

@@ -5,7 +5,7 @@ use mathlib.Core.Bool.{cond}
 use mathlib.Core.List.{List, [], flatten}
 use lib.Dec.{eqb}
 use lib.ListN.{replicate}
-use Rattle.board.specs.Board.{Board, cells}
+use Rattle.board.specs.Board.{Board, shaped, shapeOf, cells}
 use Rattle.board.specs.Page.{pageText, pageBytes, pageCause}
 use Rattle.script.specs.declared.Program.the-variants.{Drill, Page}
 use Rattle.console.specs.Transcript.{lastBoard}
@@ -22,12 +22,12 @@ printing number text = record { number = number; text = text }
 
 -- The text row that is lent: as long as the largest page.
 unfoldable pub largestRow : List ℕ
-largestRow = replicate (pageBytes 511) 0
+largestRow = replicate (pageBytes (shaped 511)) 0
 
 -- What is printed of a board: its page where the page is taken, nothing where it is refused.
 unfoldable pub printedOf : Board → Printed
 printedOf b =
-    let number = pageCause b largestRow in printing number (cond (eqb number 0) (pageText (b .cache) (cells (b .state .lines))) [])
+    let number = pageCause b largestRow in printing number (cond (eqb number 0) (pageText (b .cache) (cells (shapeOf (b .state)))) [])
 
 -- What is printed for a whole input.
 abbrev pub pagePrinted : List ℕ → Printed

@@ -6,7 +6,7 @@ use mathlib.Core.Bool.{Bool, true, false, cond}
 use native.Mathlib.Omega.{arith}
 use lib.Dec.{eqb}
 use lib.ListN.{set}
-use borrow.Author.Tests.{le-leb, lt-leb, lt-ltb, le-ltb, eq-eqb, ne-eqb}
+use borrow.Author.Tests.{le-leb, lt-leb, lt-ltb, le-ltb}
 use Rattle.bitset.specs.Words.{empty, nth}
 use Rattle.line.specs.declared.Field.{Field}
 use Rattle.line.specs.Line.{lineOf, withLine}
@@ -19,11 +19,13 @@ use Rattle.board.specs.declared.Store.the-variants.{Backup, Mark, Record}
 use Rattle.board.specs.declared.Condition.{Condition}
 use Rattle.board.specs.declared.Condition.the-variants.{Updating}
 use Rattle.board.specs.declared.Phase.the-variants.{Recovering}
-use Rattle.board.specs.Board.{Board, cells, headerWords, zeroWords, epochOf, linesOf, workersOf}
+use Rattle.board.specs.Board.{Board, shaped, shapeOf, shapeIn, cells, headerWords, zeroWords, epochOf, linesOf, workersOf}
 use Rattle.board.specs.State.{started, placed, opened, released, conditioned, dirtied, dirtyCount}
 use Rattle.board.specs.Location
 use Rattle.board.specs.Location.{logged}
-use Rattle.board.specs.Effects.{Act, writeLine, storeEpoch, writeHeader, release, actAt, performAct, formatStep, pastStop, recoveryStep, firstStore, noted, afterLast, advance}
+use Rattle.board.specs.Checkpoint.{acts}
+use Rattle.board.proofs.Checkpoint.Acts.{first-line, first-epoch, first-header, first-release}
+use Rattle.board.specs.Effects.{performAct, performFirst, formatStep, pastStop, recoveryStep, firstStore, noted, afterLast, advance}
 use Rattle.board.specs.Next.{lent}
 use Rattle.predicate.proofs.Bools.{chosen, passedOver}
 
@@ -48,27 +50,27 @@ module _ (s : State) {s′ : State} (m c : List ℕ) {m′ c′ : List ℕ} wher
   erased h p q r = picked _ (sym (le-leb (s .place) (s .lines) h)) refl (same-board p q r)
 
   -- Past line L the header is made.
-  pub headed : s .lines < s .place → s′ ≡ opened s empty → m′ ≡ withLine m 0 (headerWords 1 (s .lines) (s .workers)) → c′ ≡ withLine c 0 (headerWords 1 (s .lines) (s .workers)) → lent s′ m′ c′ ≡ formatStep s (lent s m c)
+  pub headed : s .lines < s .place → s′ ≡ opened s empty → m′ ≡ withLine m 0 (headerWords 1 (shapeOf s) (s .workers)) → c′ ≡ withLine c 0 (headerWords 1 (shapeOf s) (s .workers)) → lent s′ m′ c′ ≡ formatStep s (lent s m c)
   unfolding formatStep
   headed h p q r = dropped _ (sym (lt-leb (s .place) (s .lines) h)) refl (same-board p q r)
 
 -- ---- recovery
 
 -- A recovery's start, from the header's two words.
-pub restarts : {s′ : State} {l w : ℕ} (row : List ℕ) → l ≡ linesOf row → w ≡ workersOf row → s′ ≡ started Recovering l w → s′ ≡ started Recovering (linesOf row) (workersOf row)
-restarts row p q e = e ∙ (λ i. started Recovering (p i) (q i))
+pub restarts : {s′ : State} {l w : ℕ} (row : List ℕ) → l ≡ linesOf row → w ≡ workersOf row → s′ ≡ started Recovering (shaped l) w → s′ ≡ started Recovering (shapeIn row) (workersOf row)
+restarts row p q e = e ∙ (λ i. started Recovering (shaped (p i)) (q i))
 
 -- A cell's log, from the two words that are compared.
 pub same-log : {x e : ℕ} (row : List ℕ) (cell : ℕ) → x ≡ fieldOf row cell Field.Mark → e ≡ epochOf row → eqb x e ≡ logged row (Location.cell cell)
 same-log row cell p q = λ i. eqb (p i) (q i)
 
 -- Past a cell there is another.
-pub next-cell : (s : State) {s′ : State} {n : ℕ} → n ≡ cells (s .lines) → s .place + 1 < n → s′ ≡ placed s (s .place + 1) Restore → s′ ≡ pastStop s
-next-cell s e h p = picked _ (sym (lt-ltb (s .place + 1) (cells (s .lines)) (omega arith))) refl p
+pub next-cell : (s : State) {s′ : State} {n : ℕ} → n ≡ cells (shapeOf s) → s .place + 1 < n → s′ ≡ placed s (s .place + 1) Restore → s′ ≡ pastStop s
+next-cell s e h p = picked _ (sym (lt-ltb (s .place + 1) (cells (shapeOf s)) (omega arith))) refl p
 
 -- Past the last cell the board runs.
-pub last-cell : (s : State) {s′ : State} {n : ℕ} → n ≡ cells (s .lines) → n ≤ s .place + 1 → s′ ≡ opened s (s .dirty) → s′ ≡ pastStop s
-last-cell s e h p = dropped _ (sym (le-ltb (s .place + 1) (cells (s .lines)) (omega arith))) refl p
+pub last-cell : (s : State) {s′ : State} {n : ℕ} → n ≡ cells (shapeOf s) → n ≤ s .place + 1 → s′ ≡ opened s (s .dirty) → s′ ≡ pastStop s
+last-cell s e h p = dropped _ (sym (le-ltb (s .place + 1) (cells (shapeOf s)) (omega arith))) refl p
 
 module _ (s : State) {s′ : State} (m c : List ℕ) where
   -- "record := backup".
@@ -123,45 +125,27 @@ store-told w cell v s b p e = e ∙ ap (λ (x : Store). advance x w cell v s b) 
 
 -- ---- checkpoint
 
-act-line : {n place : ℕ} → place < n → actAt n place ≡ writeLine
-unfolding actAt
-act-line {n} {place} h = chosen _ _ _ (lt-ltb place n h)
+-- A step of a requested checkpoint leads from a board to another.
+abbrev Steps : Board → Board → Type 0
+Steps b b′ = b′ ≡ performFirst (acts b) (b .state) b
 
-act-epoch : {n place : ℕ} → place ≡ n → actAt n place ≡ storeEpoch
-unfolding actAt
-act-epoch {n} {place} h = passedOver _ _ _ (le-ltb place n (omega arith)) ∙ chosen _ _ _ (eq-eqb place n h)
-
-act-header : (n : ℕ) {place : ℕ} → place ≡ n + 1 → actAt n place ≡ writeHeader
-unfolding actAt
-act-header n {place} h =
-    passedOver _ _ _ (le-ltb place n (omega arith)) ∙ passedOver _ _ _ (ne-eqb place n (λ e. omega arith)) ∙ chosen _ _ _ (eq-eqb place (n + 1) h)
-
-act-release : {n place : ℕ} → n ≤ place → (place ≡ n → ⊥) → (place ≡ n + 1 → ⊥) → actAt n place ≡ release
-unfolding actAt
-act-release {n} {place} h o p =
-    passedOver _ _ _ (le-ltb place n h) ∙ passedOver _ _ _ (ne-eqb place n o) ∙ passedOver _ _ _ (ne-eqb place (n + 1) p)
-
--- The act that comes at the place, after `n` dirty lines.
-acted : {a : Act} {n : ℕ} (s : State) (b : Board) {b′ : Board} → n ≡ dirtyCount s → actAt n (s .place) ≡ a → b′ ≡ performAct a s b → b′ ≡ performAct (actAt (dirtyCount s) (s .place)) s b
-acted s b k p e = e ∙ ap (λ (x : Act). performAct x s b) (sym p ∙ ap (λ (x : ℕ). actAt x (s .place)) k)
-
-module _ (s : State) {s′ : State} (m c : List ℕ) {n : ℕ} (count : n ≡ dirtyCount s) where
+module _ (s : State) {s′ : State} (m c : List ℕ) (on : s .requested ≡ true) {n : ℕ} (count : n ≡ dirtyCount s) where
   -- "writes the set lines in rising order".
-  pub writes-dirty : {m′ : List ℕ} {l : ℕ} → l ≡ nth (s .dirty) (s .place) → s .place < n → s′ ≡ placed s (s .place + 1) (s .undo) → m′ ≡ withLine m l (lineOf c l) → lent s′ m′ c ≡ performAct (actAt (dirtyCount s) (s .place)) s (lent s m c)
+  pub writes-dirty : {m′ : List ℕ} {l : ℕ} → l ≡ nth (s .dirty) (s .place) → s .place < n → s′ ≡ placed s (s .place + 1) (s .undo) → m′ ≡ withLine m l (lineOf c l) → Steps (lent s m c) (lent s′ m′ c)
   unfolding performAct
-  writes-dirty e h p q = acted s (lent s m c) count (act-line h) (same-board p (q ∙ ap (λ (l : ℕ). withLine m l (lineOf c l)) e) refl)
+  writes-dirty e h p q = same-board p (q ∙ ap (λ (l : ℕ). withLine m l (lineOf c l)) e) refl ∙ sym (first-line (lent s m c) on (omega arith))
 
   -- "epoch := epoch + 1 in the cache".
-  pub stores-epoch : {c′ : List ℕ} {epoch : ℕ} → s .place ≡ n → s′ ≡ placed s (s .place + 1) (s .undo) → epoch ≡ epochOf c → c′ ≡ set c 0 (epoch + 1) → lent s′ m c′ ≡ performAct (actAt (dirtyCount s) (s .place)) s (lent s m c)
+  pub stores-epoch : {c′ : List ℕ} {epoch : ℕ} → s .place ≡ n → s′ ≡ placed s (s .place + 1) (s .undo) → epoch ≡ epochOf c → c′ ≡ set c 0 (epoch + 1) → Steps (lent s m c) (lent s′ m c′)
   unfolding performAct
-  stores-epoch h p f q = acted s (lent s m c) count (act-epoch h) (same-board p refl (q ∙ ap (λ (x : ℕ). set c 0 (x + 1)) f))
+  stores-epoch h p f q = same-board p refl (q ∙ ap (λ (x : ℕ). set c 0 (x + 1)) f) ∙ sym (first-epoch (lent s m c) on (h ∙ count))
 
   -- "line 0 written back".
-  pub writes-header : {m′ : List ℕ} → s .place ≡ n + 1 → s′ ≡ placed s (s .place + 1) (s .undo) → m′ ≡ withLine m 0 (lineOf c 0) → lent s′ m′ c ≡ performAct (actAt (dirtyCount s) (s .place)) s (lent s m c)
+  pub writes-header : {m′ : List ℕ} → s .place ≡ n + 1 → s′ ≡ placed s (s .place + 1) (s .undo) → m′ ≡ withLine m 0 (lineOf c 0) → Steps (lent s m c) (lent s′ m′ c)
   unfolding performAct
-  writes-header h p q = acted s (lent s m c) count (act-header n h) (same-board p q refl)
+  writes-header h p q = same-board p q refl ∙ sym (first-header (lent s m c) on (omega arith))
 
   -- "release".
-  pub releases : n ≤ s .place → (s .place ≡ n → ⊥) → (s .place ≡ n + 1 → ⊥) → s′ ≡ released s → lent s′ m c ≡ performAct (actAt (dirtyCount s) (s .place)) s (lent s m c)
+  pub releases : s .place ≤ dirtyCount s + 2 → n ≤ s .place → (s .place ≡ n → ⊥) → (s .place ≡ n + 1 → ⊥) → s′ ≡ released s → Steps (lent s m c) (lent s′ m c)
   unfolding performAct
-  releases h o k p = acted s (lent s m c) count (act-release h o k) (same-board p refl refl)
+  releases top h o k p = same-board p refl refl ∙ sym (first-release (lent s m c) on (omega (arith, o, k)))

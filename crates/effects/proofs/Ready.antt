@@ -26,5 +26,5 @@ module _ (s : State) (m c : List ℕ) (k : Checkpoints s m c) {n : ℕ} (count :
       below e f o = omega arith
 
 -- A checkpoint's places are few enough for there to be a next one.
-pub place-in : (s : State) (m c : List ℕ) → Checkpoints s m c → s .place < 65535
-place-in s m c k = omega (arith, k .place, size-room (s .dirty))
+pub place-fits : (s : State) (m c : List ℕ) → Checkpoints s m c → s .place < 65535
+place-fits s m c k = omega (arith, k .place, size-room (s .dirty))

@@ -1,14 +1,14 @@
 -- What a passed cause table gives: the bounds that the functions behind the calls ask for.
 use Prim.Native.Nat.{ℕ, _+_, _≤_, _<_}
 use mathlib.Core.Path.{_≡_}
-use mathlib.Core.Bool.{false}
+use mathlib.Core.Bool.{true, false}
 use mathlib.Core.List.{List}
 use lib.ListN.{length}
 use Rattle.bitset.specs.Words.{strays}
 use Rattle.board.specs.declared.State.{State}
 use Rattle.line.specs.Line.{lineStart}
 use Rattle.line.specs.Cell.{cellLine}
-use Rattle.board.specs.Board.{cells, rowWords, linesOf, workersOf, epochOf, lastEpoch}
+use Rattle.board.specs.Board.{shapeOf, cells, rowWords, linesOf, workersOf, epochOf, lastEpoch}
 use Rattle.board.specs.State.{dirtyCount}
 
 -- Rows of the lengths that the record's L asks, L within its limits.
@@ -32,11 +32,12 @@ pub record Formats (s : State) (memory cache : List ℕ) : Type 0 where
 -- A recovery's place is a cell.
 pub record Recovers (s : State) (memory cache : List ℕ) : Type 0 where
   pub rows : Rows s memory cache
-  pub place : s .place < cells (s .lines)
+  pub place : s .place < cells (shapeOf s)
 
--- Every dirty line is one of lines 1 to L; a checkpoint's place is that of a dirty line, the epoch's store with a next epoch, or one of the two steps after it.
+-- A request stands; every dirty line is one of lines 1 to L; a checkpoint's place is that of a dirty line, the epoch's store with a next epoch, or one of the two steps after it.
 pub record Checkpoints (s : State) (memory cache : List ℕ) : Type 0 where
   pub rows : Rows s memory cache
+  pub request : s .requested ≡ true
   pub lines : strays (s .dirty) (s .lines) ≡ false
   pub place : s .place ≤ dirtyCount s + 2
   pub epoch : s .place ≡ dirtyCount s → epochOf cache ≡ lastEpoch → ⊥

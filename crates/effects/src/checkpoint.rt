@@ -1,7 +1,7 @@
 // A checkpoint's steps: "A checkpoint writes the set lines in rising order; n is their count"; "epoch := epoch + 1 in the cache; line 0 written back; release".
 ghost use mathlib.Core.Path.{_≡_};
-ghost use Rattle.board.specs.State.{dirtyCount};
-ghost use Rattle.board.specs.Effects.{actAt, performAct};
+ghost use Rattle.board.specs.Checkpoint.{acts};
+ghost use Rattle.board.specs.Effects.{performFirst};
 ghost use Rattle.board.specs.Next.{lent};
 ghost use Rattle.effects.specs.Progress.{progressed};
 ghost use Rattle.effects.specs.Ready.{Checkpoints};
@@ -10,12 +10,12 @@ use crate::record::next_place;
 use crate::record::released;
 use board::State;
 
-// The act at the place reached.
+// The first of the acts that are left.
 pub fn checkpoint_step(state: State, memory: &mut [u64], cache: &mut [u64]) -> Progress
     requires { ⌜ Checkpoints state (now memory) (now cache) ⌝ }
     ensures { λ r. ⌜
         lent (progressed state r) (now (memory .exit)) (now (cache .exit))
-        ≡ performAct (actAt (dirtyCount state) (state .place)) state
+        ≡ performFirst (acts (lent state (now (memory .entry)) (now (cache .entry)))) state
         (lent state (now (memory .entry)) (now (cache .entry))) ⌝ }
 {
     let dirty = state.dirty;

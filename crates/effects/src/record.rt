@@ -2,6 +2,7 @@
 ghost use mathlib.Core.Path.{_≡_};
 ghost use Prim.Native.Nat.{_+_, _<_};
 ghost use Rattle.effects.specs.Progress.{dirtyAfter, progressed};
+ghost use Rattle.board.specs.Board.{shaped};
 ghost use Rattle.board.specs.State.{started, placed, opened, requesting, afterRelease, releasedWorkers, released, conditioned, dirtied, locked};
 use board::Condition;
 use board::Phase;
@@ -11,7 +12,7 @@ use board::Worker;
 
 // "Each of the two starts sets every field."
 pub fn started(phase: Phase, lines: u16, workers: u8) -> State
-    ensures { λ r. ⌜ r ≡ started phase lines workers ⌝ }
+    ensures { λ r. ⌜ r ≡ started phase (shaped lines) workers ⌝ }
 {
     let worker = [Worker {
         condition: Condition::Free,

@@ -1,7 +1,7 @@
 // A recovery's start and its steps.
 ghost use mathlib.Core.Path.{_≡_};
 ghost use Prim.Native.Nat.{_≤_};
-ghost use Rattle.board.specs.Board.{linesOf, workersOf};
+ghost use Rattle.board.specs.Board.{shapeIn, workersOf};
 ghost use Rattle.board.specs.State.{started};
 ghost use Rattle.board.specs.Effects.{pastStop, recoveryStep};
 ghost use Rattle.board.specs.Next.{lent};
@@ -23,7 +23,7 @@ use line::Field;
 pub fn restart(memory: &[u64], cache: &mut [u64]) -> State
     requires { ⌜ Restarts (now memory) (now cache) ⌝ }
     ensures { λ r. ⌜
-        (r ≡ started Recovering (linesOf (now (memory .entry))) (workersOf (now (memory .entry))))
+        (r ≡ started Recovering (shapeIn (now (memory .entry))) (workersOf (now (memory .entry))))
         × (now (cache .exit) ≡ now (memory .entry)) ⌝ }
 {
     line::copy(cache, memory);

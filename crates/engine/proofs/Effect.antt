@@ -10,7 +10,7 @@ use Rattle.board.specs.declared.Phase.the-variants.{Formatting, Recovering}
 use Rattle.board.specs.declared.Condition.{Condition}
 use Rattle.board.specs.declared.Condition.the-variants.{Free, Away}
 use Rattle.board.specs.declared.Call.{Call}
-use Rattle.board.specs.Board.{Board, linesOf, workersOf}
+use Rattle.board.specs.Board.{Board, shaped, shapeIn, workersOf}
 use Rattle.board.specs.State.{conditionOf, started, requesting, conditioned, locked}
 use Rattle.board.specs.Effects.{noted, advanceOf, step, effect}
 use Rattle.board.specs.Next.{lent}
@@ -31,11 +31,11 @@ in-condition w s m c p e = e ∙ ap (λ (x : Condition). advanceOf x w s (lent s
 -- ---- the other calls
 
 module _ (s : State) (m c : List ℕ) where
-  pub starts-format : {s′ : State} (l w : ℕ) → s′ ≡ started Formatting l w → lent s′ m c ≡ effect (Call.FormatStart l w) (lent s m c)
+  pub starts-format : {s′ : State} (l w : ℕ) → s′ ≡ started Formatting (shaped l) w → lent s′ m c ≡ effect (Call.FormatStart l w) (lent s m c)
   unfolding effect
   starts-format l w p = same-board p refl refl
 
-  pub starts-recovery : {s′ : State} {c′ : List ℕ} → s′ ≡ started Recovering (linesOf m) (workersOf m) → c′ ≡ m → lent s′ m c′ ≡ effect Call.RecoveryStart (lent s m c)
+  pub starts-recovery : {s′ : State} {c′ : List ℕ} → s′ ≡ started Recovering (shapeIn m) (workersOf m) → c′ ≡ m → lent s′ m c′ ≡ effect Call.RecoveryStart (lent s m c)
   unfolding effect
   starts-recovery p q = same-board p refl q
 

@@ -1,6 +1,6 @@
 -- What a taken call has passed: from no cause to the bounds that its effect asks for.
 use Prim.Native.Nat.{ℕ, _+_, _≤_, _<_}
-use mathlib.Core.Path.{_≡_, ap, subst}
+use mathlib.Core.Path.{_≡_, ap, subst, _∙_}
 use mathlib.Core.Bool.{true, false, not, _&&_, _||_}
 use native.Mathlib.Omega.{arith}
 use lib.Dec.{leb, ltb, eqb}
@@ -16,11 +16,13 @@ use Rattle.board.specs.declared.Store.{Store}
 use Rattle.board.specs.declared.Condition.{Condition}
 use Rattle.board.specs.declared.Condition.the-variants.{Updating}
 use Rattle.board.specs.declared.Call.{Call}
-use Rattle.board.specs.Board.{Board, cells, rowWords, linesOutside, workersOutside, epochOf, lastEpoch}
+use Rattle.board.specs.Board.{Board, shaped, shapeOf, cells, rowWords, epochOf, lastEpoch}
+use Rattle.board.specs.Checkpoint.{acts, storesEpoch}
+use Rattle.board.proofs.Checkpoint.Acts.{epoch-next}
 use Rattle.board.specs.State.{conditionOf, isRunning, quiescent, updates, anyWorker, dirtyCount}
 use Rattle.board.specs.Causes.{causes, badRecord, badRows, placePast, noWorker, checkpointing, epochSpent}
 use Rattle.predicate.proofs.Bools.{or-left, or-right, and-both, and-not, not-off}
-use Rattle.board.proofs.Laws.Taken.{standsAt, passed, lines-in, workers-in, record-within, record-cells}
+use Rattle.board.proofs.Laws.Taken.{standsAt, passed, limits-in, record-within, record-cells}
 use Rattle.causes.proofs.Memory.{whole}
 use Rattle.effects.specs.Ready.{Rows, Restarts, Formats, Recovers, Checkpoints, Stores}
 use Rattle.board.specs.Next.{Taken}
@@ -31,16 +33,16 @@ use Rattle.board.specs.Next.{Taken}
 pub record Sound (s : State) : Type 0 where
   pub lines : s .lines ≤ 511
   pub workers : s .workers ≤ 8
-  pub restart : s .workers < cells (s .lines)
+  pub restart : s .workers < cells (shapeOf s)
   pub dirty : strays (s .dirty) (s .lines) ≡ false
   pub place : placePast (s .phase) s ≡ false
-  pub update : (w : ℕ) → w < s .workers → updates (leb (cells (s .lines))) (conditionOf s w) ≡ false
+  pub update : (w : ℕ) → w < s .workers → updates (leb (cells (shapeOf s))) (conditionOf s w) ≡ false
 
 pub sound : (s : State) → badRecord s ≡ false → Sound s
 sound s e =
     let known = record-within s e in
-    let w = workers-in (s .lines) (s .workers) (known .1) in
-    record { lines = lines-in (s .lines) (known .0) .1; workers = w .1; restart = w .2; dirty = known .3; place = known .2; update = record-cells s e }
+    let limits = limits-in (shapeOf s) (s .workers) (known .limits) in
+    record { lines = limits .lines; workers = limits .eight; restart = limits .fewer; dirty = known .bits; place = known .place; update = record-cells s e }
 
 -- Rows that pass.
 pub record Long (l : ℕ) (b : Board) : Type 0 where
@@ -62,8 +64,8 @@ long l b e =
 pub format-limits : (l w : ℕ) (b : Board) → Taken (Call.FormatStart l w) b → (l ≤ 511) × (w ≤ 8)
 unfolding standsAt causes
 format-limits l w b t =
-    let e = passed (Call.FormatStart l w) b t 1 in
-    (lines-in l (or-left (linesOutside l) (workersOutside l w) e) .1, workers-in l w (or-right (linesOutside l) (workersOutside l w) e) .1)
+    let limits = limits-in (shaped l) w (passed (Call.FormatStart l w) b t 1) in
+    (limits .lines, limits .eight)
 
 -- A taken recovery has two rows of one length and a header within the limits.
 pub recovery-restarts : (b : Board) → Taken Call.RecoveryStart b → Restarts (b .memory) (b .cache)
@@ -107,15 +109,16 @@ module _ (b : Board) (t : Taken Call.Step b) where
       let n = dirtyCount s in
       record {
         rows = step-rows;
+        request = asked;
         lines = step-sound .dirty;
         place = ltb-false (n + 2) (s .place) (and-not (s .requested) (ltb (n + 2) (s .place)) (place-at e) asked);
-        epoch = λ h. eqb-false (epochOf (b .cache)) lastEpoch (and-not (checkpointing s && eqb (s .place) n) (epochSpent b) (passed Call.Step b t 11) (and-both (checkpointing s) (eqb (s .place) n) on (eq-eqb (s .place) n h)));
+        epoch = λ h. eqb-false (epochOf (b .cache)) lastEpoch (and-not (checkpointing s && storesEpoch (acts b)) (epochSpent b) (passed Call.Step b t 11) (and-both (checkpointing s) (storesEpoch (acts b)) on (epoch-next b asked ∙ eq-eqb (s .place) n h)));
       }
 
 -- ---- updates, restart points, advances
 
 -- A worker under W and a cell under 2L can be stored by.
-stores-of : (b : Board) (w c : ℕ) → Sound (b .state) → Long (b .state .lines) b → w < b .state .workers → c < cells (b .state .lines) → Stores (b .cache) w c × (c < 1022)
+stores-of : (b : Board) (w c : ℕ) → Sound (b .state) → Long (b .state .lines) b → w < b .state .workers → c < cells (shapeOf (b .state)) → Stores (b .cache) w c × (c < 1022)
 stores-of b w c s l p q = (record { byWorker = omega arith; ofCell = omega arith; ofBit = omega arith }, omega arith)
 
 pub update-stores : (w c v : ℕ) (b : Board) → Taken (Call.Update w c v) b → Stores (b .cache) w c × (c < 1022)
@@ -124,7 +127,7 @@ update-stores w c v b t =
     let k = Call.Update w c v in
     stores-of b w c (sound (b .state) (passed k b t 3)) (long (b .state .lines) b (passed k b t 4))
     (leb-false (b .state .workers) w (passed k b t 6))
-    (leb-false (cells (b .state .lines)) c (or-right (ltb c (b .state .workers)) (leb (cells (b .state .lines)) c) (passed k b t 7)))
+    (leb-false (cells (shapeOf (b .state))) c (or-right (ltb c (b .state .workers)) (leb (cells (shapeOf (b .state))) c) (passed k b t 7)))
 
 pub restart-stores : (w v : ℕ) (b : Board) → Taken (Call.RestartPoint w v) b → Stores (b .cache) w w × (w < 1022)
 unfolding standsAt causes
@@ -141,7 +144,7 @@ advance-stores {c} w b t e =
     let k = Call.Advance w in
     let known = sound s (passed k b t 3) in
     let under = leb-false (s .workers) w (passed k b t 6) in
-    let in-range = leb-false (cells (s .lines)) c (subst (λ (x : Condition). updates (leb (cells (s .lines))) x ≡ false) e (known .update w under)) in
+    let in-range = leb-false (cells (shapeOf s)) c (subst (λ (x : Condition). updates (leb (cells (shapeOf s))) x ≡ false) e (known .update w under)) in
     stores-of b w c known (long (s .lines) b (passed k b t 4)) under in-range .0
 
 -- ---- going away and coming back
@@ -186,4 +189,4 @@ pub cell-in-cache : (c : ℕ) (b : Board) → Taken (Call.Read c) b → lineStar
 unfolding standsAt causes
 cell-in-cache c b t =
     let k = Call.Read c in
-    omega (arith, long (b .state .lines) b (passed k b t 4), leb-false (cells (b .state .lines)) c (passed k b t 7))
+    omega (arith, long (b .state .lines) b (passed k b t 4), leb-false (cells (shapeOf (b .state))) c (passed k b t 7))

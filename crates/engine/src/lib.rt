@@ -7,6 +7,7 @@ mod steps;
 ghost use mathlib.Core.Path.{_≡_};
 ghost use Rattle.board.specs.declared.Call.{Call};
 ghost use Rattle.board.specs.declared.Phase.{Phase};
+ghost use Rattle.board.specs.Board.{shaped};
 ghost use Rattle.board.specs.State.{started};
 ghost use Rattle.board.specs.Next.{lent, Performed};
 use advances::taken_advance;
@@ -55,7 +56,7 @@ pub struct Reading {
 
 // The record that a host begins with: off, all else 0, all eight workers free.
 pub fn off() -> State
-    ensures { λ r. ⌜ r ≡ started Phase.Off 0 0 ⌝ }
+    ensures { λ r. ⌜ r ≡ started Phase.Off (shaped 0) 0 ⌝ }
 {
     started(Phase::Off, 0, 0)
 }

@@ -14,7 +14,7 @@ use Rattle.text.proofs.Numbers.{number-width, word-width}
 use Rattle.text.proofs.Writing.{aligned-size, in-column}
 use Rattle.line.specs.declared.Field.{Field}
 use Rattle.line.specs.Cell.{fieldIndex, fieldOf}
-use Rattle.board.specs.Board.{cells}
+use Rattle.board.specs.Board.{shaped, cells}
 use Rattle.board.specs.Page.{fieldText, lineText, headingText, cellText, cellOrder, pageText, lineBytes}
 use Rattle.page.specs.Statements.{Words, Lines}
 use Rattle.page.proofs.Ordering.{order-length, cell-below}
@@ -119,10 +119,10 @@ module _ (size : ℕ) (f : ℕ → List ℕ) where
       ∙ text-at l i (rest-uniform a l u) (omega arith)
 
 -- The lines of a page.
-pub page-lines : (cache : List ℕ) → Words cache → (l : ℕ) → l ≤ 511 → Lines cache (cells l)
+pub page-lines : (cache : List ℕ) → Words cache → (l : ℕ) → l ≤ 511 → Lines cache (cells (shaped l))
 unfolding pageText
 page-lines cache words l h =
-    let n = cells l in
+    let n = cells (shaped l) in
     let order = cellOrder cache n in
     let text = flatten (map (cellText cache) order) in
     let sized : (i : ℕ) → i < n → length (cellText cache (getD order i 0)) ≡ lineBytes =

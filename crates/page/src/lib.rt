@@ -7,7 +7,7 @@ ghost use mathlib.Core.Path.{_≡_};
 ghost use lib.ListN.{length, replicate};
 ghost use Prim.Native.Nat.{_+_, _*_, _≤_};
 ghost use Rattle.text.specs.Writing.{put};
-ghost use Rattle.board.specs.Board.{cells, rowWords};
+ghost use Rattle.board.specs.Board.{shaped, cells, rowWords};
 ghost use Rattle.board.specs.Next.{lent};
 ghost use Rattle.board.specs.Page.{pageText, pageBytes, PagePerformed};
 ghost use Rattle.page.specs.Cells.{HeldUnder};
@@ -29,8 +29,8 @@ fn put_ordered(cache: &[u64], cells: &mut [u16], spare: &mut [u16], text: &mut [
 
 // The page of a board with L lines, written at the front of the text row.
 fn put_page(cache: &[u64], lines: u16, text: &mut [u8])
-    requires { ⌜ (lines ≤ 511) × (length (now cache) ≡ rowWords lines) × (pageBytes lines ≤ length (now text)) ⌝ }
-    ensures { λ _. ⌜ now (text .exit) ≡ put (now (text .entry)) 0 (pageText (now (cache .entry)) (cells lines)) ⌝ }
+    requires { ⌜ (lines ≤ 511) × (length (now cache) ≡ rowWords lines) × (pageBytes (shaped lines) ≤ length (now text)) ⌝ }
+    ensures { λ _. ⌜ now (text .exit) ≡ put (now (text .entry)) 0 (pageText (now (cache .entry)) (cells (shaped lines))) ⌝ }
 {
     let mut cells = [0u16; 1022];
     let mut spare = [0u16; 1022];

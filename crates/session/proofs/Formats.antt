@@ -10,13 +10,13 @@ use lib.Seq.{length-take-le}
 use Rattle.board.specs.declared.State.{State}
 use Rattle.board.specs.declared.Call.{Call}
 use Rattle.board.specs.declared.Call.the-variants.{FormatStart, Step}
-use Rattle.board.specs.Board.{Board, rowWords, linesOutside, workersOutside, outside}
+use Rattle.board.specs.Board.{Board, shaped, rowWords, outside}
 use Rattle.board.specs.Causes.{causes, cause, firstStanding}
 use Rattle.board.specs.Next.{lent, Taken, Outcome, outcome}
 use Rattle.board.specs.Statements.{stepsFrom}
-use Rattle.board.proofs.Invariant.{Sizes}
-use Rattle.predicate.proofs.Bools.{chosen, passedOver, or-left}
-use Rattle.board.proofs.Laws.Taken.{Clear, take as taken-if, lines-in, rows-fine}
+use Rattle.board.proofs.Invariant.{Lengths}
+use Rattle.predicate.proofs.Bools.{chosen, passedOver}
+use Rattle.board.proofs.Laws.Taken.{Clear, take as taken-if, limits-in, rows-fine}
 use Rattle.script.specs.declared.Line.the-variants as line
 use Rattle.script.specs.declared.Shown.the-variants.{Nothing, Number}
 use Rattle.session.specs.Lines.{repeated, done, rowsFor, formatted, carriedOut}
@@ -40,31 +40,32 @@ repeated-steps zero o = refl
 repeated-steps (suc n) o = repeated-steps n (outcome Step (o .board))
 
 -- Limits that hold bound L.
-pub lines-within : (l w : ℕ) → outside l w ≡ false → l ≤ 511
-lines-within l w o = lines-in l (or-left (linesOutside l) (workersOutside l w) o) .1
+pub lines-within : (l w : ℕ) → outside (shaped l) w ≡ false → l ≤ 511
+lines-within l w o = limits-in (shaped l) w o .lines
 
 -- The answer 1 of a format whose limits fail is its start's own.
-pub refused-by-limits : (l w : ℕ) (b : Board) → outside l w ≡ true → cause (FormatStart l w) b ≡ 1
+pub refused-by-limits : (l w : ℕ) (b : Board) → outside (shaped l) w ≡ true → cause (FormatStart l w) b ≡ 1
 unfolding cause causes firstStanding
-refused-by-limits l w b t = chosen (outside l w) 1 _ t
+refused-by-limits l w b t = chosen (outside (shaped l) w) 1 _ t
 
 -- The answer 0 of a format whose limits hold is its start's own.
-pub taken-within-limits : (l w : ℕ) (state : State) → outside l w ≡ false → Taken (FormatStart l w) (rowsFor l state)
+pub taken-within-limits : (l w : ℕ) (state : State) → outside (shaped l) w ≡ false → Taken (FormatStart l w) (rowsFor l state)
 unfolding Clear causes
 taken-within-limits l w state o =
-    let sizes : Sizes l (rowsFor l state) = record {
-      limits = or-left (linesOutside l) (workersOutside l w) o;
+    let zeros : List ℕ = replicate (rowWords l) 0 in
+    let lengths : Lengths (shaped l) zeros zeros = record {
+      limits = limits-in (shaped l) w o .shape;
       memory = record { size = length-replicate (rowWords l) 0 };
       cache = record { size = length-replicate (rowWords l) 0 };
     } in
-    taken-if (FormatStart l w) (rowsFor l state) (o, (rows-fine l (rowsFor l state) sizes, tt))
+    taken-if (FormatStart l w) (rowsFor l state) (o, (rows-fine (shaped l) (rowsFor l state) lengths, tt))
 
 -- "A refused F changes nothing."
-pub format-down : (l w : ℕ) (b : Board) → outside l w ≡ true → done b (Number 1) Nothing ≡ carriedOut (line.Format l w) b
-format-down l w b o = sym (chosen (outside l w) _ _ o)
+pub format-down : (l w : ℕ) (b : Board) → outside (shaped l) w ≡ true → done b (Number 1) Nothing ≡ carriedOut (line.Format l w) b
+format-down l w b o = sym (chosen (outside (shaped l) w) _ _ o)
 
 -- A taken format leaves its last step's board, and rows of its size.
-pub format-up : (l w i : ℕ) (state after : State) (b : Board) (m c m′ c′ : List ℕ) → i ≡ rowWords l → outside l w ≡ false → b .state ≡ state → i ≤ length m → i ≤ length c → length m′ ≡ length (take i m) → length c′ ≡ length (take i c) → lent after m′ c′ ≡ formatted l w (lent state (replicate (length (take i m)) 0) (replicate (length (take i c)) 0)) → done (lent after (take i (m′ ++ drop i m)) (take i (c′ ++ drop i c))) (Number 0) Nothing ≡ carriedOut (line.Format l w) b
+pub format-up : (l w i : ℕ) (state after : State) (b : Board) (m c m′ c′ : List ℕ) → i ≡ rowWords l → outside (shaped l) w ≡ false → b .state ≡ state → i ≤ length m → i ≤ length c → length m′ ≡ length (take i m) → length c′ ≡ length (take i c) → lent after m′ c′ ≡ formatted l w (lent state (replicate (length (take i m)) 0) (replicate (length (take i c)) 0)) → done (lent after (take i (m′ ++ drop i m)) (take i (c′ ++ drop i c))) (Number 0) Nothing ≡ carriedOut (line.Format l w) b
 format-up l w i state after b m c m′ c′ words o same im jc hm hc did =
     let sm = length-take-le i m im ∙ words in
     let sc = length-take-le i c jc ∙ words in
@@ -73,4 +74,4 @@ format-up l w i state after b m c m′ c′ words o same im jc hm hc did =
     ∙ ap (λ (n : ℕ). lent state (replicate (rowWords l) 0) (replicate n 0)) sc
     ∙ ap (rowsFor l) (sym same) in
     ap (λ (x : Board). done x (Number 0) Nothing) (board-back i i m c m′ c′ im jc hm hc after ∙ did ∙ ap (formatted l w) zeros)
-    ∙ sym (passedOver (outside l w) _ _ o)
+    ∙ sym (passedOver (outside (shaped l) w) _ _ o)

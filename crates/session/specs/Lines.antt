@@ -9,7 +9,7 @@ use Rattle.board.specs.declared.State.{State}
 use Rattle.board.specs.declared.Phase.the-variants.{Off}
 use Rattle.board.specs.declared.Call.{Call}
 use Rattle.board.specs.declared.Call.the-variants.{FormatStart}
-use Rattle.board.specs.Board.{Board, rowWords, outside}
+use Rattle.board.specs.Board.{Board, shaped, rowWords, outside}
 use Rattle.board.specs.Causes.{cause}
 use Rattle.board.specs.Next.{lent, next, valueOf}
 use Rattle.board.specs.Next as board
@@ -64,7 +64,7 @@ paged room b = done b (Number (pageCause b (textRow room))) (Number (checksumOf 
 -- What a line does. A format is turned down by its limits alone, and then changes nothing. "A G turned down prints value 0", and so does an `n`.
 abbrev pub carriedOut : Line → Board → Done
 carriedOut (line.Format l w) b =
-    cond (outside l w) (done b (Number 1) Nothing) (done (formatted l w (rowsFor l (b .state))) (Number 0) Nothing)
+    cond (outside (shaped l) w) (done b (Number 1) Nothing) (done (formatted l w (rowsFor l (b .state))) (Number 0) Nothing)
 carriedOut (line.Make call) b = done (next call b) (Number (cause call b)) Nothing
 carriedOut (line.Show call) b = done (next call b) (Number (cause call b)) (Number (valueOf call b))
 carriedOut line.Cut b = done (cutOff b) (Number 0) Nothing

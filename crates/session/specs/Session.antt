@@ -4,6 +4,7 @@ use mathlib.Core.List.{List, []}
 use lib.ListN.{length, take}
 use Rattle.board.specs.declared.Phase.the-variants.{Off}
 use Rattle.board.specs.Board.{Board, rowWords}
+use Rattle.board.specs.Board.{shaped}
 use Rattle.board.specs.State.{started}
 use Rattle.board.specs.Next.{lent}
 use Rattle.session.specs.declared.Session.{Session}
@@ -14,7 +15,7 @@ boardOf s memory cache = lent (s .state) (take (s .memory) memory) (take (s .cac
 
 -- "before one they are empty and the phase is off"; every other field is 0, no lock is held, all workers are free.
 abbrev pub firstBoard : Board
-firstBoard = lent (started Off 0 0) [] []
+firstBoard = lent (started Off (shaped 0) 0) [] []
 
 -- ---- what only requirements cite
 

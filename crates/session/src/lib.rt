@@ -2,6 +2,7 @@
 ghost use mathlib.Core.Path.{_≡_};
 ghost use Prim.Native.Nat.{_≤_};
 ghost use lib.ListN.{length, replicate};
+ghost use Rattle.board.specs.Board.{shaped};
 ghost use Rattle.board.specs.State.{started};
 ghost use Rattle.board.specs.Next.{lent};
 ghost use Rattle.board.specs.Page.{PagePerformed};
@@ -34,7 +35,7 @@ pub struct Answered {
 
 // "before one they are empty and the phase is off".
 pub fn new() -> Session
-    ensures { λ r. ⌜ (r .state ≡ started Phase.Off 0 0) × (r .memory ≡ 0) × (r .cache ≡ 0) ⌝ }
+    ensures { λ r. ⌜ (r .state ≡ started Phase.Off (shaped 0) 0) × (r .memory ≡ 0) × (r .cache ≡ 0) ⌝ }
 {
     Session {
         state: engine::off(),

@@ -5,10 +5,10 @@ use mathlib.Core.Logic.{_⊎_, inl, inr, ⊎-elim}
 use mathlib.Core.List.{List, [], _∷_, _++_, map, List·Memᴰ, List·Memᴰ·head, List·Memᴰ·tail, List·Memᴰ·cases-cons, List·Memᴰ·eq-of-singleton}
 use mathlib.Core.Bool.{Bool, true, false, cond, not, _&&_, _||_, true≢false}
 use native.Mathlib.Omega.{arith}
-use native.Mathlib.Decide.{decLt}
+use native.Mathlib.Decide.{decLt, ℕ-discrete}
 use lib.Dec.{ltb, eqb}
 use lib.ListN.{length, getD, drop, length-map, length-append, length-drop, List·getD-append}
-use lib.Seq.{drop-cons, drop-drop, drop-append-add}
+use lib.Seq.{getD-append-add, drop-cons, drop-drop, drop-append-add}
 use borrow.Author.Tests.{ltb-false, lt-ltb, eq-eqb, ne-eqb}
 use Rattle.predicate.specs.Passing.{countUnder, numbersUnder}
 use Rattle.predicate.proofs.Bools.{chosen, passedOver, or-left, or-right, and-not, and-off-right, not-off, not-on}
@@ -21,7 +21,7 @@ use Rattle.board.specs.declared.Phase.the-variants.{Running}
 use Rattle.board.specs.declared.Call.the-variants.{Step}
 use Rattle.board.specs.Board.{Board}
 use Rattle.board.specs.State.{conditionOf, quiescent, anyWorker, isRunning, placed, dirtyCount}
-use Rattle.board.specs.Checkpoint.{Act, writeLine, storeEpoch, writeHeader, release, planned, progress, acts}
+use Rattle.board.specs.Checkpoint.{Act, writeLine, storeEpoch, writeHeader, release, planned, progress, acts, storesEpoch}
 use Rattle.board.specs.Causes.{causes, placePast}
 use Rattle.board.specs.Effects.{performAct, performFirst, step, effect}
 use Rattle.board.specs.Machine.{Machine, markedCount, counted, completed, dropped, checkpointStep, stepped, beginning, finishesFormat, feed}
@@ -222,3 +222,63 @@ step-ready b e t =
           (lt-ltb w (s .workers) h));
       left = remains b (omega (arith, acts-length b, chosen (s .requested) (s .place) 0 on));
     }
+
+-- ---- the next act, by the place of a requested checkpoint
+
+-- Behind the dirty lines the last three acts stand.
+planned-end : (b : Board) (k p : ℕ) → p ≡ dirtyCount (b .state) + k → getD (planned b) p release ≡ getD lastActs k release
+planned-end b k p e =
+    ap (λ (i : ℕ). getD (planned b) i release) (let q : p ≡ length (lineActs b) + k = omega (arith, line-acts-length b) in q)
+    ∙ getD-append-add (lineActs b) lastActs k release
+
+module _ (b : Board) (on : b .state .requested ≡ true) where
+  -- What is left begins with the act that stands at the place.
+  acts-here : b .state .place ≤ dirtyCount (b .state) + 2 → acts b ≡ getD (planned b) (b .state .place) release ∷ drop (suc (b .state .place)) (planned b)
+  unfolding acts
+  acts-here h =
+      ap (λ (p : ℕ). drop p (planned b)) (chosen (b .state .requested) (b .state .place) 0 on)
+      ∙ drop-cons (planned b) (b .state .place) release (omega (arith, planned-length b))
+
+  -- So a step performs it.
+  first-here : {a : Act} → b .state .place ≤ dirtyCount (b .state) + 2 → getD (planned b) (b .state .place) release ≡ a → performFirst (acts b) (b .state) b ≡ performAct a (b .state) b
+  unfolding performFirst
+  first-here h e = ap (λ (xs : List Act). performFirst xs (b .state) b) (acts-here h) ∙ ap (λ (a : Act). performAct a (b .state) b) e
+
+  -- Before the epoch's store a dirty line is written back.
+  pub first-line : b .state .place < dirtyCount (b .state) → performFirst (acts b) (b .state) b ≡ performAct (writeLine (nth (b .state .dirty) (b .state .place))) (b .state) b
+  first-line h = first-here (omega arith) (planned-line b (b .state .place) h)
+
+  -- Behind the dirty lines the epoch is stored.
+  pub first-epoch : b .state .place ≡ dirtyCount (b .state) → performFirst (acts b) (b .state) b ≡ performAct storeEpoch (b .state) b
+  first-epoch e = first-here (omega arith) (planned-end b 0 (b .state .place) (omega arith))
+
+  -- Then line 0 is written back.
+  pub first-header : b .state .place ≡ dirtyCount (b .state) + 1 → performFirst (acts b) (b .state) b ≡ performAct writeHeader (b .state) b
+  first-header e = first-here (omega arith) (planned-end b 1 (b .state .place) e)
+
+  -- Then the workers are released.
+  pub first-release : b .state .place ≡ dirtyCount (b .state) + 2 → performFirst (acts b) (b .state) b ≡ performAct release (b .state) b
+  first-release e = first-here (omega arith) (planned-end b 2 (b .state .place) e)
+
+  -- The epoch's store comes next at the place behind the dirty lines alone.
+  pub epoch-next : storesEpoch (acts b) ≡ eqb (b .state .place) (dirtyCount (b .state))
+  unfolding storesEpoch
+  epoch-next =
+      elim (ℕ-discrete (length (acts b)) 0) [
+        | yes z ↦ nothing-left (acts b) z ∙ sym (ne-eqb (b .state .place) (dirtyCount (b .state)) (λ e. omega (arith, left-here)))
+        | no o ↦ by (remains b (omega arith)) left-here
+      ]
+    where
+      -- as many are left as places from here to the release
+      left-here : length (acts b) ≡ dirtyCount (b .state) + 3 - b .state .place
+      left-here = acts-length b ∙ ap (λ (p : ℕ). dirtyCount (b .state) + 3 - p) (chosen (b .state .requested) (b .state .place) 0 on)
+
+      nothing-left : (xs : List Act) → length xs ≡ 0 → storesEpoch xs ≡ false
+      nothing-left [] e = refl
+      nothing-left (a ∷ later) e = absurd (omega (arith, e))
+
+      by : {xs : List Act} → Remains b xs → length xs ≡ dirtyCount (b .state) + 3 - b .state .place → storesEpoch xs ≡ eqb (b .state .place) (dirtyCount (b .state))
+      by (lineNext later low three) e = sym (ne-eqb (b .state .place) (dirtyCount (b .state)) (λ q. omega (arith, e)))
+      by epochNext e = sym (eq-eqb (b .state .place) (dirtyCount (b .state)) (omega (arith, e)))
+      by headerNext e = sym (ne-eqb (b .state .place) (dirtyCount (b .state)) (λ q. omega (arith, e)))
+      by releaseNext e = sym (ne-eqb (b .state .place) (dirtyCount (b .state)) (λ q. omega (arith, e)))

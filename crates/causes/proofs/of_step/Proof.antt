@@ -8,10 +8,11 @@ use Rattle.causes.proofs.of_step.Tie as tie
 returns : tie.Need-returns
 unfolding cause causes firstStanding
 returns c =
+    let given = c .before .before .before .before .before .before .before .before .args in
     rw (
       c .first .ensures,
-      c .before .stores-spent-epoch .ensures [],
-      c .before .before .bad-rows .ensures (c .before .before .before .before .before .before .before .before .args .state),
+      c .before .stores-spent-epoch .ensures (given .memory .now),
+      c .before .before .bad-rows .ensures (given .state),
       c .before .before .before .bad-step-record .ensures,
       c .before .before .before .before .not-on .ensures [] [],
       c .before .before .before .before .before .not-ready .ensures,

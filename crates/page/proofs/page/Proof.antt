@@ -8,7 +8,7 @@ use borrow.Author.Needs.{needs}
 use borrow.Author.Tests.{ltb-false, eq-eqb, ne-eqb}
 use Rattle.text.specs.Writing.{put}
 use Rattle.predicate.proofs.Bools.{chosen, passedOver}
-use Rattle.board.specs.Board.{Board, cells, rowWords}
+use Rattle.board.specs.Board.{Board, shapeOf, cells, rowWords}
 use Rattle.board.specs.Next.{lent}
 use Rattle.board.specs.Page.{pageText, pageBytes, pageCauses, pageCause, pageLeft, PagePerformed}
 use Rattle.board.proofs.Laws.Taken.{numbered, Clear, first-clear}
@@ -20,7 +20,7 @@ use Rattle.page.proofs.page.Tie as tie
 pub record Passed (b : Board) (text : List ℕ) : Type 0 where
   pub lines : b .state .lines ≤ 511
   pub cache : length (b .cache) ≡ rowWords (b .state .lines)
-  pub room : pageBytes (b .state .lines) ≤ length text
+  pub room : pageBytes (shapeOf (b .state)) ≤ length text
 
 passed : (b : Board) (text : List ℕ) → pageCause b text ≡ 0 → Passed b text
 unfolding pageCause pageCauses numbered Clear
@@ -29,21 +29,21 @@ passed b text e =
     record {
       lines = sound (b .state) (clear .1 .0) .lines;
       cache = long (b .state .lines) b (clear .1 .1 .0) .cache;
-      room = ltb-false (length text) (pageBytes (b .state .lines)) (clear .1 .1 .1 .0);
+      room = ltb-false (length text) (pageBytes (shapeOf (b .state))) (clear .1 .1 .1 .0);
     }
 
 -- A page that is taken and written.
-page-taken : (b : Board) (text left : List ℕ) (number : ℕ) → number ≡ pageCause b text → number ≡ 0 → left ≡ put text 0 (pageText (b .cache) (cells (b .state .lines))) → PagePerformed b text number b left
+page-taken : (b : Board) (text left : List ℕ) (number : ℕ) → number ≡ pageCause b text → number ≡ 0 → left ≡ put text 0 (pageText (b .cache) (cells (shapeOf (b .state)))) → PagePerformed b text number b left
 unfolding pageLeft
 page-taken b text left number e z w =
-    let same : left ≡ pageLeft b text = w ∙ sym (chosen (eqb (pageCause b text) 0) (put text 0 (pageText (b .cache) (cells (b .state .lines)))) text (eq-eqb (pageCause b text) 0 (sym e ∙ z))) in
+    let same : left ≡ pageLeft b text = w ∙ sym (chosen (eqb (pageCause b text) 0) (put text 0 (pageText (b .cache) (cells (shapeOf (b .state))))) text (eq-eqb (pageCause b text) 0 (sym e ∙ z))) in
     λ i. record { number = e i; board = b; text = same i }
 
 -- A page that is refused.
 page-refused : (b : Board) (text : List ℕ) (number : ℕ) → number ≡ pageCause b text → (number ≡ 0 → ⊥) → PagePerformed b text number b text
 unfolding pageLeft
 page-refused b text number e z =
-    let same : text ≡ pageLeft b text = sym (passedOver (eqb (pageCause b text) 0) (put text 0 (pageText (b .cache) (cells (b .state .lines)))) text (ne-eqb (pageCause b text) 0 (λ q. z (e ∙ q)))) in
+    let same : text ≡ pageLeft b text = sym (passedOver (eqb (pageCause b text) 0) (put text 0 (pageText (b .cache) (cells (shapeOf (b .state))))) text (ne-eqb (pageCause b text) 0 (λ q. z (e ∙ q)))) in
     λ i. record { number = e i; board = b; text = same i }
 
 -- The board that a page is lent.

@@ -7,14 +7,14 @@ use lib.ListN.{length}
 use lib.Seq.{length-take-le}
 use borrow.Author.Needs.{needs}
 use Rattle.text.specs.Writing.{put}
-use Rattle.board.specs.Board.{cells, rowWords}
+use Rattle.board.specs.Board.{shaped, cells, rowWords}
 use Rattle.board.specs.Page.{pageText}
 use Rattle.page.specs.Cells.{HeldUnder}
 use Rattle.page.proofs.put_page.Statement.{statement}
 use Rattle.page.proofs.put_page.Tie as tie
 
 -- A board's cache holds its cells.
-all-held : (cache : List ℕ) (l : ℕ) → l ≤ 511 → length cache ≡ rowWords l → HeldUnder cache (cells l)
+all-held : (cache : List ℕ) (l : ℕ) → l ≤ 511 → length cache ≡ rowWords l → HeldUnder cache (cells (shaped l))
 all-held cache l h e c g = record { short = omega arith; inside = omega arith }
 
 -- The board's cells fit the array.

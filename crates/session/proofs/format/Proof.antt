@@ -4,7 +4,7 @@ use mathlib.Core.Path.{_≡_, refl, sym, _∙_}
 use mathlib.Core.Bool.{false}
 use native.Mathlib.Omega.{arith}
 use borrow.Author.Needs.{needs}
-use Rattle.board.specs.Board.{outside}
+use Rattle.board.specs.Board.{shaped, outside}
 use Rattle.session.specs.Session.{boardOf}
 use Rattle.session.proofs.Rows.{part-size}
 use Rattle.session.proofs.Formats.{lines-within, format-down, format-up}
@@ -15,7 +15,7 @@ use Rattle.session.proofs.format.Tie as tie
 abbrev start : tie.After-state → tie.Start
 start c = c .before .before .before .before .before
 
-inside : (c : tie.After-state) → outside (start c .args .lines) (start c .args .workers) ≡ false
+inside : (c : tie.After-state) → outside (shaped (start c .args .lines)) (start c .args .workers) ≡ false
 inside c = sym (c .before .before .outside .ensures) ∙ c .before .if1 .left
 
 bound : (c : tie.After-state) → start c .args .lines ≤ 511

@@ -4,14 +4,14 @@ use mathlib.Core.Path.{_≡_}
 use native.Mathlib.Omega.{arith}
 use lib.ListN.{length}
 use borrow.Author.Needs.{needs}
-use Rattle.board.specs.Board.{cells, rowWords}
-use Rattle.bench.specs.Sizes.{Allowed}
+use Rattle.board.specs.Board.{shaped, cells, rowWords}
+use Rattle.bench.specs.Plans.{Allowed}
 use Rattle.bench.proofs.pages.print.Statement.{statement}
 use Rattle.bench.proofs.pages.print.Tie as tie
 
 abbrev Inv-loop : tie.InvT-loop
 Inv-loop plan rounds state memory cache₀ text₀ drawn₀ sum₀ left₀ cache text drawn sum left =
-    Allowed plan × (length cache ≡ rowWords (plan .lines)) × (drawn .cell < cells (plan .lines)) × (length cache ≡ length cache₀) × (length text ≡ length text₀)
+    Allowed plan × (length cache ≡ rowWords (plan .lines)) × (drawn .cell < cells (shaped (plan .lines))) × (length cache ≡ length cache₀) × (length text ≡ length text₀)
 
 abbrev μ-loop : tie.MeasureT-loop
 μ-loop plan rounds state memory cache₀ text₀ drawn₀ sum₀ left₀ cache text drawn sum left = left

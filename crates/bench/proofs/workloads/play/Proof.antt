@@ -7,14 +7,14 @@ use native.Mathlib.Nat.{mul-le-mul}
 use native.Mathlib.Omega.{arith}
 use lib.ListN.{length}
 use borrow.Author.Needs.{needs}
-use Rattle.board.specs.Board.{cells, rowWords}
-use Rattle.bench.specs.Sizes.{Allowed}
+use Rattle.board.specs.Board.{shaped, cells, rowWords}
+use Rattle.bench.specs.Plans.{Allowed}
 use Rattle.bench.proofs.workloads.play.Statement.{statement}
 use Rattle.bench.proofs.workloads.play.Tie as tie
 
 abbrev Inv-loop : tie.InvT-loop
 Inv-loop round plan rounds from memory₀ cache₀ calls left₀ drawn₀ state₀ sum₀ k₀ memory cache left drawn state sum k =
-    Allowed plan × (length cache ≡ rowWords (plan .lines)) × (drawn .cell < cells (plan .lines)) × (k + left < 2 ^ 64)
+    Allowed plan × (length cache ≡ rowWords (plan .lines)) × (drawn .cell < cells (shaped (plan .lines))) × (k + left < 2 ^ 64)
     × (length memory ≡ length memory₀) × (length cache ≡ length cache₀)
 
 abbrev μ-loop : tie.MeasureT-loop

@@ -2,6 +2,12 @@
 use mathlib.Core.Path.{_≡_, refl, sym, ap₂, _∙_}
 use mathlib.Core.Bool.{Bool, true, false, _&&_, false≢true}
 use borrow.Author.Needs.{needs}
+use Rattle.predicate.proofs.Bools.{and-left, and-right}
+use Rattle.board.specs.declared.State.{State}
+use Rattle.board.specs.State.{isRunning}
+use Rattle.board.specs.Causes.{checkpointing}
+use Rattle.board.specs.Next.{lent}
+use Rattle.board.proofs.Checkpoint.Acts.{epoch-next}
 use Rattle.checks.proofs.rows.stores_spent_epoch.Statement.{statement}
 use Rattle.checks.proofs.rows.stores_spent_epoch.Tie as tie
 
@@ -24,12 +30,20 @@ not-both {a} {c} p b q e f t = go p b q (ap₂ _&&_ (sym e) (sym f) ∙ t)
     go true false q t = refl
     go false b q t = refl
 
+-- Where a checkpoint steps, a request stands.
+stepping : (s : State) → checkpointing s ≡ true → s .requested ≡ true
+stepping s t = and-right (isRunning (s .phase)) (s .requested) t
+
 returns : tie.Need-returns
 returns c m =
     let on = c .before .before in
     let spent = on .before in
     let checked = spent .before in
-    rw (c .size .ensures) (between _ _ _ (checked .checkpointing .ensures) (spent .epoch-spent .ensures (checked .before .before .before .args .state) m) (on .if1 .taken))
+    let given = checked .before .before .before .args in
+    let state = given .state in
+    let steps = checked .checkpointing .ensures in
+    let requested = stepping state (sym steps ∙ and-left _ _ (on .if1 .taken)) in
+    rw (c .size .ensures, ← epoch-next (lent state m (given .cache .now)) requested) (between _ _ _ steps (spent .epoch-spent .ensures state m) (on .if1 .taken))
 
 returns-2 : tie.Need-returns-2
 returns-2 c m =

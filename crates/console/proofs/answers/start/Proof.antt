@@ -6,6 +6,7 @@ use lib.ListN.{take}
 use borrow.Author.Needs.{needs}
 use Rattle.board.specs.declared.State.{State}
 use Rattle.board.specs.declared.Phase.the-variants.{Off}
+use Rattle.board.specs.Board.{shaped}
 use Rattle.board.specs.State.{started}
 use Rattle.board.specs.Next.{lent}
 use Rattle.console.specs.Pieces.{carried}
@@ -18,8 +19,8 @@ returns c =
     let w = c .new .ensures in (
       (λ m c line.
           ap (λ (x : State). carried (lent x (take (s .memory) m) (take (s .cache) c)) 0 []) (w .0)
-          ∙ ap (λ (k : ℕ). carried (lent (started Off 0 0) (take k m) (take (s .cache) c)) 0 []) (w .1)
-          ∙ ap (λ (k : ℕ). carried (lent (started Off 0 0) [] (take k c)) 0 []) (w .2)),
+          ∙ ap (λ (k : ℕ). carried (lent (started Off (shaped 0) 0) (take k m) (take (s .cache) c)) 0 []) (w .1)
+          ∙ ap (λ (k : ℕ). carried (lent (started Off (shaped 0) 0) [] (take k c)) 0 []) (w .2)),
       search needs,
     )
 

@@ -1,6 +1,6 @@
 -- `effects::checkpoint::checkpoint_step` meets its contract: each branch does the act that comes at its place, within the bounds of `Checkpoints`.
 use borrow.Author.Needs.{needs}
-use Rattle.effects.proofs.Ready.{dirty-in, epoch-in, place-in}
+use Rattle.effects.proofs.Ready.{dirty-in, epoch-in, place-fits}
 use Rattle.effects.proofs.Effects.{writes-dirty, stores-epoch, writes-header, releases}
 use Rattle.effects.proofs.checkpoint.checkpoint_step.Statement.{statement}
 use Rattle.effects.proofs.checkpoint.checkpoint_step.Tie as tie
@@ -29,7 +29,7 @@ returns-4 c = search (needs, releases)
 pub checkpoint-step-spec : {M : Type 1} → statement M
 checkpoint-step-spec =
     tie.close
-    (tie.spec (search needs) (search needs) (search needs) write-back-requires (λ c κs. search (needs, place-in))
+    (tie.spec (search needs) (search needs) (search needs) write-back-requires (λ c κs. search (needs, place-fits))
     (search needs) (search needs) returns (search needs) add-store-header-word (search needs)
-    (λ c κs. search (needs, place-in)) (search needs) returns-2 (search needs) (search needs)
-    (λ c κs. search (needs, place-in)) (search needs) (search needs) returns-3 (search needs) returns-4)
+    (λ c κs. search (needs, place-fits)) (search needs) returns-2 (search needs) (search needs)
+    (λ c κs. search (needs, place-fits)) (search needs) (search needs) returns-3 (search needs) returns-4)
