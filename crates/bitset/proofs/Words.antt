@@ -1,5 +1,5 @@
 -- Laws of a set in eight words.
-use Prim.Native.Nat.{ℕ, _+_, _-_, _*_, _/_, _%_, _≤_, _<_}
+use Prim.Native.Nat.{ℕ, zero, suc, _+_, _-_, _*_, _/_, _%_, _≤_, _<_}
 use mathlib.Core.Path.{_≡_, refl, sym, ap, ap₂, _∙_}
 use mathlib.Core.Bool.{Bool, true, false}
 use mathlib.Core.List.{List}
@@ -9,11 +9,11 @@ use native.Mathlib.Nat.{zero-add}
 use lib.Dec.{eqb}
 use lib.ListN.{length, getD, set, length-set, getD-replicate, List·getD-eq-default}
 use lib.Seq.{set-out, getD-set-same, getD-set-other}
-use borrow.Author.Tests.{eqb-true, eqb-false}
+use borrow.Author.Tests.{eqb-true, eqb-false, ne-eqb}
 use Rattle.predicate.proofs.Bools.{split}
 use Rattle.predicate.specs.Passing.{countUnder, nthUnder}
 use Rattle.bitset.specs.Words.{bitOf, withBit, bitsIn, capacity, contains, inserted, empty, size, nth}
-use Rattle.predicate.proofs.Passing.{count-most, count-alike, count-split, nth-found, nth-unique}
+use Rattle.predicate.proofs.Passing.{one-on, one-off, count-most, count-alike, count-split, count-shift, nthShifted, nth-shifted, nth-found, nth-unique}
 use Rattle.bitset.proofs.Bits.{bit-zero, bits-count, with-own, with-other}
 
 -- ---- a number that is put in
@@ -74,9 +74,10 @@ abbrev pub wordCount : List ℕ → ℕ → ℕ
 wordCount words k = countUnder 64 (bitOf (getD words k 0))
 
 -- One word more.
-pub count-word : (words : List ℕ) (k : ℕ) → countUnder (64 * k + 64) (contains words) ≡ countUnder (64 * k) (contains words) + wordCount words k
+pub count-word : (words : List ℕ) (k : ℕ) → countUnder (64 * (k + 1)) (contains words) ≡ countUnder (64 * k) (contains words) + wordCount words k
 count-word words k =
-    count-split (64 * k) 64 (contains words)
+    ap (λ (n : ℕ). countUnder n (contains words)) (let e : 64 * (k + 1) ≡ 64 * k + 64 = omega arith in e)
+    ∙ count-split (64 * k) 64 (contains words)
     ∙ ap (λ (x : ℕ). countUnder (64 * k) (contains words) + x)
     (count-alike 64 (λ b. contains words (64 * k + b)) (bitOf (getD words k 0)) (λ b h. contains-word words k b h))
 
@@ -96,7 +97,7 @@ nth-word words k left p l e h =
       within = omega (arith, found .within);
     })
 
-count-start : (f : ℕ → Bool) → countUnder 0 f ≡ 0
+pub count-start : (f : ℕ → Bool) → countUnder 0 f ≡ 0
 unfolding countUnder
 count-start f = refl
 
@@ -105,7 +106,7 @@ count-start f = refl
 -- They are counted word by word.
 count-words : (words : List ℕ) → countUnder capacity (contains words) ≡ wordCount words 0 + wordCount words 1 + wordCount words 2 + wordCount words 3 + wordCount words 4 + wordCount words 5 + wordCount words 6 + wordCount words 7
 count-words words =
-    let more : (k n : ℕ) → countUnder (64 * k) (contains words) ≡ n → countUnder (64 * k + 64) (contains words) ≡ n + wordCount words k =
+    let more : (k n : ℕ) → countUnder (64 * k) (contains words) ≡ n → countUnder (64 * (k + 1)) (contains words) ≡ n + wordCount words k =
     λ k n e. count-word words k ∙ ap (λ (x : ℕ). x + wordCount words k) e in
     more 7 _ (more 6 _ (more 5 _ (more 4 _ (more 3 _ (more 2 _ (more 1 _ (more 0 0 (count-start (contains words)) ∙ zero-add (wordCount words 0))))))))
 
@@ -124,32 +125,17 @@ size-count words = size-words words ∙ sym (count-words words)
 pub size-room : (words : List ℕ) → size words ≤ capacity
 size-room words = omega (arith, size-count words, count-most capacity (contains words))
 
--- ---- the walk to a number
+-- ---- where there is no p-th number
 
--- The walk to number `p` of the set: it has come to word `k`, which has `count` numbers, and `left` are to be passed over from there.
-pub record Walk (words : List ℕ) (p k left count : ℕ) : Type 0 where
-  pub counted : count ≡ wordCount words k
-  pub passed : countUnder (64 * k) (contains words) + left ≡ p
-  pub within : k < 8
+none-shifted : (n : ℕ) (f : ℕ → Bool) (p : ℕ) → countUnder n f ≤ p → nthShifted n f p ≡ n
+unfolding nthShifted
+none-shifted zero f p h = refl
+none-shifted (suc n) f p h =
+    split (f 0)
+    (λ t. rw (t, ne-eqb p 0 (λ z. omega (arith, count-shift n f, one-on (f 0) t))) (ap suc (none-shifted n (λ i. f (suc i)) (p - 1) (omega (arith, count-shift n f, one-on (f 0) t)))))
+    (λ t. rw t (ap suc (none-shifted n (λ i. f (suc i)) p (omega (arith, count-shift n f, one-off (f 0) t)))))
 
--- A word that is passed over is not the last.
-pub walk-within : (words : List ℕ) (p k left count : ℕ) → p < size words → Walk words p k left count → count ≤ left → k + 1 < 8
-walk-within words p k left count h w l =
-    elim (decLt (k + 1) 8) [
-      | yes b ↦ b
-      | no b ↦
-          let seven : k ≡ 7 = omega (arith, w .within) in
-          let all : countUnder 512 (contains words) ≡ countUnder (64 * k) (contains words) + wordCount words k =
-          ap (λ (n : ℕ). countUnder n (contains words)) (let e : 512 ≡ 64 * k + 64 = omega arith in e) ∙ count-word words k in
-          absurd (omega (arith, w .passed, w .counted, size-count words))
-    ]
-
-pub walk-on : (words : List ℕ) (p k left count next : ℕ) → p < size words → Walk words p k left count → count ≤ left → next ≡ wordCount words (k + 1)
-    → Walk words p (k + 1) (left - count) next
-walk-on words p k left count next h w l e =
-    let over : countUnder (64 * (k + 1)) (contains words) ≡ countUnder (64 * k) (contains words) + wordCount words k =
-    ap (λ (n : ℕ). countUnder n (contains words)) (let e : 64 * (k + 1) ≡ 64 * k + 64 = omega arith in e) ∙ count-word words k in
-    record { counted = e; passed = omega (arith, w .passed, w .counted); within = walk-within words p k left count h w l }
-
-pub walk-start : (words : List ℕ) (p count : ℕ) → count ≡ wordCount words 0 → Walk words p 0 p count
-walk-start words p count e = record { counted = e; passed = omega (arith, count-start (contains words)); within = omega arith }
+-- The search ends behind the last.
+pub nth-none : (words : List ℕ) (p : ℕ) → size words ≤ p → nth words p ≡ capacity
+unfolding nth
+nth-none words p h = nth-shifted capacity (contains words) p ∙ none-shifted capacity (contains words) p (omega (arith, size-count words))

@@ -1,7 +1,7 @@
 // A set of numbers below 512, a bit each, in eight words (document 02, ticket 5: the dirty lines).
 ghost use mathlib.Core.Path.{_≡_};
 ghost use mathlib.Core.List.{[], _∷_};
-ghost use Prim.Native.Nat.{_+_, _-_, _*_, _/_, _^_, _≤_, _<_};
+ghost use Prim.Native.Nat.{ℕ, _+_, _-_, _*_, _/_, _^_, _≤_, _<_};
 ghost use lib.ListN.{getD};
 ghost use lib.Dec.{ltb};
 ghost use Rattle.predicate.specs.Passing.{anyUnder, countUnder, nthUnder};
@@ -15,18 +15,36 @@ fn ones(word: u64) -> u64
     u64::count_ones(word) as u64
 }
 
+// How many numbers a set has, and each of its words.
+struct Counts {
+    size: u64,
+    words: [u64; 8],
+}
+
+// Each word is counted once, and apart from the sum: so the compiler counts them two at a time.
+fn counted(words: [u64; 8]) -> Counts
+    ensures { λ r. ⌜ r .size ≡ size words ⌝ }
+    ensures { λ r. ⌜ ((k : ℕ) → k < 8 → getD (r .words) k 0 ≡ countUnder 64 (bitOf (getD words k 0))) ⌝ }
+{
+    let a = ones(words[0]);
+    let b = ones(words[1]);
+    let c = ones(words[2]);
+    let d = ones(words[3]);
+    let e = ones(words[4]);
+    let f = ones(words[5]);
+    let g = ones(words[6]);
+    let h = ones(words[7]);
+    Counts {
+        size: a + b + c + d + e + f + g + h,
+        words: [a, b, c, d, e, f, g, h],
+    }
+}
+
 // How many numbers the set has.
 pub fn size(words: [u64; 8]) -> u64
     ensures { λ r. ⌜ r ≡ size words ⌝ }
 {
-    ones(words[0])
-        + ones(words[1])
-        + ones(words[2])
-        + ones(words[3])
-        + ones(words[4])
-        + ones(words[5])
-        + ones(words[6])
-        + ones(words[7])
+    counted(words).size
 }
 
 // The p-th set bit of a word, from 0, rising: each round clears the lowest.
@@ -44,20 +62,35 @@ fn nth_bit(word: u64, p: u64) -> u64
     u64::trailing_zeros(rest) as u64
 }
 
-// The p-th number of the set, from 0, rising: the words before its own are passed over by their counts.
-pub fn nth(words: [u64; 8], p: u64) -> u64
-    requires { ⌜ p < size words ⌝ }
-    ensures { λ r. ⌜ r ≡ nth words p ⌝ }
+// How many numbers a set has, and its p-th.
+pub struct Rank {
+    pub size: u64,
+    pub nth: u64,
+}
+
+// The p-th number from 0, rising; 512 where there is none. The words before its own are passed over by their counts, in
+// a loop of fixed length, which the compiler unrolls.
+pub fn ranked(words: [u64; 8], p: u64) -> Rank
+    ensures { λ r. ⌜ (r .size ≡ size words) × (r .nth ≡ nth words p) ⌝ }
 {
+    let all = counted(words);
+    let size = all.size;
+    if size <= p {
+        return Rank { size, nth: 512 };
+    }
+    let counts = all.words;
     let mut k: usize = 0;
     let mut left = p;
-    let mut count = ones(words[0]);
-    while count <= left {
+    while k < 8 {
+        let count = counts[k];
+        if left < count {
+            let nth = 64 * (k as u64) + nth_bit(words[k], left);
+            return Rank { size, nth };
+        }
         left -= count;
         k += 1;
-        count = ones(words[k]);
     }
-    64 * (k as u64) + nth_bit(words[k], left)
+    Rank { size, nth: 512 }
 }
 
 // The word with a bit set.

@@ -20,9 +20,10 @@ pub fn checkpoint_step(state: State, memory: &mut [u64], cache: &mut [u64]) -> P
 {
     let dirty = state.dirty;
     let place = state.place as u64;
-    let n = bitset::size(dirty);
+    let next = bitset::ranked(dirty, place);
+    let n = next.size;
     if place < n {
-        line::write_back(memory, cache, bitset::nth(dirty, place) as usize);
+        line::write_back(memory, cache, next.nth as usize);
         return next_place(state);
     }
     if place == n {

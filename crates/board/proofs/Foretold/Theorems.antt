@@ -25,7 +25,6 @@ use Rattle.board.specs.Foretold.{MarkSets, DirtyLines, StrayBits, Counts
 use Rattle.predicate.proofs.Bools.{split, clash, chosen, passedOver}
 use Rattle.board.proofs.Laws.Taken.{Clear, take, standsAt, passed, taken-next, performed-number, performed-value, performed-taken, limits-in, record-within, record-cells}
 use Rattle.board.proofs.Laws.Reading.{in-phase, running-passes}
-
 use Rattle.board.specs.Checkpoint.{planned, progress, acts}
 use Rattle.board.proofs.Checkpoint.Run.{is-running}
 use Rattle.board.proofs.Checkpoint.Ends.{all-quiescent}

@@ -7,9 +7,8 @@ use Rattle.effects.proofs.checkpoint.checkpoint_step.Tie as tie
 
 write-back-requires : tie.Need-write-back-requires
 write-back-requires c κs =
-    let below = c .before .before .before in
-    let counted = below .before in
-    dirty-in _ _ _ (counted .before .before .before .before .before .pre) (counted .size .ensures) (below .if1 .taken) (c .nth .ensures)
+    let counted = c .before .before .before in
+    dirty-in _ _ _ (counted .before .before .before .before .before .pre) (counted .ranked .ensures .0) (c .before .before .if1 .taken) (counted .ranked .ensures .1)
 
 returns : tie.Need-returns
 returns c = search (needs, writes-dirty)
@@ -29,7 +28,7 @@ returns-4 c = search (needs, releases)
 pub checkpoint-step-spec : {M : Type 1} → statement M
 checkpoint-step-spec =
     tie.close
-    (tie.spec (search needs) (search needs) (search needs) write-back-requires (λ c κs. search (needs, place-fits))
+    (tie.spec (search needs) (search needs) write-back-requires (λ c κs. search (needs, place-fits))
     (search needs) (search needs) returns (search needs) add-store-header-word (search needs)
     (λ c κs. search (needs, place-fits)) (search needs) returns-2 (search needs) (search needs)
     (λ c κs. search (needs, place-fits)) (search needs) (search needs) returns-3 (search needs) returns-4)
