@@ -6,8 +6,8 @@ mod rounds;
 mod setup;
 mod workloads;
 
-use rounds::Kind;
 use rounds::Plan;
+use rounds::Workload;
 use script::Number;
 
 // The argument at `i` as a number, 0 where it is none.
@@ -21,7 +21,7 @@ fn argument(i: usize) -> u64 {
 }
 
 // A workload's checksum, on rows of the plan's size.
-fn checksum(kind: Kind, plan: Plan, rounds: u32) -> u64
+fn checksum(kind: Workload, plan: Plan, rounds: u32) -> u64
     requires { ⌜ Allowed plan ⌝ }
 {
     let mut memory = [0u64; 4096];
@@ -39,7 +39,7 @@ fn checksum(kind: Kind, plan: Plan, rounds: u32) -> u64
 // A kind or a size that is not allowed prints nothing.
 fn main() {
     let kind = rounds::numbered(argument(1));
-    if let Kind::Unknown = kind {
+    if let Workload::Unknown = kind {
         return;
     }
     let lines = argument(2);

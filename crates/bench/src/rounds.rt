@@ -46,27 +46,27 @@ pub enum Marks {
 }
 
 // What a KIND on the command line stands for.
-pub enum Kind {
+pub enum Workload {
     Calls(Round),
     Pages(Marks),
     Unknown,
 }
 
 // The workloads that are measured, by their number.
-pub fn numbered(kind: u64) -> Kind {
+pub fn numbered(kind: u64) -> Workload {
     match kind {
-        1 => Kind::Calls(Round::Update),
-        2 => Kind::Calls(Round::Again),
-        3 => Kind::Calls(Round::Checkpoint),
-        4 => Kind::Calls(Round::Recovery),
-        5 => Kind::Calls(Round::WriteBack),
-        6 => Kind::Pages(Marks::Equal),
-        7 => Kind::Pages(Marks::Rising),
-        8 => Kind::Pages(Marks::Random),
-        9 => Kind::Calls(Round::CheckpointAway),
-        10 => Kind::Calls(Round::CheckpointPairs),
-        11 => Kind::Calls(Round::Locks),
-        _ => Kind::Unknown,
+        1 => Workload::Calls(Round::Update),
+        2 => Workload::Calls(Round::Again),
+        3 => Workload::Calls(Round::Checkpoint),
+        4 => Workload::Calls(Round::Recovery),
+        5 => Workload::Calls(Round::WriteBack),
+        6 => Workload::Pages(Marks::Equal),
+        7 => Workload::Pages(Marks::Rising),
+        8 => Workload::Pages(Marks::Random),
+        9 => Workload::Calls(Round::CheckpointAway),
+        10 => Workload::Calls(Round::CheckpointPairs),
+        11 => Workload::Calls(Round::Locks),
+        _ => Workload::Unknown,
     }
 }
 
@@ -116,17 +116,17 @@ fn spread_lines(plan: Plan) -> u32
 }
 
 // Whether the board has a line for every data cell that is to be alone in one.
-pub fn has_lines(kind: Kind, plan: Plan) -> bool
+pub fn has_lines(kind: Workload, plan: Plan) -> bool
     requires { ⌜ plan .workers ≤ plan .n ⌝ }
 {
     let enough = spread_lines(plan) <= plan.lines as u32;
     match kind {
-        Kind::Calls(round) => match round {
+        Workload::Calls(round) => match round {
             Round::Checkpoint | Round::CheckpointAway => enough,
             _ => true,
         },
-        Kind::Pages(_) => true,
-        Kind::Unknown => true,
+        Workload::Pages(_) => true,
+        Workload::Unknown => true,
     }
 }
 

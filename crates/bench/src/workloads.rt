@@ -7,9 +7,9 @@ ghost use Rattle.line.specs.Line.{lineStart};
 ghost use Rattle.line.specs.Cell.{cellLine};
 ghost use Rattle.bench.specs.Plans.{Allowed};
 use crate::pages;
-use crate::rounds::Kind;
 use crate::rounds::Plan;
 use crate::rounds::Round;
+use crate::rounds::Workload;
 use crate::rounds::call_at;
 use crate::rounds::calls_in;
 use crate::rounds::draw;
@@ -137,17 +137,23 @@ fn called(
 }
 
 // A workload from its format to the end of its rounds, with the sum of the rounds alone.
-fn measured(kind: Kind, plan: Plan, rounds: u32, memory: &mut [u64], cache: &mut [u64]) -> Summed
+fn measured(
+    kind: Workload,
+    plan: Plan,
+    rounds: u32,
+    memory: &mut [u64],
+    cache: &mut [u64],
+) -> Summed
     requires { ⌜ Allowed plan × (length (now cache) ≡ rowWords (plan .lines)) ⌝ }
 {
     let fresh = formatted(plan, memory, cache);
     match kind {
-        Kind::Calls(round) => called(round, plan, rounds, fresh, memory, cache),
-        Kind::Pages(marks) => Summed {
+        Workload::Calls(round) => called(round, plan, rounds, fresh, memory, cache),
+        Workload::Pages(marks) => Summed {
             state: fresh,
             sum: pages::printed(marks, plan, rounds, fresh, memory, cache),
         },
-        Kind::Unknown => Summed {
+        Workload::Unknown => Summed {
             state: fresh,
             sum: 0,
         },
@@ -155,7 +161,7 @@ fn measured(kind: Kind, plan: Plan, rounds: u32, memory: &mut [u64], cache: &mut
 }
 
 // A workload's checksum: the sum of its rounds, and of a read of every cell after them.
-pub fn run(kind: Kind, plan: Plan, rounds: u32, memory: &mut [u64], cache: &mut [u64]) -> u64
+pub fn run(kind: Workload, plan: Plan, rounds: u32, memory: &mut [u64], cache: &mut [u64]) -> u64
     requires { ⌜ Allowed plan × (length (now cache) ≡ rowWords (plan .lines)) ⌝ }
 {
     let done = measured(kind, plan, rounds, memory, cache);

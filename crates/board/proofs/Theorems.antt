@@ -25,7 +25,7 @@ use Rattle.board.proofs.Checkpoint.Run.{is-running}
 use Rattle.board.proofs.Keeps.Every.{carried, history-inv}
 use Rattle.board.proofs.Keeps.Away
 use Rattle.board.proofs.Keeps.Request as Requests
-use Rattle.board.proofs.Recovery.Finishes.{Done, recovers}
+use Rattle.board.proofs.Recovery.Finishes.{RecoveryDone, recovers}
 use Rattle.board.proofs.Keeps.RecoveryStart.{recovery-kept}
 use Rattle.board.proofs.Recovery.Starts.{start-taken, start-answer}
 use Rattle.board.proofs.Format.Ends as FormatSteps
@@ -60,7 +60,7 @@ reads r h d c value b p =
 -- ---- 2. recovery
 
 -- What a recovered board's reads return.
-done-reads : (m : Machine) {σ : Shape} {w : ℕ} (b : Board) → Done σ w (m .checkpointed) b → ReadsCheckpointed m b
+done-reads : (m : Machine) {σ : Shape} {w : ℕ} (b : Board) → RecoveryDone σ w (m .checkpointed) b → ReadsCheckpointed m b
 unfolding valueOf
 done-reads m b d c h number value b′ p =
     let r = d .reads c (subst (λ (τ : Shape). c < cells τ) (d .shape) h) in
@@ -155,7 +155,7 @@ completion r r′ h e = carried (history-inv r h) e .completion
 
 -- ---- 4. progress
 
--- Formats, recoveries, checkpoints and updates end, workers that are away or not; workers go and come; and recovery can be started.
+-- InFormat, recoveries, checkpoints and updates end, workers that are away or not; workers go and come; and recovery can be started.
 pub format-ends : FormatEnds
 format-ends = FormatSteps.format-ends
 

@@ -107,16 +107,16 @@ module _ {r : Run} {w c v : ℕ} {next : Store} (u : Before r w c v next) where
 -- ---- the three advances
 
 -- What an update ends in.
-abbrev Ended : ℕ → ℕ → ℕ → ℕ → Board → Type 0
-Ended w c v n b =
+abbrev UpdateEnded : ℕ → ℕ → ℕ → ℕ → Board → Type 0
+UpdateEnded w c v n b =
     (b′ : Board) × (Advances w n b b′ × (isFree (conditionOf (b′ .state) w) || isWaiting (conditionOf (b′ .state) w) ≡ true) × Performed (Read c) b′ 0 v b′)
 
 -- One advance more.
-ends-more : (w c v n : ℕ) (b : Board) {value : ℕ} {d : Board} → Performed (Advance w) b 0 value d → Ended w c v n d → Ended w c v (suc n) b
+ends-more : (w c v n : ℕ) (b : Board) {value : ℕ} {d : Board} → Performed (Advance w) b 0 value d → UpdateEnded w c v n d → UpdateEnded w c v (suc n) b
 ends-more w c v n b p (b′, rest) = (b′, (advances p (rest .0), rest .1, rest .2))
 
 -- The last store.
-last-store : {r : Run} {w c v : ℕ} → Before r w c v Record → Ended w c v 1 (r .board)
+last-store : {r : Run} {w c v : ℕ} → Before r w c v Record → UpdateEnded w c v 1 (r .board)
 unfolding advance effect feed advanced fewer valueOf
 last-store {r} {w} {c} {v} u =
     let r′ = afterTaken (Advance w) r in
@@ -138,7 +138,7 @@ last-store {r} {w} {c} {v} u =
     )
 
 -- All three stores.
-three-stores : {r : Run} {w c v : ℕ} → Before r w c v Backup → Ended w c v 3 (r .board)
+three-stores : {r : Run} {w c v : ℕ} → Before r w c v Backup → UpdateEnded w c v 3 (r .board)
 unfolding advance
 three-stores {r} {w} {c} {v} u =
     let marks = goes-on u Mark (u .phase, u .under, condition-at (r .board .state) w (Updating Mark c v) (seat u)) in
@@ -163,24 +163,24 @@ module _ (r : Run) (w c v : ℕ) (k : Call) (inv : Inv (afterTaken k r)) (uncut 
       }
 
   -- It ends in as many advances as the machine gives it.
-  started-ends : Ended w c v (cond (r .machine .marked (cell c)) 1 3) (effect k (r .board))
+  started-ends : UpdateEnded w c v (cond (r .machine .marked (cell c)) 1 3) (effect k (r .board))
   started-ends =
-      subst (λ (t : Bool). Ended w c v (cond t 1 3) (effect k (r .board))) (sym (marked-logged r ready (cell c) inside))
-      (decide (λ (t : Bool). Before (afterTaken k r) w c v (cond t Record Backup) → Ended w c v (cond t 1 3) (effect k (r .board))) (logged (r .board .cache) (cell c)) (λ t. last-store) (λ t. three-stores) started)
+      subst (λ (t : Bool). UpdateEnded w c v (cond t 1 3) (effect k (r .board))) (sym (marked-logged r ready (cell c) inside))
+      (decide (λ (t : Bool). Before (afterTaken k r) w c v (cond t Record Backup) → UpdateEnded w c v (cond t 1 3) (effect k (r .board))) (logged (r .board .cache) (cell c)) (λ t. last-store) (λ t. three-stores) started)
 
 -- A started update or restart point ends, where the invariant holds.
-pub update-ends : (r : Run) → Inv r → r .crashed ≡ false → (w c v : ℕ) (k : Call) → Starts w c v k → (value : ℕ) (b : Board) → Performed k (r .board) 0 value b → Ended w c v (cond (r .machine .marked (cell c)) 1 3) b
+pub update-ends : (r : Run) → Inv r → r .crashed ≡ false → (w c v : ℕ) (k : Call) → Starts w c v k → (value : ℕ) (b : Board) → Performed k (r .board) 0 value b → UpdateEnded w c v (cond (r .machine .marked (cell c)) 1 3) b
 unfolding standsAt causes effect
 update-ends r inv d w c v k (updates) value b p =
     let (t, same) = performed-taken (Update w c v) (r .board) p refl in
     let pass = passed (Update w c v) (r .board) t in
     let now = working r w isFree refl refl inv d (pass 2) (pass 6) (pass 8) in
-    subst (Ended w c v (cond (r .machine .marked (cell c)) 1 3)) (sym same)
+    subst (UpdateEnded w c v (cond (r .machine .marked (cell c)) 1 3)) (sym same)
     (started-ends r w c v (Update w c v) (keeps-update r w c v inv d t) (and-off (r .crashed) true d) now (update-cell r w c v now t) refl)
 update-ends r inv d w c v k (restarts e) value b p =
     let (t, same) = performed-taken (RestartPoint w v) (r .board) p refl in
     let pass = passed (RestartPoint w v) (r .board) t in
     let now = working r w isFree refl refl inv d (pass 2) (pass 6) (pass 8) in
-    subst (λ (x : ℕ). Ended w x v (cond (r .machine .marked (cell x)) 1 3) b) (sym e)
-    (subst (Ended w w v (cond (r .machine .marked (cell w)) 1 3)) (sym same)
+    subst (λ (x : ℕ). UpdateEnded w x v (cond (r .machine .marked (cell x)) 1 3) b) (sym e)
+    (subst (UpdateEnded w w v (cond (r .machine .marked (cell w)) 1 3)) (sym same)
     (started-ends r w w v (RestartPoint w v) (keeps-restart r w v inv d t) (and-off (r .crashed) true d) now (restart-cell r w now) refl))

@@ -14,9 +14,17 @@ pub data Act : Type 0 where
   writeLine : ℕ → Act
   storeEpoch writeHeader release : Act
 
--- 02: "A checkpoint writes the set lines in rising order", the p-th of them for each p below n; then come the last three acts.
+-- 02: "A checkpoint writes the set lines in rising order": the p-th of them, for each p below n.
+abbrev pub lineActs : Board → List Act
+lineActs b = map (λ p. writeLine (nth (b .state .dirty) p)) (numbersUnder (dirtyCount (b .state)))
+
+-- Then come the last three acts.
+abbrev pub lastActs : List Act
+lastActs = storeEpoch ∷ writeHeader ∷ release ∷ []
+
+-- All acts of a checkpoint, each at its place.
 abbrev pub planned : Board → List Act
-planned b = map (λ p. writeLine (nth (b .state .dirty) p)) (numbersUnder (dirtyCount (b .state))) ++ (storeEpoch ∷ writeHeader ∷ release ∷ [])
+planned b = lineActs b ++ lastActs
 
 -- The steps that a requested checkpoint has taken: its place.
 abbrev pub progress : State → ℕ

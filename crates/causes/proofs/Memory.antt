@@ -11,13 +11,13 @@ use Rattle.board.proofs.Laws.Taken.{limits-in}
 use Rattle.board.proofs.Recovery.Board.{header-passed, rows-passed}
 
 -- Rows and a header that pass: both rows have the length that the header's L asks, within the limits.
-pub record Whole (b : Board) : Type 0 where
+pub record WholeMemory (b : Board) : Type 0 where
   pub memory : length (b .memory) ≡ rowWords (linesOf (b .memory))
   pub cache : length (b .cache) ≡ length (b .memory)
   pub lines : linesOf (b .memory) ≤ 511
   pub workers : workersOf (b .memory) ≤ 8
 
-pub whole : (b : Board) → badRecoveryRows b ≡ false → badHeader (b .memory) ≡ false → Whole b
+pub whole : (b : Board) → badRecoveryRows b ≡ false → badHeader (b .memory) ≡ false → WholeMemory b
 whole b r h =
     let z = rows-passed b r h in
     let limits = limits-in (shapeIn (b .memory)) (workersOf (b .memory)) (header-passed (b .memory) h .limits) in
@@ -41,7 +41,7 @@ module _ (b : Board) {rows header : Bool} (p : rows ≡ badRecoveryRows b) (q : 
       either false false later t = absurd (false≢true t)
 
   -- Where neither stands, memory is whole.
-  pub whole-left : rows || header ≡ false → Whole b
+  pub whole-left : rows || header ≡ false → WholeMemory b
   whole-left e = whole b (sym p ∙ or-left rows header e) (sym q ∙ or-right rows header e)
 
   -- And the marks tell the cause.

@@ -1,6 +1,6 @@
 -- Laws that several functions' proofs cite.
 pub mod Feeds
-pub mod Ends
+pub mod LineEnds
 pub mod Pieces
 pub mod Pages
 pub mod Theorems

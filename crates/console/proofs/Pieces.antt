@@ -13,9 +13,9 @@ use Rattle.bytes.specs.Bytes.{indexOf, indexAfter}
 use Rattle.text.specs.Ascii.{feed}
 use Rattle.script.specs.declared.Program.{Program}
 use Rattle.session.specs.declared.Session.{Session}
-use Rattle.console.specs.declared.answers.Progress.{Progress}
+use Rattle.console.specs.declared.answers.Ongoing.{Ongoing}
 use Rattle.session.specs.Session.{boardOf}
-use Rattle.console.specs.Pieces.{Carried, carried, Fed, leaving, kept, ended, byteFed, andThen, fed, finished, carriedBy, Ready, Ends, Stops}
+use Rattle.console.specs.Pieces.{Carried, carried, Fed, leaving, kept, ended, byteFed, andThen, fed, finished, carriedBy, Ready, LineEnds, Stops}
 
 -- ---- the bytes kept of a line
 
@@ -92,7 +92,7 @@ module _ (program : Program) (first reached : Carried) (text piece : List ℕ) (
       ∙ ap (andThen (leaving reached text)) e)
 
   -- A line more.
-  pub line-more : (stop : ℕ) → stop ≡ at + indexOf feed (drop at piece) → stop < length piece → {after : Carried} {out written : List ℕ} {from end : ℕ} → text ≡ take from out → Ends (ended program (kept reached (take (stop - at) (drop at piece)))) after out from written end → leaving after (take end written) ≡ fed program first (take (stop + 1) piece)
+  pub line-more : (stop : ℕ) → stop ≡ at + indexOf feed (drop at piece) → stop < length piece → {after : Carried} {out written : List ℕ} {from end : ℕ} → text ≡ take from out → LineEnds (ended program (kept reached (take (stop - at) (drop at piece)))) after out from written end → leaving after (take end written) ≡ fed program first (take (stop + 1) piece)
   line-more stop e h {after} {out} {written} {from} {end} same ends =
       let s = drop at piece in
       let k = indexOf feed s in
@@ -129,26 +129,26 @@ used-more program first reached after piece used more so-far fits e =
     ∙ sym (ap (λ (f : Fed). f .after) (ap (fed program first) (take-add used more piece) ∙ fed-append program first (take used piece) (take more rest)))
 
 -- What is carried once more bytes of a line are kept.
-pub kept-by : (k p : Progress) (m c line after rest : List ℕ) → (k .session ≡ p .session) × (k .number ≡ p .number) × (take (k .begun) after ≡ take 80 (take (p .begun) line ++ rest)) → carriedBy k m c after ≡ kept (carriedBy p m c line) rest
+pub kept-by : (k p : Ongoing) (m c line after rest : List ℕ) → (k .session ≡ p .session) × (k .number ≡ p .number) × (take (k .begun) after ≡ take 80 (take (p .begun) line ++ rest)) → carriedBy k m c after ≡ kept (carriedBy p m c line) rest
 kept-by k p m c line after rest w =
     ap (λ (s : Session). carried (boardOf s m c) (k .number) (take (k .begun) after)) (w .0)
     ∙ ap (λ (n : ℕ). carried (boardOf (p .session) m c) n (take (k .begun) after)) (w .1)
     ∙ ap (carried (boardOf (p .session) m c) (p .number)) (w .2)
 
 -- At most 80 bytes are kept.
-pub begun-short : {p : Progress} → Ready p → (line : List ℕ) → length (take (p .begun) line) ≤ 80
+pub begun-short : {p : Ongoing} → Ready p → (line : List ℕ) → length (take (p .begun) line) ≤ 80
 begun-short {p} r line = omega (arith, r .line-within, length-take (p .begun) line)
 
 -- ---- after the input
 
 -- No line is begun.
-pub none-last : (program : Program) (p : Progress) (m c line : List ℕ) → p .begun ≡ 0 → leaving (carriedBy p m c line) [] ≡ finished program (carriedBy p m c line)
+pub none-last : (program : Program) (p : Ongoing) (m c line : List ℕ) → p .begun ≡ 0 → leaving (carriedBy p m c line) [] ≡ finished program (carriedBy p m c line)
 none-last program p m c line z =
     let none : length (take (p .begun) line) ≡ 0 = ap (λ (k : ℕ). length (take k line)) z in
     sym (chosen (eqb (length (take (p .begun) line)) 0) _ _ (eq-eqb _ 0 none))
 
 -- The line begun ends by the line feed that it lacks.
-pub line-last : (program : Program) (p : Progress) (m c line : List ℕ) → Ready p → length line ≡ 80 → (p .begun ≡ 0 → ⊥) → {f : Fed} {used written : ℕ} → f ≡ fed program (carriedBy p m c line) (take used (feed ∷ [])) → Stops (feed ∷ []) used written → f ≡ finished program (carriedBy p m c line)
+pub line-last : (program : Program) (p : Ongoing) (m c line : List ℕ) → Ready p → length line ≡ 80 → (p .begun ≡ 0 → ⊥) → {f : Fed} {used written : ℕ} → f ≡ fed program (carriedBy p m c line) (take used (feed ∷ [])) → Stops (feed ∷ []) used written → f ≡ finished program (carriedBy p m c line)
 unfolding fed
 line-last program p m c line r size some {f} {used} {written} e′ stops =
     let from = carriedBy p m c line in

@@ -21,7 +21,7 @@ use Rattle.session.specs.Lines.{carriedOut}
 use Rattle.console.specs.Transcript.{linesOf, following, lineText, answers, boardAfter}
 use Rattle.console.specs.Pieces.{Carried, carried, first, Fed, leaving, kept, ended, andThen, fed, finished, fedAll, AnyPieces, AnyPiecesBoard}
 use Rattle.console.specs.Printing.{printedOf, AnyPiecesPrinted, BoardOfDrill}
-use Rattle.console.proofs.Ends.{ended-kept}
+use Rattle.console.proofs.LineEnds.{ended-kept}
 use Rattle.console.proofs.Pieces.{take-again, fed-append}
 
 -- ---- the lines of an input that goes on a line begun

@@ -11,8 +11,8 @@ use Rattle.text.specs.Ascii.{feed}
 use Rattle.script.specs.Grammar.{meaning}
 use Rattle.script.specs.Answers.{headerText}
 use Rattle.script.specs.declared.Program.{Program}
-use Rattle.console.specs.declared.answers.Asked.{Asked}
-use Rattle.console.specs.declared.answers.Progress.{Progress}
+use Rattle.console.specs.declared.answers.LineAsked.{LineAsked}
+use Rattle.console.specs.declared.answers.Ongoing.{Ongoing}
 use Rattle.session.specs.declared.Session.{Session}
 use Rattle.session.specs.Session.{boardOf, firstBoard, Within}
 use Rattle.session.specs.Lines.{carriedOut}
@@ -86,16 +86,16 @@ AnyPiecesBoard =
 -- ---- what contracts say
 
 -- What the code carries: the board of its session, the lines answered, and the first bytes of the line kept.
-abbrev pub carriedBy : Progress → List ℕ → List ℕ → List ℕ → Carried
+abbrev pub carriedBy : Ongoing → List ℕ → List ℕ → List ℕ → Carried
 carriedBy p memory cache line =
     carried (boardOf (p .session) memory cache) (p .number) (take (p .begun) line)
 
 -- What the code carries on after a line: none is begun.
-abbrev pub afterLine : Session → ℕ → Progress
+abbrev pub afterLine : Session → ℕ → Ongoing
 afterLine session number = record { session = session; number = number; begun = 0 }
 
 -- What the code carries is within its arrays.
-pub record Ready (p : Progress) : Type 0 where
+pub record Ready (p : Ongoing) : Type 0 where
   pub session-within : Within (p .session)
   pub line-within : p .begun ≤ 80
 
@@ -106,12 +106,12 @@ pub record LineGoesOn (text : List ℕ) (from i : ℕ) : Type 0 where
   pub same-end : i + indexOf feed (drop i text) ≡ from + indexOf feed (drop from text)
 
 -- A line is read: what it means, and its first byte, by which its answer is headed.
-pub record Reads (program : Program) (text : List ℕ) (asked : Asked) : Type 0 where
+pub record LineRead (program : Program) (text : List ℕ) (asked : LineAsked) : Type 0 where
   pub means : asked .line ≡ meaning program text
   pub begins : asked .first ≡ getD text 0 0
 
 -- A line's end as it should be, by the code: what is carried on, and the answer written behind `at`, up to `end`.
-pub record Ends (should : Fed) (after : Carried) (out : List ℕ) (at : ℕ) (written : List ℕ) (end : ℕ) : Type 0 where
+pub record LineEnds (should : Fed) (after : Carried) (out : List ℕ) (at : ℕ) (written : List ℕ) (end : ℕ) : Type 0 where
   pub leaves : after ≡ should .after
   pub writes : take end written ≡ take at out ++ should .text
   pub within : end ≤ at + 65

@@ -3,7 +3,7 @@ ghost use mathlib.Core.Path.{_≡_};
 ghost use mathlib.Core.List.{List, _++_};
 ghost use Prim.Native.Nat.{ℕ, _+_, _≤_};
 ghost use lib.ListN.{length, take};
-ghost use Rattle.console.specs.Pieces.{first, leaving, kept, ended, fed, finished, carriedBy, afterLine, Ready, Reads, Ends, Stops};
+ghost use Rattle.console.specs.Pieces.{first, leaving, kept, ended, fed, finished, carriedBy, afterLine, Ready, LineRead, LineEnds, Stops};
 use crate::input::feed_at;
 use crate::input::keep;
 use script::Line;
@@ -12,37 +12,37 @@ use script::Shown;
 use session::Session;
 
 // What is carried from piece to piece: the session, the lines answered, and how many bytes of the line begun are kept.
-pub struct Progress {
+pub struct Ongoing {
     pub session: Session,
     pub number: u64,
     pub begun: usize,
 }
 
 // What a line asks for, and its first byte, 0 for an empty one.
-pub struct Asked {
+pub struct LineAsked {
     pub line: Line,
     pub first: u8,
 }
 
 // After a line: what is carried on, and where its answer ends in the buffer.
-pub struct Ended {
-    pub progress: Progress,
+pub struct LineEnded {
+    pub progress: Ongoing,
     pub end: usize,
 }
 
 // After a piece: what is carried on, the bytes of it that are used up, and the bytes of answers in the buffer.
 pub struct Answers {
-    pub progress: Progress,
+    pub progress: Ongoing,
     pub used: usize,
     pub written: usize,
 }
 
 // Before the first line.
-pub fn start() -> Progress
+pub fn start() -> Ongoing
     ensures first { λ r. ⌜ ((memory cache line : List ℕ) → carriedBy r memory cache line ≡ first) ⌝ }
     ensures ready { λ r. ⌜ Ready r ⌝ }
 {
-    Progress {
+    Ongoing {
         session: session::new(),
         number: 0,
         begun: 0,
@@ -50,10 +50,10 @@ pub fn start() -> Progress
 }
 
 // What is carried on after a line: none is begun.
-fn after_line(session: Session, number: u64) -> Progress
+fn after_line(session: Session, number: u64) -> Ongoing
     ensures { λ r. ⌜ r ≡ afterLine session number ⌝ }
 {
-    Progress {
+    Ongoing {
         session,
         number,
         begun: 0,
@@ -61,23 +61,23 @@ fn after_line(session: Session, number: u64) -> Progress
 }
 
 // A whole line, read.
-fn asked_by(program: Program, text: &[u8]) -> Asked
-    ensures { λ r. ⌜ Reads program (now (text .entry)) r ⌝ }
+fn asked_by(program: Program, text: &[u8]) -> LineAsked
+    ensures { λ r. ⌜ LineRead program (now (text .entry)) r ⌝ }
 {
     let line = script::parse(program, text);
     if text.len() == 0 {
-        return Asked { line, first: 0 };
+        return LineAsked { line, first: 0 };
     }
-    Asked {
+    LineAsked {
         line,
         first: text[0],
     }
 }
 
 // The line that ends with `rest`, of which `begun` bytes are kept, read.
-fn read_line(program: Program, line: &mut [u8], begun: usize, rest: &[u8]) -> Asked
+fn read_line(program: Program, line: &mut [u8], begun: usize, rest: &[u8]) -> LineAsked
     requires { ⌜ (begun ≤ 80) × (length (now line) ≡ 80) ⌝ }
-    ensures { λ r. ⌜ Reads program (take 80 (take begun (now (line .entry)) ++ now (rest .entry))) r ⌝ }
+    ensures { λ r. ⌜ LineRead program (take 80 (take begun (now (line .entry)) ++ now (rest .entry))) r ⌝ }
 {
     if begun == 0 {
         return asked_by(program, rest);
@@ -90,16 +90,16 @@ fn read_line(program: Program, line: &mut [u8], begun: usize, rest: &[u8]) -> As
 // `at` bytes of `out`. A line that is no call leaves the session where it is.
 fn end_line(
     program: Program,
-    progress: Progress,
+    progress: Ongoing,
     memory: &mut [u64; 4104],
     cache: &mut [u64; 4104],
     line: &mut [u8],
     rest: &[u8],
     out: &mut [u8; 65536],
     at: usize,
-) -> Ended
+) -> LineEnded
     requires { ⌜ Ready progress × (length (now line) ≡ 80) × (at + 80 ≤ 65536) ⌝ }
-    ensures ends { λ r. ⌜ Ends (ended program (kept (carriedBy progress (now (memory .entry)) (now (cache .entry)) (now (line .entry))) (now (rest .entry)))) (carriedBy (r .progress) (now (memory .exit)) (now (cache .exit)) (now (line .exit))) (now (out .entry)) at (now (out .exit)) (r .end) ⌝ }
+    ensures ends { λ r. ⌜ LineEnds (ended program (kept (carriedBy progress (now (memory .entry)) (now (cache .entry)) (now (line .entry))) (now (rest .entry)))) (carriedBy (r .progress) (now (memory .exit)) (now (cache .exit)) (now (line .exit))) (now (out .entry)) at (now (out .exit)) (r .end) ⌝ }
     ensures ready { λ r. ⌜ Ready (r .progress) ⌝ }
 {
     let session = progress.session;
@@ -107,7 +107,7 @@ fn end_line(
     let call = asked.line;
     let number = std::num::wrapping_add_u64(progress.number, 1);
     if let Line::Unknown = call {
-        return Ended {
+        return LineEnded {
             progress: after_line(session, number),
             end: script::put_answer(out, at, number, b'?', Shown::Unknown, Shown::Nothing),
         };
@@ -118,27 +118,27 @@ fn end_line(
     let value = done.value;
     let letter = script::letter(asked.first, answer);
     let end = script::put_answer(out, at, number, letter, answer, value);
-    Ended {
+    LineEnded {
         progress: after_line(next, number),
         end,
     }
 }
 
 // What a piece has of a line that does not end in it, kept.
-fn keep_rest(progress: Progress, line: &mut [u8], rest: &[u8]) -> Progress
+fn keep_rest(progress: Ongoing, line: &mut [u8], rest: &[u8]) -> Ongoing
     requires { ⌜ Ready progress × (length (now line) ≡ 80) ⌝ }
     ensures keeps { λ r. ⌜ (r .session ≡ progress .session) × (r .number ≡ progress .number) × (take (r .begun) (now (line .exit)) ≡ take 80 (take (progress .begun) (now (line .entry)) ++ now (rest .entry))) ⌝ }
     ensures ready { λ r. ⌜ Ready r ⌝ }
 {
     let begun = keep(line, progress.begun, rest);
-    Progress { begun, ..progress }
+    Ongoing { begun, ..progress }
 }
 
 // The lines that end in a piece of input, answered from the start of `out`, and what it has of a further line kept. It
 // stops where the buffer might not hold another answer, and does nothing with the rest of the piece.
 pub fn answer(
     program: Program,
-    progress: Progress,
+    progress: Ongoing,
     memory: &mut [u64; 4104],
     cache: &mut [u64; 4104],
     line: &mut [u8],
@@ -178,22 +178,22 @@ pub fn answer(
 // After the input: a last line that lacks its line feed is carried out, and answered at the start of `out`.
 pub fn answer_last(
     program: Program,
-    progress: Progress,
+    progress: Ongoing,
     memory: &mut [u64; 4104],
     cache: &mut [u64; 4104],
     line: &mut [u8],
     out: &mut [u8; 65536],
-) -> Ended
+) -> LineEnded
     requires { ⌜ Ready progress × (length (now line) ≡ 80) ⌝ }
     ensures finishes { λ r. ⌜ leaving (carriedBy (r .progress) (now (memory .exit)) (now (cache .exit)) (now (line .exit))) (take (r .end) (now (out .exit))) ≡ finished program (carriedBy progress (now (memory .entry)) (now (cache .entry)) (now (line .entry))) ⌝ }
     ensures ready { λ r. ⌜ Ready (r .progress) × (r .end ≤ 65536) ⌝ }
 {
     if progress.begun == 0 {
-        return Ended { progress, end: 0 };
+        return LineEnded { progress, end: 0 };
     }
     let r = answer(program, progress, memory, cache, line, b"\n", out);
     let last = r.progress;
-    Ended {
+    LineEnded {
         progress: last,
         end: r.written,
     }

@@ -6,7 +6,7 @@ ghost use Rattle.script.specs.declared.Program.{Program};
 ghost use Rattle.session.specs.Session.{boardOf, Fits};
 ghost use Rattle.console.specs.Pieces.{finished, carriedBy, Ready};
 ghost use Rattle.console.specs.Printing.{printing, printedOf};
-use crate::answers::Progress;
+use crate::answers::Ongoing;
 use crate::answers::answer_last;
 use script::Program;
 use session::Session;
@@ -37,7 +37,7 @@ fn print(session: Session, memory: &[u64], cache: &[u64], text: &mut [u8; 69564]
 // After the input: a last line that lacks its line feed is carried out, and the page of the board left is put into the
 // text row.
 pub fn last_page(
-    progress: Progress,
+    progress: Ongoing,
     memory: &mut [u64; 4104],
     cache: &mut [u64; 4104],
     line: &mut [u8],

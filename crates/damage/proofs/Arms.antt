@@ -16,7 +16,7 @@ use Rattle.damage.specs.declared.Damaged.{Damaged}
 use Rattle.damage.specs.Record.{fieldFits, fieldPut, wordThere, wordPut, workerFits, workerPut, holderFits, holderPut}
 use Rattle.damage.specs.Rows.{resized, wordFits, storedIf, Stored}
 use Rattle.damage.specs.Checksum.{checksum}
-use Rattle.damage.specs.Damages.{Outcome, showing, answerIf, roomFor, relengthened, outcome, inUse, left, Within}
+use Rattle.damage.specs.Damages.{DamageOutcome, showing, answerIf, roomFor, relengthened, outcome, inUse, left, SizesWithin}
 
 -- What the code leaves and shows, by its parts.
 pub by-parts : {r : Damaged} {state : State} {sizes : Sizes} {answer value : Shown} (m c : List ℕ) → (r .state ≡ state) × (r .sizes ≡ sizes) × (r .answer ≡ answer) × (r .value ≡ value) → left r m c ≡ showing (inUse state sizes m c) answer value
@@ -27,12 +27,12 @@ by-parts {r} {state} {sizes} {answer} {value} m c w =
     ∙ ap (showing (inUse state sizes m c) answer) (w .3)
 
 -- A line whose kind is told leaves what that kind leaves.
-pub told-as : {d : Damage} {x : Outcome} (b : Board) (k : Damage) → d ≡ k → x ≡ outcome k b → x ≡ outcome d b
+pub told-as : {d : Damage} {x : DamageOutcome} (b : Board) (k : Damage) → d ≡ k → x ≡ outcome k b → x ≡ outcome d b
 told-as b k told did = did ∙ ap (λ (y : Damage). outcome y b) (sym told)
 
 -- Sizes that stay are within the room.
-pub kept-within : {s t : Sizes} → t ≡ s → Within s → Within t
-kept-within e h = subst Within (sym e) h
+pub kept-within : {s t : Sizes} → t ≡ s → SizesWithin s → SizesWithin t
+kept-within e h = subst SizesWithin (sym e) h
 
 module _ (state : State) (s : Sizes) (m c : List ℕ) where
   pub lengths-put : (x y : ℕ) (m′ c′ : List ℕ) → roomFor x y ≡ true → take x m′ ≡ resized (take (s .memory) m) x → take y c′ ≡ resized (take (s .cache) c) y → showing (lent state (take x m′) (take y c′)) (Number 0) Nothing ≡ outcome (Lengths x y) (inUse state s m c)

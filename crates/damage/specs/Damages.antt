@@ -19,13 +19,13 @@ use Rattle.damage.specs.Rows.{resized, wordFits, storedIf}
 use Rattle.damage.specs.Checksum.{fieldNumbers, dirtyNumbers, conditionNumbers, holderNumber, checksum}
 
 -- What a line leaves and shows: the board, the answer and the value.
-pub record Outcome : Type 0 where
+pub record DamageOutcome : Type 0 where
   pub board : Board
   pub answer : Shown
   pub value : Shown
 
 -- What is left and shown, put together.
-abbrev pub showing : Board → Shown → Shown → Outcome
+abbrev pub showing : Board → Shown → Shown → DamageOutcome
 showing board answer value = record { board = board; answer = answer; value = value }
 
 -- "A number that cannot be put where it is to go" prints `?`; otherwise the answer is 0.
@@ -41,7 +41,7 @@ abbrev pub relengthened : Board → ℕ → ℕ → Board
 relengthened b m c = lent (b .state) (resized (b .memory) m) (resized (b .cache) c)
 
 -- What a damaging line does; what cannot be put changes nothing.
-unfoldable pub outcome : Damage → Board → Outcome
+unfoldable pub outcome : Damage → Board → DamageOutcome
 -- "W m c".
 outcome (Lengths m c) b = showing (cond (roomFor m c) (relengthened b m c) b) (answerIf (roomFor m c)) Nothing
 -- "M i v": memory word i := v.
@@ -95,11 +95,11 @@ abbrev pub inUse : State → Sizes → List ℕ → List ℕ → Board
 inUse state sizes memory cache = lent state (take (sizes .memory) memory) (take (sizes .cache) cache)
 
 -- What the code leaves and shows.
-abbrev pub left : Damaged → List ℕ → List ℕ → Outcome
+abbrev pub left : Damaged → List ℕ → List ℕ → DamageOutcome
 left r memory cache = showing (inUse (r .state) (r .sizes) memory cache) (r .answer) (r .value)
 
 -- The words in use are within the room.
-pub record Within (s : Sizes) : Type 0 where
+pub record SizesWithin (s : Sizes) : Type 0 where
   pub memory-within : s .memory ≤ 4104
   pub cache-within : s .cache ≤ 4104
 

@@ -1,11 +1,11 @@
 // The fault program's own letters, each on a board whose rows are the first words of two arrays.
 ghost use mathlib.Core.Path.{_≡_};
-ghost use Rattle.damage.specs.Damages.{outcome, answerIf, roomFor, inUse, left, Within, HasRoom};
+ghost use Rattle.damage.specs.Damages.{outcome, answerIf, roomFor, inUse, left, SizesWithin, HasRoom};
 ghost use Rattle.script.specs.declared.Damage.the-variants.{Lengths, Checksum};
 use crate::Damaged;
 use crate::Sizes;
 use crate::checksum::checksum;
-use crate::record::Put;
+use crate::record::RecordPut;
 use crate::record::put_field;
 use crate::record::put_holder;
 use crate::record::put_word;
@@ -37,7 +37,7 @@ fn shown(state: State, sizes: Sizes, put: bool) -> Damaged
 }
 
 // The same of a record put anew.
-fn recorded(put: Put, sizes: Sizes) -> Damaged
+fn recorded(put: RecordPut, sizes: Sizes) -> Damaged
     ensures { λ r. ⌜ (r .state ≡ put .state) × (r .sizes ≡ sizes) × (r .answer ≡ answerIf (put .put)) × (r .value ≡ Shown.Nothing) ⌝ }
 {
     let state = put.state;
@@ -63,9 +63,9 @@ fn put_lengths(
     m: u64,
     c: u64,
 ) -> Damaged
-    requires { ⌜ Within sizes × HasRoom (now memory) (now cache) ⌝ }
+    requires { ⌜ SizesWithin sizes × HasRoom (now memory) (now cache) ⌝ }
     ensures { λ r. ⌜ left r (now (memory .exit)) (now (cache .exit)) ≡ outcome (Lengths m c) (inUse state sizes (now (memory .entry)) (now (cache .entry))) ⌝ }
-    ensures { λ r. ⌜ Within (r .sizes) ⌝ }
+    ensures { λ r. ⌜ SizesWithin (r .sizes) ⌝ }
 {
     if has_room(m, c) {
         let new = Sizes {
@@ -93,9 +93,9 @@ fn summed(state: State, sizes: Sizes, sum: u64) -> Damaged
 
 // "T: the checksum of everything".
 fn show_checksum(state: State, sizes: Sizes, memory: &[u64], cache: &[u64]) -> Damaged
-    requires { ⌜ Within sizes × HasRoom (now memory) (now cache) ⌝ }
+    requires { ⌜ SizesWithin sizes × HasRoom (now memory) (now cache) ⌝ }
     ensures { λ r. ⌜ left r (now (memory .entry)) (now (cache .entry)) ≡ outcome Checksum (inUse state sizes (now (memory .entry)) (now (cache .entry))) ⌝ }
-    ensures { λ r. ⌜ Within (r .sizes) ⌝ }
+    ensures { λ r. ⌜ SizesWithin (r .sizes) ⌝ }
 {
     let words = sizes.memory;
     let lines = sizes.cache;
@@ -111,9 +111,9 @@ pub fn carry_out(
     cache: &mut [u64],
     damage: Damage,
 ) -> Damaged
-    requires { ⌜ Within sizes × HasRoom (now memory) (now cache) ⌝ }
+    requires { ⌜ SizesWithin sizes × HasRoom (now memory) (now cache) ⌝ }
     ensures { λ r. ⌜ left r (now (memory .exit)) (now (cache .exit)) ≡ outcome damage (inUse state sizes (now (memory .entry)) (now (cache .entry))) ⌝ }
-    ensures { λ r. ⌜ Within (r .sizes) ⌝ }
+    ensures { λ r. ⌜ SizesWithin (r .sizes) ⌝ }
 {
     match damage {
         Damage::Lengths {

@@ -10,7 +10,7 @@ use board::Store;
 use board::UndoStep;
 
 // The record, and whether the number could be put; where it could not, the record is as it was.
-pub struct Put {
+pub struct RecordPut {
     pub state: State,
     pub put: bool,
 }
@@ -95,29 +95,29 @@ fn with_field(state: State, field: u64, number: u64) -> State
 }
 
 // "B k v": field k of the record := v.
-pub fn put_field(state: State, field: u64, number: u64) -> Put
+pub fn put_field(state: State, field: u64, number: u64) -> RecordPut
     ensures { λ r. ⌜ (r .put ≡ fieldFits field number) × (r .state ≡ fieldPut state field number) ⌝ }
 {
     if field_fits(field, number) {
         let next = with_field(state, field, number);
-        return Put {
+        return RecordPut {
             state: next,
             put: true,
         };
     }
-    Put { state, put: false }
+    RecordPut { state, put: false }
 }
 
 // "Q i v": word i of the record's line bits := v.
-pub fn put_word(state: State, at: u64, word: u64) -> Put
+pub fn put_word(state: State, at: u64, word: u64) -> RecordPut
     ensures { λ r. ⌜ (r .put ≡ wordThere at) × (r .state ≡ wordPut state at word) ⌝ }
 {
     if at >= 8 {
-        return Put { state, put: false };
+        return RecordPut { state, put: false };
     }
     let mut dirty = state.dirty;
     dirty[at as usize] = word;
-    Put {
+    RecordPut {
         state: State { dirty, ..state },
         put: true,
     }
@@ -180,21 +180,21 @@ pub fn put_worker(
     next: u64,
     cell: u64,
     value: u64,
-) -> Put
+) -> RecordPut
     ensures { λ r. ⌜ (r .put ≡ workerFits worker condition next cell value) × (r .state ≡ workerPut state worker condition next cell value) ⌝ }
 {
     if worker >= 8 {
-        return Put { state, put: false };
+        return RecordPut { state, put: false };
     }
     if condition_fits(condition, next, cell, value) {
         let given = condition_of(condition, next, cell, value);
         let changed = effects::conditioned(state, worker as usize, given);
-        return Put {
+        return RecordPut {
             state: changed,
             put: true,
         };
     }
-    Put { state, put: false }
+    RecordPut { state, put: false }
 }
 
 // The holders with a lock held by a worker, or by nobody where the number is 8.
@@ -211,17 +211,17 @@ fn with_holder(holders: u64, lock: u64, holder: u64) -> u64
 }
 
 // "O k h": lock k's holder := h.
-pub fn put_holder(state: State, lock: u64, holder: u64) -> Put
+pub fn put_holder(state: State, lock: u64, holder: u64) -> RecordPut
     ensures { λ r. ⌜ (r .put ≡ holderFits lock holder) × (r .state ≡ holderPut state lock holder) ⌝ }
 {
     if lock >= 16 {
-        return Put { state, put: false };
+        return RecordPut { state, put: false };
     }
     if holder > 8 {
-        return Put { state, put: false };
+        return RecordPut { state, put: false };
     }
     let holders = with_holder(state.holders, lock, holder);
-    Put {
+    RecordPut {
         state: State { holders, ..state },
         put: true,
     }

@@ -1,3 +1,3 @@
 -- `Effects` has each effect by its cases, `Ready` what the bounds of specs/ give at the step at hand.
 pub mod Effects
-pub mod Ready
+pub mod Bounds

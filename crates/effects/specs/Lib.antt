@@ -1,3 +1,3 @@
 -- What the functions behind the calls ask of what they are lent, and what a step gives back.
-pub mod Ready
+pub mod Bounds
 pub mod Progress

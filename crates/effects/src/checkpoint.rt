@@ -4,7 +4,7 @@ ghost use Rattle.board.specs.Checkpoint.{acts};
 ghost use Rattle.board.specs.Effects.{performFirst};
 ghost use Rattle.board.specs.Next.{lent};
 ghost use Rattle.effects.specs.Progress.{progressed};
-ghost use Rattle.effects.specs.Ready.{Checkpoints};
+ghost use Rattle.effects.specs.Bounds.{Checkpoints};
 use crate::record::Progress;
 use crate::record::next_place;
 use crate::record::released;

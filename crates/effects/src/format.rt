@@ -3,7 +3,7 @@ ghost use mathlib.Core.Path.{_≡_};
 ghost use Rattle.board.specs.Effects.{formatStep};
 ghost use Rattle.board.specs.Next.{lent};
 ghost use Rattle.effects.specs.Progress.{progressed};
-ghost use Rattle.effects.specs.Ready.{Formats};
+ghost use Rattle.effects.specs.Bounds.{Formats};
 use crate::record::Progress;
 use crate::record::next_place;
 use crate::record::opened;

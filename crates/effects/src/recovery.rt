@@ -8,7 +8,7 @@ ghost use Rattle.board.specs.Next.{lent};
 ghost use Rattle.board.specs.declared.Phase.the-variants.{Recovering};
 ghost use Rattle.board.specs.declared.UndoStep.the-variants.{Restore};
 ghost use Rattle.effects.specs.Progress.{progressed};
-ghost use Rattle.effects.specs.Ready.{Restarts, Recovers};
+ghost use Rattle.effects.specs.Bounds.{Restarts, Recovers};
 use crate::cells::logged;
 use crate::record::Progress;
 use crate::record::opened;

@@ -8,7 +8,7 @@ ghost use Rattle.board.specs.declared.Store.the-variants.{Backup, Mark, Record}
 ghost use lib.ListN.{length};
 ghost use Rattle.line.specs.Line.{lineStart};
 ghost use Rattle.line.specs.Cell.{cellLine};
-ghost use Rattle.effects.specs.Ready.{Stores};
+ghost use Rattle.effects.specs.Bounds.{Stores};
 use crate::cells::logged;
 use crate::record::conditioned;
 use crate::record::dirtied;

@@ -24,7 +24,7 @@ use Rattle.board.specs.Causes.{causes, badRecord, badRows, placePast, noWorker,
 use Rattle.predicate.proofs.Bools.{or-left, or-right, and-both, and-not, not-off}
 use Rattle.board.proofs.Laws.Taken.{standsAt, passed, limits-in, record-within, record-cells}
 use Rattle.causes.proofs.Memory.{whole}
-use Rattle.effects.specs.Ready.{Rows, Restarts, Formats, Recovers, Checkpoints, Stores}
+use Rattle.effects.specs.Bounds.{Rows, Restarts, Formats, Recovers, Checkpoints, Stores}
 use Rattle.board.specs.Next.{Taken}
 
 -- ---- the record and the rows

@@ -6,14 +6,14 @@ use Rattle.line.specs.Line.{lineStart}
 use Rattle.line.specs.Cell.{cellLine}
 
 -- The cache holds cell `c`, whose number has four digits at most.
-pub record Held (cache : List ℕ) (c : ℕ) : Type 0 where
+pub record InCache (cache : List ℕ) (c : ℕ) : Type 0 where
   pub short : c < 10000
   pub inside : lineStart (cellLine c) + 8 ≤ length cache
 
 -- The cache holds every cell of the list.
-abbrev pub AllHeld : List ℕ → List ℕ → Type 0
-AllHeld cache cells = (i : ℕ) → i < length cells → Held cache (getD cells i 0)
+abbrev pub AllInCache : List ℕ → List ℕ → Type 0
+AllInCache cache cells = (i : ℕ) → i < length cells → InCache cache (getD cells i 0)
 
 -- The cache holds every cell below `n`.
-abbrev pub HeldUnder : List ℕ → ℕ → Type 0
-HeldUnder cache n = (c : ℕ) → c < n → Held cache c
+abbrev pub InCacheUnder : List ℕ → ℕ → Type 0
+InCacheUnder cache n = (c : ℕ) → c < n → InCache cache c

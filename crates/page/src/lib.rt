@@ -10,14 +10,14 @@ ghost use Rattle.text.specs.Writing.{put};
 ghost use Rattle.board.specs.Board.{shaped, cells, rowWords};
 ghost use Rattle.board.specs.Next.{lent};
 ghost use Rattle.board.specs.Page.{pageText, pageBytes, PagePerformed};
-ghost use Rattle.page.specs.Cells.{HeldUnder};
+ghost use Rattle.page.specs.Cells.{InCacheUnder};
 use board::State;
 use causes::TAKEN;
 use engine::Answer;
 
 // The page of as many cells as the row `cells` has room for, written at the front of the text row. `spare` is as long.
 fn put_ordered(cache: &[u64], cells: &mut [u16], spare: &mut [u16], text: &mut [u8])
-    requires { ⌜ (length (now cells) ≤ 1022) × (length (now spare) ≡ length (now cells)) × HeldUnder (now cache) (length (now cells)) × (68 * (length (now cells) + 1) ≤ length (now text)) ⌝ }
+    requires { ⌜ (length (now cells) ≤ 1022) × (length (now spare) ≡ length (now cells)) × InCacheUnder (now cache) (length (now cells)) × (68 * (length (now cells) + 1) ≤ length (now text)) ⌝ }
     ensures { λ _. ⌜ now (text .exit) ≡ put (now (text .entry)) 0 (pageText (now (cache .entry)) (length (now (cells .entry)))) ⌝ }
 {
     order::number(cells);

@@ -6,7 +6,7 @@ ghost use Prim.Native.Nat.{_+_, _*_, _<_, _≤_};
 ghost use Rattle.text.specs.Numbers.{numberText};
 ghost use Rattle.text.specs.Writing.{put, Put};
 ghost use Rattle.board.specs.Page.{lineText, headingText, cellText};
-ghost use Rattle.page.specs.Cells.{Held, AllHeld};
+ghost use Rattle.page.specs.Cells.{InCache, AllInCache};
 use line::Field;
 
 // The heading, at the front of the row.
@@ -43,7 +43,7 @@ fn put_line(text: &mut [u8], at: usize, cell: u16, record: u64, backup: u64, mar
 
 // The line of a cell, from `at` on. Gives where it ends.
 fn put_cell(cache: &[u64], cell: u16, text: &mut [u8], at: usize) -> usize
-    requires { ⌜ Held (now cache) cell × (at + 68 ≤ length (now text)) ⌝ }
+    requires { ⌜ InCache (now cache) cell × (at + 68 ≤ length (now text)) ⌝ }
     ensures { λ r. ⌜ Put (now (text .entry)) at (cellText (now (cache .entry)) cell) (now (text .exit)) r × (r ≡ at + 68) ⌝ }
 {
     let c = cell as usize;
@@ -55,7 +55,7 @@ fn put_cell(cache: &[u64], cell: u16, text: &mut [u8], at: usize) -> usize
 
 // A line for each cell, in the order of the cells lent, behind the heading.
 pub fn put_cells(cache: &[u64], cells: &[u16], text: &mut [u8])
-    requires { ⌜ AllHeld (now cache) (now cells) × (68 * (length (now cells) + 1) ≤ length (now text)) ⌝ }
+    requires { ⌜ AllInCache (now cache) (now cells) × (68 * (length (now cells) + 1) ≤ length (now text)) ⌝ }
     ensures { λ _. ⌜ now (text .exit) ≡ put (now (text .entry)) 68 (flatten (map (cellText (now (cache .entry))) (now (cells .entry)))) ⌝ }
 {
     let mut end = 68;

@@ -26,17 +26,17 @@ take-replicate n k v h =
 -- ---- a row zeroed word by word
 
 -- The first `i` words are zeroed.
-pub record Zeroed (row now : List ℕ) (i : ℕ) : Type 0 where
+pub record ZeroedUpTo (row now : List ℕ) (i : ℕ) : Type 0 where
   pub within : i ≤ length row
   pub holds : now ≡ replicate i 0 ++ drop i row
   pub size : length now ≡ length row
 
 -- Before the first word.
-pub zeroed-none : (row : List ℕ) → Zeroed row row 0
+pub zeroed-none : (row : List ℕ) → ZeroedUpTo row row 0
 zeroed-none row = record { within = omega arith; holds = fill-none row 0; size = refl }
 
 -- A word more.
-pub zeroed-more : {row now : List ℕ} {i : ℕ} → Zeroed row now i → i < length row → Zeroed row (set now i 0) (i + 1)
+pub zeroed-more : {row now : List ℕ} {i : ℕ} → ZeroedUpTo row now i → i < length row → ZeroedUpTo row (set now i 0) (i + 1)
 zeroed-more {row} {now} {i} z h =
     record {
       within = omega arith;
@@ -45,7 +45,7 @@ zeroed-more {row} {now} {i} z h =
     }
 
 -- All of them.
-pub zeroed-all : {row now : List ℕ} {i : ℕ} → Zeroed row now i → length row ≤ i → now ≡ replicate (length row) 0
+pub zeroed-all : {row now : List ℕ} {i : ℕ} → ZeroedUpTo row now i → length row ≤ i → now ≡ replicate (length row) 0
 zeroed-all {row} {now} {i} z h =
     let all : i ≡ length row = omega (arith, z .within) in
     z .holds

@@ -10,7 +10,7 @@ ghost use Prim.Native.Nat.{_≤_};
 ghost use lib.ListN.{length};
 ghost use Rattle.console.specs.Pieces.{fed, carriedBy, Ready};
 use console::answers;
-use console::answers::Progress;
+use console::answers::Ongoing;
 use console::printing;
 use libc::STDERR_FILENO;
 use libc::STDIN_FILENO;
@@ -19,7 +19,7 @@ use script::Program;
 
 // What is carried on, and whether to go on.
 struct Reached {
-    progress: Progress,
+    progress: Ongoing,
     more: bool,
 }
 
@@ -63,7 +63,7 @@ fn show(program: Program, out: &[u8], n: usize) -> bool
 // A piece, answered and written as much at a time as the buffer holds.
 fn converse(
     program: Program,
-    progress: Progress,
+    progress: Ongoing,
     memory: &mut [u64; 4104],
     cache: &mut [u64; 4104],
     line: &mut [u8; 80],
@@ -105,7 +105,7 @@ fn refuse(number: u8) {
 
 // The page of the board that the input leaves, put into the text row and written.
 fn print_page(
-    progress: Progress,
+    progress: Ongoing,
     memory: &mut [u64; 4104],
     cache: &mut [u64; 4104],
     line: &mut [u8; 80],
@@ -125,7 +125,7 @@ fn print_page(
 // The end of the input: the last line is answered, where it lacks its line feed; the page program prints the page.
 fn finish(
     program: Program,
-    progress: Progress,
+    progress: Ongoing,
     memory: &mut [u64; 4104],
     cache: &mut [u64; 4104],
     line: &mut [u8; 80],
@@ -145,7 +145,7 @@ fn finish(
 // Read, answer, write.
 fn turn(
     program: Program,
-    progress: Progress,
+    progress: Ongoing,
     memory: &mut [u64; 4104],
     cache: &mut [u64; 4104],
     line: &mut [u8; 80],

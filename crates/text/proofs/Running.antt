@@ -53,7 +53,7 @@ unit-most {from} {to} {scale} {s} r k some h =
 -- ---- what is written
 
 -- The places above `k` are written, and `left` is what they leave of `s`.
-pub record Run (row : List ℕ) (end from to scale s : ℕ) (out : List ℕ) (left k : ℕ) : Type 0 where
+pub record DigitRun (row : List ℕ) (end from to scale s : ℕ) (out : List ℕ) (left k : ℕ) : Type 0 where
   pub value : ℕ
   pub whole : s ≡ value * (scale * 10 ^ k) + left
   pub under : left < scale * 10 ^ k
@@ -64,7 +64,7 @@ pub record Run (row : List ℕ) (end from to scale s : ℕ) (out : List ℕ) (le
   pub size : length out ≡ length row
 
 -- Nothing is written yet.
-pub run-begins : {row : List ℕ} {end from to scale s : ℕ} → Runs from to scale s → Run row end from to scale s row s from
+pub run-begins : {row : List ℕ} {end from to scale s : ℕ} → Runs from to scale s → DigitRun row end from to scale s row s from
 unfolding lastDigits
 run-begins {row} {end} {from} {to} {scale} {s} r =
     let here : 0 ≡ from - from = omega arith in
@@ -81,11 +81,11 @@ run-begins {row} {end} {from} {to} {scale} {s} r =
     }
 
 -- All is written that was to be.
-pub run-ends : {row : List ℕ} {end from to scale s : ℕ} {out : List ℕ} {left k : ℕ} → Run row end from to scale s out left k → k ≤ to →
+pub run-ends : {row : List ℕ} {end from to scale s : ℕ} {out : List ℕ} {left k : ℕ} → DigitRun row end from to scale s out left k → k ≤ to →
     (left ≡ s % (scale * 10 ^ to)) × Put row (end - from) (lastDigits (from - to) (s / (scale * 10 ^ to))) out (end - to)
 run-ends {row} {end} {from} {to} {scale} {s} {out} {left} {k} w h =
     let here : k ≡ to = omega (arith, w .low) in
-    let at : Run row end from to scale s out left to = subst (Run row end from to scale s out left) here w in
+    let at : DigitRun row end from to scale s out left to = subst (DigitRun row end from to scale s out left) here w in
     let u = scale * 10 ^ to in (
       sym (remainder s (at .value) u left (at .whole) (at .under)),
       subst (λ (n : ℕ). Put row (end - from) (lastDigits (from - to) n) out (end - to)) (sym (quotient s (at .value) u left (at .whole) (at .under))) (at .put),
@@ -118,7 +118,7 @@ module _ (left u : ℕ) (even : left % 16 ≡ 0) (unit : u % 16 ≡ 0) (under : 
       omega (arith, parts, add-mul (10 * value) (left / u) u, mul-assoc 10 value u, mul-left-comm value 10 u)
 
 -- The next digit can be counted by the unit that the table gives.
-pub countable : {row : List ℕ} {end from to scale s : ℕ} {out : List ℕ} {left k : ℕ} (p : ℕ) → p ≡ 10 ^ (k - 1) → Runs from to scale s → Run row end from to scale s out left k → to < k →
+pub countable : {row : List ℕ} {end from to scale s : ℕ} {out : List ℕ} {left k : ℕ} (p : ℕ) → p ≡ 10 ^ (k - 1) → Runs from to scale s → DigitRun row end from to scale s out left k → to < k →
     (left % 16 ≡ 0) × (scale * p % 16 ≡ 0) × (left < 10 * (scale * p)) × (scale * p ≤ 10 ^ 18)
 countable {row} {end} {from} {to} {scale} {s} {out} {left} {k} p e runs w more =
     subst (λ (n : ℕ). (left % 16 ≡ 0) × (scale * n % 16 ≡ 0) × (left < 10 * (scale * n)) × (scale * n ≤ 10 ^ 18)) (sym e) (
@@ -130,8 +130,8 @@ countable {row} {end} {from} {to} {scale} {s} {out} {left} {k} p e runs w more =
 
 -- One place more is written.
 pub run-more : {row : List ℕ} {end from to scale s : ℕ} {out : List ℕ} {left k : ℕ} (next : ℕ) → Runs from to scale s → from ≤ end → end ≤ length row →
-    Run row end from to scale s out left k → to < k → next ≡ left % (scale * 10 ^ (k - 1)) + left / (scale * 10 ^ (k - 1)) →
-    Run row end from to scale s (set out (end - k) ('0' + next % 16)) (next - next % 16) (k - 1)
+    DigitRun row end from to scale s out left k → to < k → next ≡ left % (scale * 10 ^ (k - 1)) + left / (scale * 10 ^ (k - 1)) →
+    DigitRun row end from to scale s (set out (end - k) ('0' + next % 16)) (next - next % 16) (k - 1)
 run-more {row} {end} {from} {to} {scale} {s} {out} {left} {k} next runs fits room w more e =
     let u = scale * 10 ^ (k - 1) in
     let down : scale * 10 ^ k ≡ 10 * u = unit-down scale k (omega arith) in

@@ -21,7 +21,7 @@ use Rattle.board.specs.declared.Phase.the-variants.{Running}
 use Rattle.board.specs.declared.Call.the-variants.{Step}
 use Rattle.board.specs.Board.{Board}
 use Rattle.board.specs.State.{conditionOf, quiescent, anyWorker, isRunning, placed, dirtyCount}
-use Rattle.board.specs.Checkpoint.{Act, writeLine, storeEpoch, writeHeader, release, planned, progress, acts, storesEpoch}
+use Rattle.board.specs.Checkpoint.{Act, writeLine, storeEpoch, writeHeader, release, lineActs, lastActs, planned, progress, acts, storesEpoch}
 use Rattle.board.specs.Causes.{causes, placePast}
 use Rattle.board.specs.Effects.{performAct, performFirst, step, effect}
 use Rattle.board.specs.Machine.{Machine, markedCount, counted, completed, dropped, checkpointStep, stepped, beginning, finishesFormat, feed}
@@ -32,14 +32,7 @@ use Rattle.board.specs.Next.{Taken}
 
 -- ---- the acts by their places
 
--- The dirty lines' acts.
-abbrev lineActs : Board → List Act
-lineActs b = map (λ p. writeLine (nth (b .state .dirty) p)) (numbersUnder (dirtyCount (b .state)))
-
--- The last three.
-abbrev lastActs : List Act
-lastActs = storeEpoch ∷ writeHeader ∷ release ∷ []
-
+-- There is one act a dirty line.
 line-acts-length : (b : Board) → length (lineActs b) ≡ dirtyCount (b .state)
 line-acts-length b = length-map (numbersUnder (dirtyCount (b .state))) (λ p. writeLine (nth (b .state .dirty) p)) ∙ under-length (dirtyCount (b .state))
 

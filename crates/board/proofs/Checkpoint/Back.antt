@@ -16,7 +16,7 @@ use Rattle.board.specs.Statements.{SameSpare}
 use Rattle.board.proofs.Laws.View.{view, logs, next-epoch, sized-back}
 use Rattle.board.proofs.Invariant.{SameSizes, Undoes, Kept, Stage, early, gap, late, Inv}
 use Rattle.board.proofs.Laws.Rows.{epoch-back, epoch-back-header, spare-back, spare-backed, sizes-back}
-use Rattle.board.proofs.Checkpoint.Run.{Carried, RunningRun, inv-running}
+use Rattle.board.proofs.Checkpoint.Run.{Preserved, RunningRun, inv-running}
 use Rattle.board.proofs.Checkpoint.Memory.{undoes-same, kept-same, kept-back, kept-next, undoes-next}
 use Rattle.board.proofs.Checkpoint.Stages.{moved, remade, Leaves, running-moved, late-back}
 
@@ -49,7 +49,7 @@ module _ (r : Run) (s : RunningRun r) (place steps : ℕ) {left : List Act} (lea
       (λ on. ap (λ (ys : List Act). steps + length ys) (leaves (writtenBack i (r .board))) ∙ agree on) u stage)
 
   -- A write-back that leaves memory's epoch: recovery gives what it gave.
-  pub quiet-back : (i : ℕ) → i ≤ σ .lines → (i ≡ 0 → epochOf (r .board .cache) ≡ epochOf (r .board .memory)) → (xs : Location → ℕ) → ((u : Location) → Has σ u → r .machine .checkpointed u ≡ xs u) → Stage σ (moved (r .board) (writtenBack i (r .board)) place) (remade (r .machine) xs steps) → Carried false r (backRun r i place xs steps crashed)
+  pub quiet-back : (i : ℕ) → i ≤ σ .lines → (i ≡ 0 → epochOf (r .board .cache) ≡ epochOf (r .board .memory)) → (xs : Location → ℕ) → ((u : Location) → Has σ u → r .machine .checkpointed u ≡ xs u) → Stage σ (moved (r .board) (writtenBack i (r .board)) place) (remade (r .machine) xs steps) → Preserved false r (backRun r i place xs steps crashed)
   quiet-back i h e xs same stage =
       let z = s .inv .sizes in
       let v = s .running .rows in
@@ -66,7 +66,7 @@ module _ (r : Run) (s : RunningRun r) (place steps : ℕ) {left : List Act} (lea
       }
 
   -- Line 0's write-back after the epoch's store completes the checkpoint, and done again changes nothing.
-  pub header-back : r .board .state .requested ≡ true → length (acts (r .board)) ≤ 2 → 1 ≤ length left → length left ≤ 2 → Stage σ (r .board) (r .machine) → Carried false r (backRun r 0 place (r .machine .current) steps crashed)
+  pub header-back : r .board .state .requested ≡ true → length (acts (r .board)) ≤ 2 → 1 ≤ length left → length left ≤ 2 → Stage σ (r .board) (r .machine) → Preserved false r (backRun r 0 place (r .machine .current) steps crashed)
   header-back on past low high (early e) = absurd (omega (arith, e .left))
   header-back on past low high (gap g) =
       let z = s .inv .sizes in

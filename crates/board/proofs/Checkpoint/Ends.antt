@@ -99,11 +99,11 @@ step-taken r g =
 -- ---- each step leads to the next
 
 -- The steps from board `b` end, and leave those away that were.
-abbrev Ends : ℕ → Board → Type 0
-Ends n b = EndsIn n b × KeepsAway (b .state) (stepsFrom n b .state)
+abbrev EndsAway : ℕ → Board → Type 0
+EndsAway n b = EndsIn n b × KeepsAway (b .state) (stepsFrom n b .state)
 
 -- The steps after one that keeps the workers.
-ends-after : (n : ℕ) (b d : Board) → Taken Step b → next Step b ≡ d → d .state .worker ≡ b .state .worker → Ends n d → Ends (suc n) b
+ends-after : (n : ℕ) (b d : Board) → Taken Step b → next Step b ≡ d → d .state .worker ≡ b .state .worker → EndsAway n d → EndsAway (suc n) b
 unfolding stepsFrom
 ends-after n b d t e same rest = (
   ends-more n b d t e (rest .0),
@@ -129,7 +129,7 @@ awaited-on r {memory = memory} {cache = cache} g p q =
     )
 
 -- The next step, where the steps after it end.
-step-ends : (n : ℕ) (r : Run) (xs : List Act) → Awaited r → acts (r .board) ≡ xs → Remains (r .board) xs → length xs ≡ suc n → (Awaited (afterTaken Step r) → length (acts (effect Step (r .board))) ≡ n → Ends n (effect Step (r .board))) → Ends (suc n) (r .board)
+step-ends : (n : ℕ) (r : Run) (xs : List Act) → Awaited r → acts (r .board) ≡ xs → Remains (r .board) xs → length xs ≡ suc n → (Awaited (afterTaken Step r) → length (acts (effect Step (r .board))) ≡ n → EndsAway n (effect Step (r .board))) → EndsAway (suc n) (r .board)
 unfolding stepsFrom AllTaken performAct performFirst
 step-ends n r xs g p left e rest = by left p e
   where
@@ -139,24 +139,24 @@ step-ends n r xs g p left e rest = by left p e
     t : Taken Step b
     t = step-taken r g
 
-    further : {later : List Act} → length later ≡ n → Awaited (afterTaken Step r) × (acts (effect Step b) ≡ later) × (effect Step b .state .worker ≡ b .state .worker) → Ends (suc n) b
+    further : {later : List Act} → length later ≡ n → Awaited (afterTaken Step r) × (acts (effect Step b) ≡ later) × (effect Step b .state .worker ≡ b .state .worker) → EndsAway (suc n) b
     further q on = ends-after n b (effect Step b) t (taken-next Step b t) (on .2) (rest (on .0) (ap length (on .1) ∙ q))
 
-    last : (k : ℕ) → k ≡ 0 → next Step b ≡ stated (released (b .state)) b → Ends (suc k) b
+    last : (k : ℕ) → k ≡ 0 → next Step b ≡ stated (released (b .state)) b → EndsAway (suc k) b
     last k z q =
-        subst (λ (j : ℕ). Ends (suc j) b) (sym z) (
+        subst (λ (j : ℕ). EndsAway (suc j) b) (sym z) (
           ends-more zero b (stated (released (b .state)) b) t q (tt, ap isRunning (g .phase), refl),
           subst (λ (x : Board). KeepsAway (b .state) (x .state)) (sym q) (released-away (b .state)),
         )
 
-    by : {ys : List Act} → Remains b ys → acts b ≡ ys → length ys ≡ suc n → Ends (suc n) b
+    by : {ys : List Act} → Remains b ys → acts b ≡ ys → length ys ≡ suc n → EndsAway (suc n) b
     by (lineNext later low three) q f = further (omega (arith, f)) (awaited-on r g q refl)
     by epochNext q f = further (omega (arith, f)) (awaited-on r g q refl)
     by headerNext q f = further (omega (arith, f)) (awaited-on r g q refl)
     by releaseNext q f = last n (omega (arith, f)) (taken-next Step b t ∙ effect-acts b (g .phase) q)
 
 -- As many steps as acts are left lead to the release.
-ends : (n : ℕ) (r : Run) → Awaited r → length (acts (r .board)) ≡ n → Ends n (r .board)
+ends : (n : ℕ) (r : Run) → Awaited r → length (acts (r .board)) ≡ n → EndsAway n (r .board)
 ends zero r g e = absurd (omega (arith, some-left (running-run r (g .inv) (g .uncut) (g .phase) .running .checkpoint .stage)))
 ends (suc n) r g e = step-ends n r (acts (r .board)) g refl (left-of r g) e (λ h f. ends n (afterTaken Step r) h f)
 

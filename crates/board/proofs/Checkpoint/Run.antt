@@ -20,7 +20,7 @@ use Rattle.board.proofs.Laws.Dirty.{dirty-count}
 use Rattle.board.proofs.Invariant.{Kept, Lengths, RunningInv, InPhase, Inv}
 
 -- What leads from run `r` to run `r′`, a format's step or not, carries the invariant over, and does to the last checkpoint what is claimed of it.
-pub record Carried (format : Bool) (r r′ : Run) : Type 0 where
+pub record Preserved (format : Bool) (r r′ : Run) : Type 0 where
   pub keeps : Inv r′
   pub completion : Completes format r r′
 
@@ -37,7 +37,7 @@ quiet r r′ m z v =
     word k = ap (λ (row : List ℕ). getD row k 0) m
 
 -- The invariant is kept, and nothing of the last checkpoint changes.
-pub quietly : {r r′ : Run} → Inv r′ → r′ .board .memory ≡ r .board .memory → r′ .machine .shape ≡ r .machine .shape → ((u : Location) → r′ .machine .checkpointed u ≡ r .machine .checkpointed u) → Carried false r r′
+pub quietly : {r r′ : Run} → Inv r′ → r′ .board .memory ≡ r .board .memory → r′ .machine .shape ≡ r .machine .shape → ((u : Location) → r′ .machine .checkpointed u ≡ r .machine .checkpointed u) → Preserved false r r′
 quietly {r} {r′} i m z v = record { keeps = i; completion = inl (quiet r r′ m z v) }
 
 -- The only phase in which the board runs.

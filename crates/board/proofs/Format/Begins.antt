@@ -18,7 +18,7 @@ use Rattle.predicate.proofs.Bools.{clash}
 use Rattle.board.proofs.Laws.Takes.{takes-none}
 use Rattle.board.proofs.Invariant.{Inv}
 use Rattle.board.proofs.Laws.Taken.{phaseBars, phase-passed, performed-taken, performed-refused, page-board}
-use Rattle.board.proofs.Format.Board.{Formats, Fresh, format-begins, erasing-step, format-erases, finishing-step, format-finishes}
+use Rattle.board.proofs.Format.Board.{InFormat, Fresh, format-begins, erasing-step, format-erases, finishing-step, format-finishes}
 use Rattle.board.proofs.Keeps.FormatStep.{fresh-inv}
 use Rattle.board.proofs.Keeps.RecoveryStart.{recovery-begins}
 
@@ -48,31 +48,31 @@ format-refuses k b p o t = barred (kind k) o (phase-passed k b t)
 -- ---- a format taken to its end
 
 -- A format ends once the steps left to it are taken, whatever else is called between.
-pub format-taken : (σ : Shape) {n : ℕ} {b b′ : Board} → Takes n b b′ → Formats σ b → b .state .place + n ≡ σ .lines + 2 → Fresh σ b′
+pub format-taken : (σ : Shape) {n : ℕ} {b b′ : Board} → Takes n b b′ → InFormat σ b → b .state .place + n ≡ σ .lines + 2 → Fresh σ b′
 format-taken σ (finished {b = b}) f e = absurd (omega (arith, f .format .within))
 format-taken σ (steps {n = n} {b = b} p rest) f e =
     elim (decLe (b .state .place) (σ .lines)) [
       | yes h ↦
           let same = performed-taken Step b p refl .1 ∙ erasing-step σ b f h in
           let after = format-erases σ b f h in
-          format-taken σ rest (subst (λ (d : Board). Formats σ d) (sym same) (after .formats)) (ap (λ (d : Board). d .state .place + n) same ∙ omega arith)
+          format-taken σ rest (subst (λ (d : Board). InFormat σ d) (sym same) (after .formats)) (ap (λ (d : Board). d .state .place + n) same ∙ omega arith)
       | no h ↦
           let last : b .state .place ≡ σ .lines + 1 = omega (arith, f .format .within) in
           subst (λ (d : Board). Fresh σ d) (sym (performed-taken Step b p refl .1 ∙ finishing-step σ b f last) ∙ takes-none rest (omega arith)) (format-finishes σ b f last)
     ]
 format-taken σ (between {n = n} {number = number} k {b = b} p o rest) f e =
     let same = performed-refused k b p (λ z. format-refuses k b (f .phase) (o z) (performed-taken k b p z .0)) in
-    format-taken σ rest (subst (λ (d : Board). Formats σ d) (sym same) f) (ap (λ (d : Board). d .state .place + suc n) same ∙ e)
+    format-taken σ rest (subst (λ (d : Board). InFormat σ d) (sym same) f) (ap (λ (d : Board). d .state .place + suc n) same ∙ e)
 format-taken σ (paged {n = n} text left {b = b} p rest) f e =
     let same = page-board b text p in
-    format-taken σ rest (subst (λ (d : Board). Formats σ d) (sym same) f) (ap (λ (d : Board). d .state .place + suc n) same ∙ e)
+    format-taken σ rest (subst (λ (d : Board). InFormat σ d) (sym same) f) (ap (λ (d : Board). d .state .place + suc n) same ∙ e)
 
 -- A started format and its steps leave a fresh board.
 pub format-fresh : (l w : ℕ) (b : Board) {value : ℕ} {d b′ : Board} → Performed (FormatStart l w) b 0 value d → Takes (formatSteps l) d b′ → Fresh (shaped l) b′
 format-fresh l w b p takes =
     let (t, same) = performed-taken (FormatStart l w) b p refl in
     let begun = format-begins l w b t in
-    format-taken (shaped l) takes (subst (λ (x : Board). Formats (shaped l) x) (sym same) (begun .0))
+    format-taken (shaped l) takes (subst (λ (x : Board). InFormat (shaped l) x) (sym same) (begun .0))
     (ap (λ (x : Board). x .state .place + formatSteps l) same ∙ omega (arith, begun .1))
 
 -- The invariant holds where a history begins.

@@ -29,7 +29,7 @@ use Rattle.board.proofs.Format.Rows.{zeroed-none, sized-erased, word-er
 use Rattle.board.specs.Next.{Taken}
 
 -- A board in a format.
-pub record Formats (σ : Shape) (b : Board) : Type 0 where
+pub record InFormat (σ : Shape) (b : Board) : Type 0 where
   pub sizes : Lengths σ (b .memory) (b .cache)
   pub format : FormatInv σ b
   pub phase : b .state .phase ≡ Formatting
@@ -53,7 +53,7 @@ unfolding standsAt causes
 start-sizes l w b t = rows-sized (shaped l) b (limits-in (shaped l) w (passed (FormatStart l w) b t 1) .shape) (passed (FormatStart l w) b t 4)
 
 -- A taken format's start leaves a board in a format, at its beginning.
-pub format-begins : (l w : ℕ) (b : Board) → Taken (FormatStart l w) b → Formats (shaped l) (effect (FormatStart l w) b) × (effect (FormatStart l w) b .state .place ≡ 0)
+pub format-begins : (l w : ℕ) (b : Board) → Taken (FormatStart l w) b → InFormat (shaped l) (effect (FormatStart l w) b) × (effect (FormatStart l w) b .state .place ≡ 0)
 unfolding standsAt causes effect
 format-begins l w b t = (
   record {
@@ -83,7 +83,7 @@ abbrev pub finishing : Board → Board
 finishing b = inBoth 0 (headerWords 1 (shapeOf (b .state)) (b .state .workers)) (opened (b .state) empty) b
 
 -- What a format's step does, by its place.
-format-step : (σ : Shape) (b : Board) → Formats σ b → effect Step b ≡ cond (leb (b .state .place) (b .state .lines)) (erasing b) (finishing b)
+format-step : (σ : Shape) (b : Board) → InFormat σ b → effect Step b ≡ cond (leb (b .state .place) (b .state .lines)) (erasing b) (finishing b)
 unfolding effect step formatStep
 format-step σ b f = ap (λ (p : Phase). step p (b .state) b) (f .phase)
 
@@ -91,18 +91,18 @@ format-step σ b f = ap (λ (p : Phase). step p (b .state) b) (f .phase)
 
 -- What a format's step that is not the last leaves.
 pub record Erased (σ : Shape) (b b′ : Board) : Type 0 where
-  pub formats : Formats σ b′
+  pub formats : InFormat σ b′
   pub place : b′ .state .place ≡ b .state .place + 1
   pub epoch : epochOf (b′ .memory) ≡ 0
   pub spare : Spare σ (λ i. cond (eqb (i / 8) (b .state .place)) 0 (getD (b .memory) i 0)) (b′ .memory)
 
 -- Up to place L a format's step erases a line.
-pub erasing-step : (σ : Shape) (b : Board) → Formats σ b → b .state .place ≤ σ .lines → effect Step b ≡ erasing b
+pub erasing-step : (σ : Shape) (b : Board) → InFormat σ b → b .state .place ≤ σ .lines → effect Step b ≡ erasing b
 erasing-step σ b f h =
     format-step σ b f ∙ chosen (leb (b .state .place) (b .state .lines)) (erasing b) (finishing b) (le-leb (b .state .place) (b .state .lines) (omega (arith, same-lines (f .format .own .shape))))
 
 -- The board is then still in its format, one line further.
-pub format-erases : (σ : Shape) (b : Board) → Formats σ b → b .state .place ≤ σ .lines → Erased σ b (erasing b)
+pub format-erases : (σ : Shape) (b : Board) → InFormat σ b → b .state .place ≤ σ .lines → Erased σ b (erasing b)
 format-erases σ b f h =
     let p = b .state .place in
     let zm = f .sizes .memory in
@@ -145,7 +145,7 @@ pub record Fresh (σ : Shape) (b : Board) : Type 0 where
   pub phase : b .state .phase ≡ Running
 
 -- At place L + 1 a format's step stores the header and opens the board.
-pub finishing-step : (σ : Shape) (b : Board) → Formats σ b → b .state .place ≡ σ .lines + 1 → effect Step b ≡ finishing b
+pub finishing-step : (σ : Shape) (b : Board) → InFormat σ b → b .state .place ≡ σ .lines + 1 → effect Step b ≡ finishing b
 finishing-step σ b f e =
     format-step σ b f ∙ passedOver (leb (b .state .place) (b .state .lines)) (erasing b) (finishing b) (lt-leb (b .state .place) (b .state .lines) (omega (arith, same-lines (f .format .own .shape))))
 
@@ -193,7 +193,7 @@ fresh-rows σ w memory cache zm zc fm fc o =
     }
 
 -- The last step, with the shape read in the state record.
-own-finishes : (b : Board) → Formats (shapeOf (b .state)) b → b .state .place ≡ b .state .lines + 1 → Fresh (shapeOf (b .state)) (finishing b)
+own-finishes : (b : Board) → InFormat (shapeOf (b .state)) b → b .state .place ≡ b .state .lines + 1 → Fresh (shapeOf (b .state)) (finishing b)
 own-finishes b f e =
     let σ = shapeOf (b .state) in
     let w = b .state .workers in
@@ -218,8 +218,8 @@ own-finishes b f e =
     }
 
 -- The board is then as a finished format leaves it, beside a machine that begins.
-pub format-finishes : (σ : Shape) (b : Board) → Formats σ b → b .state .place ≡ σ .lines + 1 → Fresh σ (finishing b)
+pub format-finishes : (σ : Shape) (b : Board) → InFormat σ b → b .state .place ≡ σ .lines + 1 → Fresh σ (finishing b)
 format-finishes σ b f e =
     let same = f .format .own .shape in
     subst (λ (τ : Shape). Fresh τ (finishing b)) same
-    (own-finishes b (subst (λ (τ : Shape). Formats τ b) (sym same) f) (omega (arith, same-lines (f .format .own .shape))))
+    (own-finishes b (subst (λ (τ : Shape). InFormat τ b) (sym same) f) (omega (arith, same-lines (f .format .own .shape))))

@@ -16,12 +16,12 @@ use Rattle.board.specs.Machine.{formatSteps}
 use Rattle.board.specs.Statements.{stepsFrom, AllTaken, EndsIn, FormatEnds}
 use Rattle.board.proofs.Laws.Taken.{taken-next, same-lines}
 use Rattle.board.proofs.Laws.Idle.{idle-step-taken, ends-more}
-use Rattle.board.proofs.Format.Board.{Formats, format-begins, erasing, erasing-step, format-erases, finishing, finishing-step}
+use Rattle.board.proofs.Format.Board.{InFormat, format-begins, erasing, erasing-step, format-erases, finishing, finishing-step}
 use Rattle.board.specs.Next.{Taken}
 
 -- A format from its start on, undisturbed: no line is dirty and all workers are free.
 record Alone (σ : Shape) (b : Board) : Type 0 where
-  formats : Formats σ b
+  formats : InFormat σ b
   clean : b .state .dirty ≡ empty
   free : b .state .worker ≡ allFree
 

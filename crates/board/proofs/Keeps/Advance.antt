@@ -29,7 +29,7 @@ use Rattle.board.proofs.Invariant.{BeforeStore, storesLeft, WorkerInv, 
 use Rattle.board.proofs.Laws.Taken.{standsAt, passed, shape-in, afterTaken}
 use Rattle.board.proofs.Laws.Dirty.{dirty-mark}
 use Rattle.board.proofs.Laws.Rows.{epoch-store}
-use Rattle.board.proofs.Checkpoint.Run.{Carried, quietly}
+use Rattle.board.proofs.Checkpoint.Run.{Preserved, quietly}
 use Rattle.board.proofs.Keeps.OnePlace.{LocationInv, location-inv, Change, changedRun, Working, working, one-place}
 use Rattle.board.specs.Next.{Taken}
 
@@ -196,7 +196,7 @@ advanced-same none w m = record { shape = refl; values = λ c. refl }
 advanced-same (update d v left) w m = fewer-same (left - 1) w d v m
 
 -- A taken advance changes nothing of the last checkpoint.
-pub carried-advance : (r : Run) (w : ℕ) → Inv r → r .crashed ≡ false → Taken (Advance w) (r .board) → Carried false r (afterTaken (Advance w) r)
+pub carried-advance : (r : Run) (w : ℕ) → Inv r → r .crashed ≡ false → Taken (Advance w) (r .board) → Preserved false r (afterTaken (Advance w) r)
 unfolding effect feed
 carried-advance r w inv crashed t =
     let same = advanced-same (r .machine .unfinished w) w (r .machine) in

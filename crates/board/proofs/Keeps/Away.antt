@@ -29,7 +29,7 @@ use Rattle.board.proofs.Laws.Taken.{Clear, take, standsAt, passed, afte
 use Rattle.board.proofs.Laws.Workers.{is-free, is-away, condition-at, condition-other}
 use Rattle.board.proofs.Laws.Reading.{running-passes}
 use Rattle.board.proofs.Laws.Count.{at-each}
-use Rattle.board.proofs.Checkpoint.Run.{Carried, is-running, running-run}
+use Rattle.board.proofs.Checkpoint.Run.{Preserved, is-running, running-run}
 use Rattle.board.proofs.Keeps.Quiet.{Alike, carried-workers}
 
 -- ---- what the passed tests say
@@ -98,11 +98,11 @@ module _ (r : Run) (w : ℕ) (k k′ : Condition) (inv : Inv r) (d : r .crashed 
       }
 
   -- The invariant is kept where no checkpoint that has taken a step is held up.
-  moved : (crashed : Bool) → (0 < progress s → AllQuiescent s → AllQuiescent s′) → Carried false r (record { board = stated s′ (r .board); machine = r .machine; crashed = crashed; erased = r .erased })
+  moved : (crashed : Bool) → (0 < progress s → AllQuiescent s → AllQuiescent s′) → Preserved false r (record { board = stated s′ (r .board); machine = r .machine; crashed = crashed; erased = r .erased })
   moved crashed waits = carried-workers r (s .holders) (s′ .worker) crashed inv d on (alike waits)
 
 -- A taken going away: one more is away, so as many hold a checkpoint up as before, or fewer.
-pub carried-go-away : (r : Run) (w : ℕ) → Inv r → r .crashed ≡ false → Taken (GoAway w) (r .board) → Carried false r (afterTaken (GoAway w) r)
+pub carried-go-away : (r : Run) (w : ℕ) → Inv r → r .crashed ≡ false → Taken (GoAway w) (r .board) → Preserved false r (afterTaken (GoAway w) r)
 unfolding standsAt causes effect feed
 carried-go-away r w inv d t =
     let s = r .board .state in
@@ -115,7 +115,7 @@ carried-go-away r w inv d t =
     (λ i o u. ap quiescent (condition-other s w Away i o) ∙ all i u))
 
 -- A taken coming back: by cause 13 no step of a requested checkpoint was taken.
-pub carried-come-back : (r : Run) (w : ℕ) → Inv r → r .crashed ≡ false → Taken (ComeBack w) (r .board) → Carried false r (afterTaken (ComeBack w) r)
+pub carried-come-back : (r : Run) (w : ℕ) → Inv r → r .crashed ≡ false → Taken (ComeBack w) (r .board) → Preserved false r (afterTaken (ComeBack w) r)
 unfolding standsAt causes effect feed
 carried-come-back r w inv d t =
     let s = r .board .state in

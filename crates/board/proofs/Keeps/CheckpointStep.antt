@@ -31,7 +31,7 @@ use Rattle.board.proofs.Laws.Workers.{released-condition}
 use Rattle.board.proofs.Laws.Dirty.{dirty-fine}
 use Rattle.board.proofs.Laws.Parts.{unbegun-part}
 use Rattle.board.proofs.Checkpoint.Memory.{value-back}
-use Rattle.board.proofs.Checkpoint.Run.{Carried, quietly, RunningRun, running-run, inv-running}
+use Rattle.board.proofs.Checkpoint.Run.{Preserved, quietly, RunningRun, running-run, inv-running}
 use Rattle.board.proofs.Checkpoint.Stages.{Leaves, early-back}
 use Rattle.board.proofs.Checkpoint.Back.{quiet-back, header-back}
 use Rattle.board.proofs.Checkpoint.Acts.{Remains, lineNext, epochNext, headerNext, releaseNext, acts-next, none-pending, pending-next, machine-counts, machine-completes, machine-drops, acted, step-acts, step-ready}
@@ -88,16 +88,16 @@ module _ (r : Run) (s : RunningRun r) (on : r .board .state .requested ≡ true)
   eight = limits-in σ (b .state .workers) (s .running .own .limits) .eight
 
   -- A step, from its act with what the machine sees of it.
-  by-act : {act : Act} {later : List Act} (seen : Machine) → acts b ≡ act ∷ later → checkpointStep m ≡ seen → Carried false r (acted r act seen) → Carried false r (afterTaken Step r)
+  by-act : {act : Act} {later : List Act} (seen : Machine) → acts b ≡ act ∷ later → checkpointStep m ≡ seen → Preserved false r (acted r act seen) → Preserved false r (afterTaken Step r)
   by-act {act} seen p q o =
-      subst (Carried false r) (sym (step-acts r (s .phase) (s .running .checkpoint .request ∙ on) p ∙ ap (acted r act) q)) o
+      subst (Preserved false r) (sym (step-acts r (s .phase) (s .running .checkpoint .request ∙ on) p ∙ ap (acted r act) q)) o
 
   -- One step more is counted, and one act fewer is left.
   one-fewer : {act : Act} {later : List Act} → acts b ≡ act ∷ later → b .state .requested ≡ true → m .steps + 1 + length later ≡ markedCount m + 3
   one-fewer p on = omega (arith, steps, ap length p)
 
   -- A dirty line written back.
-  line-carried : {later : List Act} → acts b ≡ writeLine (nth (b .state .dirty) (progress (b .state))) ∷ later → progress (b .state) < dirtyCount (b .state) → 3 ≤ length later → Early σ b m → Carried false r (acted r (writeLine (nth (b .state .dirty) (progress (b .state)))) (counted m))
+  line-carried : {later : List Act} → acts b ≡ writeLine (nth (b .state .dirty) (progress (b .state))) ∷ later → progress (b .state) < dirtyCount (b .state) → 3 ≤ length later → Early σ b m → Preserved false r (acted r (writeLine (nth (b .state .dirty) (progress (b .state)))) (counted m))
   unfolding performAct
   line-carried {later} p low three e =
       let z = s .inv .sizes in
@@ -114,7 +114,7 @@ module _ (r : Run) (s : RunningRun r) (on : r .board .state .requested ≡ true)
       ]) e))
 
   -- The epoch stored.
-  epoch-carried : acts b ≡ storeEpoch ∷ writeHeader ∷ release ∷ [] → Early σ b m → Carried false r (acted r storeEpoch (counted m))
+  epoch-carried : acts b ≡ storeEpoch ∷ writeHeader ∷ release ∷ [] → Early σ b m → Preserved false r (acted r storeEpoch (counted m))
   unfolding performAct
   epoch-carried p e =
       quietly (inv-running (acted r storeEpoch (counted m)) (s .on) (s .phase) (record { limits = z .limits; memory = z .memory; cache = sized-set (b .cache) (epochOf (b .cache) + 1) (z .cache) }) (s .inv .kept (s .on))
@@ -161,14 +161,14 @@ module _ (r : Run) (s : RunningRun r) (on : r .board .state .requested ≡ true)
       same u h = view-header σ (b .cache) 0 (epochOf (b .cache) + 1) u h (omega arith)
 
   -- Line 0 written back.
-  header-step : acts b ≡ writeHeader ∷ release ∷ [] → Carried false r (afterTaken Step r)
+  header-step : acts b ≡ writeHeader ∷ release ∷ [] → Preserved false r (afterTaken Step r)
   unfolding performAct
   header-step p =
       by-act (completed (counted m)) p (machine-completes m (omega (arith, steps, ap length p)))
       (header-back r s next (m .steps + 1) (λ memory. acts-next b memory (b .cache) on p) (one-fewer p) (r .crashed && true) on (omega (arith, ap length p)) (omega arith) (omega arith) (s .running .checkpoint .stage))
 
   -- The workers released.
-  release-step : acts b ≡ release ∷ [] → Late σ b m → Carried false r (afterTaken Step r)
+  release-step : acts b ≡ release ∷ [] → Late σ b m → Preserved false r (afterTaken Step r)
   unfolding performAct
   release-step p e =
       let v = s .running in
@@ -182,7 +182,7 @@ module _ (r : Run) (s : RunningRun r) (on : r .board .state .requested ≡ true)
       })) refl refl (λ u. refl))
 
   -- A step, by the stage and the act that comes next.
-  stage-step : (xs : List Act) → acts b ≡ xs → Remains b xs → Stage σ b m → Carried false r (afterTaken Step r)
+  stage-step : (xs : List Act) → acts b ≡ xs → Remains b xs → Stage σ b m → Preserved false r (afterTaken Step r)
   stage-step xs p (lineNext later low three) (early e) = by-act (counted m) p (machine-counts m (omega (arith, steps, ap length p))) (line-carried p low three e)
   stage-step xs p epochNext (early e) = by-act (counted m) p (machine-counts m (omega (arith, steps, ap length p))) (epoch-carried p e)
   stage-step xs p headerNext (early e) = absurd (omega (arith, e .left, ap length p))
@@ -197,7 +197,7 @@ module _ (r : Run) (s : RunningRun r) (on : r .board .state .requested ≡ true)
   stage-step xs p releaseNext (late e) = release-step p e
 
 -- What a taken step of a running board leaves.
-pub carried-checkpoint-step : (r : Run) → Inv r → r .crashed ≡ false → r .board .state .phase ≡ Running → Taken Step (r .board) → Carried false r (afterTaken Step r)
+pub carried-checkpoint-step : (r : Run) → Inv r → r .crashed ≡ false → r .board .state .phase ≡ Running → Taken Step (r .board) → Preserved false r (afterTaken Step r)
 carried-checkpoint-step r inv d e t =
     let s = running-run r inv d e in
     let now = step-ready (r .board) e t in

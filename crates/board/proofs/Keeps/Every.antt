@@ -19,7 +19,7 @@ use Rattle.predicate.proofs.Bools.{split, clash, decide}
 use Rattle.board.proofs.Invariant.{Inv}
 use Rattle.board.proofs.Laws.Taken.{standsAt, passed, performed-taken, performed-refused, page-board, afterTaken}
 use Rattle.board.proofs.Format.Begins.{begins-inv}
-use Rattle.board.proofs.Checkpoint.Run.{Carried, quietly}
+use Rattle.board.proofs.Checkpoint.Run.{Preserved, quietly}
 use Rattle.board.proofs.Keeps.FormatStart.{carried-format-start}
 use Rattle.board.proofs.Keeps.FormatStep.{carried-format-step}
 use Rattle.board.proofs.Keeps.RecoveryStart.{keeps-recovery-start}
@@ -45,17 +45,17 @@ step-not-off b t e =
     clash (ap isOff e) off
 
 -- A taken step, by the phase.
-carried-step : (r : Run) → Inv r → r .crashed ≡ false → Taken Step (r .board) → Carried (isFormatting (r .board .state .phase)) r (afterTaken Step r)
+carried-step : (r : Run) → Inv r → r .crashed ≡ false → Taken Step (r .board) → Preserved (isFormatting (r .board .state .phase)) r (afterTaken Step r)
 carried-step r i d t = go (r .board .state .phase) refl
   where
-    go : (p : Phase) → r .board .state .phase ≡ p → Carried (isFormatting p) r (afterTaken Step r)
+    go : (p : Phase) → r .board .state .phase ≡ p → Preserved (isFormatting p) r (afterTaken Step r)
     go Off e = absurd (step-not-off (r .board) t e)
     go Formatting e = carried-format-step r i d e
     go Recovering e = carried-recovery-step r i d e
     go Running e = carried-checkpoint-step r i d e t
 
 -- A taken call, where after a cut it is a start.
-carried-call : (k : Call) (r : Run) → Inv r → (r .crashed ≡ true → isStart (kind k) ≡ true) → Taken k (r .board) → Carried (isStep (kind k) && isFormatting (r .board .state .phase)) r (afterTaken k r)
+carried-call : (k : Call) (r : Run) → Inv r → (r .crashed ≡ true → isStart (kind k) ≡ true) → Taken k (r .board) → Preserved (isStep (kind k) && isFormatting (r .board .state .phase)) r (afterTaken k r)
 unfolding effect feed
 carried-call (FormatStart l w) r i a t = carried-format-start r l w i t
 carried-call RecoveryStart r i a t = quietly (keeps-recovery-start r i t) refl refl (λ c. refl)
@@ -73,17 +73,17 @@ carried-call (TakeLock w k) r i a t = carried-take-lock r w k i (uncut r a) t
 carried-call (GiveBackLock w k) r i a t = carried-give-back-lock r w k i (uncut r a) t
 
 -- Whatever happens.
-pub carried : {r r′ : Run} → Inv r → (e : Happens r r′) → Carried (formatStepIn e) r r′
+pub carried : {r r′ : Run} → Inv r → (e : Happens r r′) → Preserved (formatStepIn e) r r′
 unfolding formatStepIn
 carried i (performs {r = r} k number value b p a) =
-    decide (λ (t : Bool). Carried (t && isStep (kind k) && isFormatting (r .board .state .phase)) r (cond t (takenCall k b r) (unfed b r))) (eqb number 0)
+    decide (λ (t : Bool). Preserved (t && isStep (kind k) && isFormatting (r .board .state .phase)) r (cond t (takenCall k b r) (unfed b r))) (eqb number 0)
     (λ t.
     let z = eqb-true number 0 t in
     let done = performed-taken k (r .board) p z in
-    subst (λ (d : Board). Carried (isStep (kind k) && isFormatting (r .board .state .phase)) r (takenCall k d r)) (sym (done .1)) (carried-call k r i (λ c. a c z) (done .0)))
-    (λ t. subst (λ (d : Board). Carried false r (unfed d r)) (sym (performed-refused k (r .board) p (eqb-false number 0 t))) (quietly i refl refl (λ c. refl)))
+    subst (λ (d : Board). Preserved (isStep (kind k) && isFormatting (r .board .state .phase)) r (takenCall k d r)) (sym (done .1)) (carried-call k r i (λ c. a c z) (done .0)))
+    (λ t. subst (λ (d : Board). Preserved false r (unfed d r)) (sym (performed-refused k (r .board) p (eqb-false number 0 t))) (quietly i refl refl (λ c. refl)))
 carried i (pages {r = r} text left number b p) =
-    subst (λ (d : Board). Carried false r (unfed d r)) (sym (page-board (r .board) text p)) (quietly i refl refl (λ c. refl))
+    subst (λ (d : Board). Preserved false r (unfed d r)) (sym (page-board (r .board) text p)) (quietly i refl refl (λ c. refl))
 carried i (cuts {r = r} s cache p) =
     quietly
     (record {

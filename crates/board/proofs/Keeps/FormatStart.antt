@@ -11,7 +11,7 @@ use Rattle.board.specs.Machine.{feed}
 use Rattle.board.specs.Sequence.{Run}
 use Rattle.board.proofs.Invariant.{Kept, Lengths, Inv}
 use Rattle.board.proofs.Laws.Taken.{afterTaken}
-use Rattle.board.proofs.Checkpoint.Run.{Carried, quietly}
+use Rattle.board.proofs.Checkpoint.Run.{Preserved, quietly}
 use Rattle.board.proofs.Format.Board.{start-sizes, format-begins}
 use Rattle.board.specs.Next.{Taken}
 
@@ -37,6 +37,6 @@ module _ (r : Run) (l w : ℕ) (inv : Inv r) (t : Taken (FormatStart l w) (r .bo
       }
 
   -- It changes nothing of the last checkpoint.
-  pub carried-format-start : Carried false r (afterTaken (FormatStart l w) r)
+  pub carried-format-start : Preserved false r (afterTaken (FormatStart l w) r)
   unfolding effect feed
   carried-format-start = quietly keeps-format-start refl (sym same) (λ c. refl)

@@ -22,8 +22,8 @@ use Rattle.board.proofs.Format.Rows.{word-kept}
 use Rattle.predicate.proofs.Bools.{chosen, passedOver, and-both, and-off-right}
 use Rattle.board.proofs.Invariant.{FormatMachine, InPhase, Inv}
 use Rattle.board.proofs.Laws.Taken.{afterTaken}
-use Rattle.board.proofs.Checkpoint.Run.{Carried}
-use Rattle.board.proofs.Format.Board.{Formats, Erased, Fresh, erasing, erasing-step, format-erases, finishing, finishing-step, format-finishes}
+use Rattle.board.proofs.Checkpoint.Run.{Preserved}
+use Rattle.board.proofs.Format.Board.{InFormat, Erased, Fresh, erasing, erasing-step, format-erases, finishing, finishing-step, format-finishes}
 
 -- ---- the machine
 
@@ -41,9 +41,9 @@ erases m e q f =
 -- ---- the run
 
 -- A run whose board, machine and erasure are given by equations.
-carried-of : (r : Run) (d : Bool) {b b′ : Board} {m m′ : Machine} {e e′ : Bool} → b ≡ b′ → m ≡ m′ → e ≡ e′ → Carried true r (record { board = b′; machine = m′; crashed = d; erased = e′ }) → Carried true r (record { board = b; machine = m; crashed = d; erased = e })
+carried-of : (r : Run) (d : Bool) {b b′ : Board} {m m′ : Machine} {e e′ : Bool} → b ≡ b′ → m ≡ m′ → e ≡ e′ → Preserved true r (record { board = b′; machine = m′; crashed = d; erased = e′ }) → Preserved true r (record { board = b; machine = m; crashed = d; erased = e })
 carried-of r d p q s =
-    subst₃ (λ (b : Board) (m : Machine) (e : Bool). Carried true r (record { board = b; machine = m; crashed = d; erased = e })) (sym p) (sym q) (sym s)
+    subst₃ (λ (b : Board) (m : Machine) (e : Bool). Preserved true r (record { board = b; machine = m; crashed = d; erased = e })) (sym p) (sym q) (sym s)
 
 -- A finished format beside the machine at its beginning.
 pub fresh-inv : (σ : Shape) (b : Board) (d : Bool) → Fresh σ b → Inv (record { board = b; machine = beginning σ; crashed = d; erased = false })
@@ -67,7 +67,7 @@ erased-inv b b′ m d s f q n =
     }
 
 -- A format's step keeps the invariant; memory says that there is no board here until the last one, which leaves all values 0.
-pub carried-format-step : (r : Run) → Inv r → r .crashed ≡ false → r .board .state .phase ≡ Formatting → Carried true r (afterTaken Step r)
+pub carried-format-step : (r : Run) → Inv r → r .crashed ≡ false → r .board .state .phase ≡ Formatting → Preserved true r (afterTaken Step r)
 carried-format-step r inv d p =
     elim (decLe (r .board .state .place) (r .machine .shape .lines)) [
       | yes h ↦ erased h
@@ -77,21 +77,21 @@ carried-format-step r inv d p =
     at : InPhase Formatting r
     at = subst (λ (k : Phase). InPhase k r) p (inv .phase d)
 
-    formats : Formats (r .machine .shape) (r .board)
+    formats : InFormat (r .machine .shape) (r .board)
     formats = record { sizes = inv .sizes; format = at .0; phase = p }
 
     beside : FormatMachine r
     beside = at .1
 
     -- the machine and the erasure, by whether the step finishes the format
-    carried : {last : Bool} (b : Board) → finishesFormat (r .machine) ≡ last → effect Step (r .board) ≡ b → Carried true r (record { board = b; machine = cond last (beginning (r .machine .shape)) (counted (r .machine)); crashed = r .crashed && true; erased = not last }) → Carried true r (afterTaken Step r)
+    carried : {last : Bool} (b : Board) → finishesFormat (r .machine) ≡ last → effect Step (r .board) ≡ b → Preserved true r (record { board = b; machine = cond last (beginning (r .machine .shape)) (counted (r .machine)); crashed = r .crashed && true; erased = not last }) → Preserved true r (afterTaken Step r)
     carried b e s next =
         carried-of r (r .crashed && true) s
         (unrequested (r .machine) (beside .request) ∙ ap (λ (k : Bool). cond k (beginning (r .machine .shape)) (counted (r .machine))) e)
         (erases (r .machine) (r .erased) (beside .request) (beside .formatting) ∙ ap not e)
         next
 
-    erased : r .board .state .place ≤ r .machine .shape .lines → Carried true r (afterTaken Step r)
+    erased : r .board .state .place ≤ r .machine .shape .lines → Preserved true r (afterTaken Step r)
     erased h =
         let after = format-erases (r .machine .shape) (r .board) formats h in
         carried (erasing (r .board))
@@ -113,7 +113,7 @@ carried-format-step r inv d p =
         stored-last : shapeOf (r .board .state) ≡ r .machine .shape → (i k : ℕ) → 1 ≤ i → k < 8 → getD (finishing (r .board) .memory) (lineStart i + k) 0 ≡ getD (r .board .memory) (lineStart i + k) 0
         stored-last q = word-kept (r .board .memory) (r .board .state .workers) (subst (λ (σ : Shape). Sized σ (r .board .memory)) (sym q) (inv .sizes .memory))
 
-    finished : r .board .state .place ≡ r .machine .shape .lines + 1 → Carried true r (afterTaken Step r)
+    finished : r .board .state .place ≡ r .machine .shape .lines + 1 → Preserved true r (afterTaken Step r)
     finished e =
         let after = format-finishes (r .machine .shape) (r .board) formats e in
         carried (finishing (r .board))

@@ -13,11 +13,11 @@ use Rattle.locks.specs.Holders.{heldBy, givenBack}
 use Rattle.board.proofs.Invariant.{Inv}
 use Rattle.board.proofs.Laws.Taken.{standsAt, passed, afterTaken, eight-within}
 use Rattle.board.proofs.Laws.Locks.{taken-under, given-back-under}
-use Rattle.board.proofs.Checkpoint.Run.{Carried}
+use Rattle.board.proofs.Checkpoint.Run.{Preserved}
 use Rattle.board.proofs.Keeps.Quiet.{carried-holders}
 
 -- A taken lock: its new holder is under W.
-pub carried-take-lock : (r : Run) (w k : ℕ) → Inv r → r .crashed ≡ false → Taken (TakeLock w k) (r .board) → Carried false r (afterTaken (TakeLock w k) r)
+pub carried-take-lock : (r : Run) (w k : ℕ) → Inv r → r .crashed ≡ false → Taken (TakeLock w k) (r .board) → Preserved false r (afterTaken (TakeLock w k) r)
 unfolding standsAt causes effect feed
 carried-take-lock r w k inv d t =
     let s = r .board .state in
@@ -25,7 +25,7 @@ carried-take-lock r w k inv d t =
     carried-holders r (heldBy (s .holders) k w) _ inv d (pass 2) (taken-under (s .holders) (s .workers) k w (eight-within s (pass 3)) (leb-false (s .workers) w (pass 6)))
 
 -- A lock given back.
-pub carried-give-back-lock : (r : Run) (w k : ℕ) → Inv r → r .crashed ≡ false → Taken (GiveBackLock w k) (r .board) → Carried false r (afterTaken (GiveBackLock w k) r)
+pub carried-give-back-lock : (r : Run) (w k : ℕ) → Inv r → r .crashed ≡ false → Taken (GiveBackLock w k) (r .board) → Preserved false r (afterTaken (GiveBackLock w k) r)
 unfolding standsAt causes effect feed
 carried-give-back-lock r w k inv d t =
     let s = r .board .state in

@@ -70,7 +70,7 @@ changedMachine ch m =
     record { current = ch .current; checkpointed = m .checkpointed; marked = ch .marked; unfinished = changed (m .unfinished) (ch .worker) (ch .unfinished); requested = m .requested; steps = m .steps; formatting = m .formatting; shape = m .shape }
 
 -- What must be shown of a change: nothing but what stands at the place differs, what is put anew fits, and no other worker has an update of the cell.
-pub record Fits (b : Board) (m : Machine) (ch : Change) : Type 0 where
+pub record ChangeFits (b : Board) (m : Machine) (ch : Change) : Type 0 where
   pub only : OnlyAt (m .shape) (ch .place) (b .cache) (ch .cache)
   pub currents : (u : Location) → (placeOf u ≡ ch .place → ⊥) → ch .current u ≡ m .current u
   pub marks : (u : Location) → (placeOf u ≡ ch .place → ⊥) → ch .marked u ≡ m .marked u
@@ -143,7 +143,7 @@ abbrev pub changedRun : Change → Bool → Run → Run
 changedRun ch crashed r =
     record { board = changedBoard ch (r .board); machine = changedMachine ch (r .machine); crashed = crashed; erased = r .erased }
 
-module _ (b : Board) (m : Machine) (ch : Change) (run : RunningInv (m .shape) b m) (ear : Early (m .shape) b m) (unbegun : progress (b .state) ≡ 0) (under : ch .worker < b .state .workers) (fits : Fits b m ch) where
+module _ (b : Board) (m : Machine) (ch : Change) (run : RunningInv (m .shape) b m) (ear : Early (m .shape) b m) (unbegun : progress (b .state) ≡ 0) (under : ch .worker < b .state .workers) (fits : ChangeFits b m ch) where
   -- Every location after a change.
   each-location : (u : Location) → Has (m .shape) u → LocationInv u (epochOf (b .memory)) (m .checkpointed u) (ch .current u) (ch .marked u) (view (b .memory) u) (view (ch .cache) u)
   each-location =
@@ -246,7 +246,7 @@ module _ (b : Board) (m : Machine) (ch : Change) (run : RunningInv (m .shape) b 
       }
 
 -- A change of one worker and at one place that fits keeps the invariant.
-pub one-place : (r : Run) (ch : Change) (crashed : Bool) → Inv r → Working r (ch .worker) → Fits (r .board) (r .machine) ch → Inv (changedRun ch crashed r)
+pub one-place : (r : Run) (ch : Change) (crashed : Bool) → Inv r → Working r (ch .worker) → ChangeFits (r .board) (r .machine) ch → Inv (changedRun ch crashed r)
 one-place r ch crashed inv now fits =
     record {
       sizes = record { limits = inv .sizes .limits; memory = inv .sizes .memory; cache = record { size = fits .only .size ∙ inv .sizes .cache .size } };

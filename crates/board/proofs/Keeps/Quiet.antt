@@ -21,7 +21,7 @@ use Rattle.board.proofs.Laws.Taken.{standsAt, passed, afterTaken}
 use Rattle.board.proofs.Invariant.{HeldUnder, AllQuiescent, WorkerInv, Touches, Stage, early, gap, late, RunningInv, Inv}
 use Rattle.board.specs.Checkpoint.{progress, acts}
 use Rattle.board.proofs.Checkpoint.Acts.{acts-length}
-use Rattle.board.proofs.Checkpoint.Run.{Carried, quietly, is-running, running-run, inv-running}
+use Rattle.board.proofs.Checkpoint.Run.{Preserved, quietly, is-running, running-run, inv-running}
 
 -- The record with other holders and other workers.
 abbrev pub manned : State → ℕ → List Worker → State
@@ -77,7 +77,7 @@ module _ {σ : Shape} (b : Board) (m : Machine) (holders : ℕ) (ws : List Worke
 
 -- A running board with other holders, and other workers that have the same unfinished updates.
 pub carried-workers : (r : Run) (holders : ℕ) (ws : List Worker) (crashed : Bool) → Inv r → r .crashed ≡ false → r .board .state .phase ≡ Running → Alike (r .board .state) holders ws →
-    Carried false r (record { board = stated (manned (r .board .state) holders ws) (r .board); machine = r .machine; crashed = crashed; erased = r .erased })
+    Preserved false r (record { board = stated (manned (r .board .state) holders ws) (r .board); machine = r .machine; crashed = crashed; erased = r .erased })
 carried-workers r holders ws crashed inv d p alike =
     let s = running-run r inv d p in
     quietly
@@ -87,22 +87,22 @@ carried-workers r holders ws crashed inv d p alike =
 
 -- What leaves a running board and the machine as they were, but for the locks' holders.
 pub carried-holders : (r : Run) (holders : ℕ) (crashed : Bool) → Inv r → r .crashed ≡ false → notRunning (r .board) ≡ false → (HeldUnder (r .board .state) → HeldUnder (locked (r .board .state) holders)) →
-    Carried false r (record { board = stated (locked (r .board .state) holders) (r .board); machine = r .machine; crashed = crashed; erased = r .erased })
+    Preserved false r (record { board = stated (locked (r .board .state) holders) (r .board); machine = r .machine; crashed = crashed; erased = r .erased })
 carried-holders r holders crashed inv d on held =
     carried-workers r holders (r .board .state .worker) crashed inv d (is-running (r .board .state .phase) (not-off (isRunning (r .board .state .phase)) on))
     (record { eight = refl; work = λ w h σ cache u i. i; touches = λ w n h t. t; waits = λ h a. a; held = held })
 
 -- What leaves a running board and the machine as they were.
-carried-same : (r : Run) (crashed : Bool) → Inv r → r .crashed ≡ false → notRunning (r .board) ≡ false → Carried false r (record { board = r .board; machine = r .machine; crashed = crashed; erased = r .erased })
+carried-same : (r : Run) (crashed : Bool) → Inv r → r .crashed ≡ false → notRunning (r .board) ≡ false → Preserved false r (record { board = r .board; machine = r .machine; crashed = crashed; erased = r .erased })
 carried-same r crashed inv d on =
     carried-holders r (r .board .state .holders) crashed inv d on (λ h. h)
 
 -- A taken read.
-pub carried-read : (r : Run) (c : ℕ) → Inv r → r .crashed ≡ false → Taken (Read c) (r .board) → Carried false r (afterTaken (Read c) r)
+pub carried-read : (r : Run) (c : ℕ) → Inv r → r .crashed ≡ false → Taken (Read c) (r .board) → Preserved false r (afterTaken (Read c) r)
 unfolding standsAt causes effect feed
 carried-read r c inv d t = carried-same r _ inv d (passed (Read c) (r .board) t 2)
 
 -- A taken count.
-pub carried-count : (r : Run) → Inv r → r .crashed ≡ false → Taken Count (r .board) → Carried false r (afterTaken Count r)
+pub carried-count : (r : Run) → Inv r → r .crashed ≡ false → Taken Count (r .board) → Preserved false r (afterTaken Count r)
 unfolding standsAt causes effect feed
 carried-count r inv d t = carried-same r _ inv d (passed Count (r .board) t 2)

@@ -26,7 +26,7 @@ use Rattle.board.proofs.Recovery.Board.{recovery-cases, past-cases, und
 use Rattle.board.proofs.Laws.Parts.{free-part, unbegun-part}
 use Rattle.board.proofs.Laws.Rows.{epoch-back-other, spare-back, own-same, sizes-same, sizes-back}
 use Rattle.board.specs.Statements.{Unchanged}
-use Rattle.board.proofs.Checkpoint.Run.{Carried, quiet}
+use Rattle.board.proofs.Checkpoint.Run.{Preserved, quiet}
 use Rattle.board.proofs.Recovery.Stops.{only-restored, only-unmarked, stop-line, stop-holds, undoes-logs, restored-undo, unmarked-undo}
 use Rattle.board.proofs.Recovery.Rows.{whole-epoch, whole-kept, restoring-own, restoring-only, restoring-back, restoring-past}
 
@@ -212,7 +212,7 @@ recovery-unchanged r inv lit phase =
     })
 
 -- A taken step of a recovery keeps the invariant and changes nothing of the last checkpoint.
-pub carried-recovery-step : (r : Run) → Inv r → r .crashed ≡ false → r .board .state .phase ≡ Recovering → Carried false r (afterTaken Step r)
+pub carried-recovery-step : (r : Run) → Inv r → r .crashed ≡ false → r .board .state .phase ≡ Recovering → Preserved false r (afterTaken Step r)
 carried-recovery-step r inv lit phase =
     record {
       keeps = keeps-recovery-step r inv lit phase;

@@ -26,7 +26,7 @@ use Rattle.board.specs.Checkpoint.{acts}
 use Rattle.board.proofs.Laws.Rows.{epoch-back, spare-back, spare-backed, own-same, sizes-same, sizes-back}
 use Rattle.board.proofs.Laws.Taken.{standsAt, passed, afterTaken, same-lines}
 use Rattle.board.proofs.Laws.Reading.{some-left}
-use Rattle.board.proofs.Checkpoint.Run.{Carried, RunningRun, running-run}
+use Rattle.board.proofs.Checkpoint.Run.{Preserved, RunningRun, running-run}
 use Rattle.board.proofs.Recovery.Rows.{restoring-own, restoring-back}
 use Rattle.board.proofs.Checkpoint.Memory.{both-back, value-back, kept-back}
 use Rattle.board.proofs.Checkpoint.Stages.{leaves-same, early-back, gap-back, late-back}
@@ -81,13 +81,13 @@ seen-none i m off =
     (and-off (eqb i 0 && m .requested) (leb (markedCount m + 1) (m .steps)) (and-off-right (eqb i 0) (m .requested) off))
 
 -- A write-back in recovery.
-carried-recovering : (r : Run) → Inv r → InPhase Recovering r → r .board .state .phase ≡ Recovering → (i : ℕ) → i ≤ r .machine .shape .lines → Carried false r (afterTaken (WriteBack i) r)
+carried-recovering : (r : Run) → Inv r → InPhase Recovering r → r .board .state .phase ≡ Recovering → (i : ℕ) → i ≤ r .machine .shape .lines → Preserved false r (afterTaken (WriteBack i) r)
 unfolding effect feed
 carried-recovering r inv v e i h =
     let z = inv .sizes in
     let b = r .board in
     let after : Machine → Run = λ m. record { board = backed i (b .state) b; machine = m; crashed = r .crashed && true; erased = r .erased } in
-    subst (λ (m : Machine). Carried false r (after m)) (sym (seen-none i (r .machine) (v .1 .request)))
+    subst (λ (m : Machine). Preserved false r (after m)) (sym (seen-none i (r .machine) (v .1 .request)))
     (record {
       keeps =
           record {
@@ -103,10 +103,10 @@ carried-recovering r inv v e i h =
 -- ---- running
 
 -- A write-back while running.
-carried-running : (r : Run) → RunningRun r → (i : ℕ) → i ≤ r .machine .shape .lines → Carried false r (afterTaken (WriteBack i) r)
+carried-running : (r : Run) → RunningRun r → (i : ℕ) → i ≤ r .machine .shape .lines → Preserved false r (afterTaken (WriteBack i) r)
 unfolding effect feed writeBackSeen
 carried-running r s i h =
-    on (λ (n : Machine). Carried false r (record { board = backed i (b .state) b; machine = n; crashed = r .crashed && true; erased = r .erased }))
+    on (λ (n : Machine). Preserved false r (record { board = backed i (b .state) b; machine = n; crashed = r .crashed && true; erased = r .erased }))
     (completes i m) (completed m) m
     (λ t. header (completes-parts i m t))
     (λ f. other f (v .stage))
@@ -123,17 +123,17 @@ carried-running r s i h =
     after : ℕ → (Location → ℕ) → Run
     after j xs = backRun r j (b .state .place) xs (m .steps) (r .crashed && true)
 
-    header : (i ≡ 0) × (m .requested ≡ true) × (markedCount m + 1 ≤ m .steps) → Carried false r (after i (m .current))
+    header : (i ≡ 0) × (m .requested ≡ true) × (markedCount m + 1 ≤ m .steps) → Preserved false r (after i (m .current))
     header p =
         let on : b .state .requested ≡ true = sym (v .request) ∙ p .1 in
         let past : length (acts b) ≤ 2 = omega (arith, v .steps on, p .2) in
-        subst (λ (j : ℕ). Carried false r (after j (m .current))) (sym (p .0))
+        subst (λ (j : ℕ). Preserved false r (after j (m .current))) (sym (p .0))
         (header-back r s (b .state .place) (m .steps) (leaves-same b) (v .steps) (r .crashed && true) on past (some-left (v .stage)) past (v .stage))
 
-    quiet : (i ≡ 0 → epochOf (b .cache) ≡ epochOf (b .memory)) → Stage (m .shape) (backed i (b .state) b) m → Carried false r (after i (m .checkpointed))
+    quiet : (i ≡ 0 → epochOf (b .cache) ≡ epochOf (b .memory)) → Stage (m .shape) (backed i (b .state) b) m → Preserved false r (after i (m .checkpointed))
     quiet e stage = quiet-back r s (b .state .place) (m .steps) (leaves-same b) (v .steps) (r .crashed && true) i h e (m .checkpointed) (λ u p. refl) stage
 
-    other : completes i m ≡ false → Stage (m .shape) b m → Carried false r (after i (m .checkpointed))
+    other : completes i m ≡ false → Stage (m .shape) b m → Preserved false r (after i (m .checkpointed))
     other f (early e) =
         let z = s .inv .sizes in
         quiet (λ q. e .epochs)
@@ -150,7 +150,7 @@ carried-running r s i h =
 -- ---- every phase that takes it
 
 -- What a taken write-back leaves.
-pub carried-write-back : (r : Run) (i : ℕ) → Inv r → r .crashed ≡ false → Taken (WriteBack i) (r .board) → Carried false r (afterTaken (WriteBack i) r)
+pub carried-write-back : (r : Run) (i : ℕ) → Inv r → r .crashed ≡ false → Taken (WriteBack i) (r .board) → Preserved false r (afterTaken (WriteBack i) r)
 unfolding standsAt causes
 carried-write-back r i inv d t = go (r .board .state .phase) refl
   where
@@ -160,7 +160,7 @@ carried-write-back r i inv d t = go (r .board .state .phase) refl
     line : i ≤ r .board .state .lines
     line = ltb-false (r .board .state .lines) i (passed (WriteBack i) (r .board) t 7)
 
-    go : (p : Phase) → r .board .state .phase ≡ p → Carried false r (afterTaken (WriteBack i) r)
+    go : (p : Phase) → r .board .state .phase ≡ p → Preserved false r (afterTaken (WriteBack i) r)
     go Off e = absurd (true≢false (subst (λ (p : Phase). isOff p || isFormatting p ≡ false) e allowed))
     go Formatting e = absurd (true≢false (subst (λ (p : Phase). isOff p || isFormatting p ≡ false) e allowed))
     go Recovering e =

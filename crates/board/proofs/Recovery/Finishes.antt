@@ -22,7 +22,7 @@ use Rattle.predicate.proofs.Bools.{on, split, clash, and-off, and-off-right, pa
 use Rattle.board.proofs.Laws.Takes.{takes-none}
 use Rattle.board.proofs.Invariant.{Inv, RecoveryInv, RecoveryMachine}
 use Rattle.board.proofs.Laws.Taken.{phaseBars, phase-passed, of-kind, performed-taken, performed-refused, page-board, afterTaken}
-use Rattle.board.proofs.Checkpoint.Run.{Carried}
+use Rattle.board.proofs.Checkpoint.Run.{Preserved}
 use Rattle.board.proofs.Laws.Reading.{in-phase, read-taken, read-current}
 use Rattle.board.proofs.Recovery.Count.{remaining, remaining-start, remaining-step, remaining-positive}
 use Rattle.board.proofs.Keeps.RecoveryStart.{keeps-recovery-start}
@@ -40,13 +40,13 @@ pub record InRecovery (n : ℕ) (σ : Shape) (w : ℕ) (xs : Location → ℕ) (
   pub values : (u : Location) → r .machine .current u ≡ xs u
 
 -- What is shown of the board after the last step.
-pub record Done (σ : Shape) (w : ℕ) (xs : Location → ℕ) (b : Board) : Type 0 where
+pub record RecoveryDone (σ : Shape) (w : ℕ) (xs : Location → ℕ) (b : Board) : Type 0 where
   pub shape : shapeOf (b .state) ≡ σ
   pub workers : b .state .workers ≡ w
   pub reads : (c : ℕ) → c < cells σ → Taken (Read c) b × (valueRead c b ≡ xs (cell c))
 
 -- A running run with those values is done.
-done : (σ : Shape) (w : ℕ) (xs : Location → ℕ) (r : Run) → Inv r → r .crashed ≡ false → r .board .state .phase ≡ Running → r .machine .shape ≡ σ → workersOf (r .board .memory) ≡ w → ((u : Location) → r .machine .current u ≡ xs u) → Done σ w xs (r .board)
+done : (σ : Shape) (w : ℕ) (xs : Location → ℕ) (r : Run) → Inv r → r .crashed ≡ false → r .board .state .phase ≡ Running → r .machine .shape ≡ σ → workersOf (r .board .memory) ≡ w → ((u : Location) → r .machine .current u ≡ xs u) → RecoveryDone σ w xs (r .board)
 done σ w xs r i d p e n v =
     let running = in-phase r i d Running p .0 in
     record {
@@ -100,13 +100,13 @@ not-running b p e = clash (ap (λ (q : Phase). not (isRunning q)) p) e
 
 module _ (σ : Shape) (w : ℕ) (xs : Location → ℕ) where
   -- After a taken step of the recovery one step fewer is left, or it was the last and the board is done.
-  stepped-on : (n : ℕ) (r : Run) → InRecovery (suc n) σ w xs r → InRecovery n σ w xs (afterTaken Step r) ⊎ ((n ≡ 0) × Done σ w xs (effect Step (r .board)))
+  stepped-on : (n : ℕ) (r : Run) → InRecovery (suc n) σ w xs r → InRecovery n σ w xs (afterTaken Step r) ⊎ ((n ≡ 0) × RecoveryDone σ w xs (effect Step (r .board)))
   stepped-on n r u = go (remaining-step (r .board) (u .phase) (place-within r (u .inv) (u .uncut) (u .phase)))
     where
       known : RecoveryInv (r .machine .shape) (r .machine .checkpointed) (r .board) × RecoveryMachine (r .machine) × (r .erased ≡ false)
       known = in-phase r (u .inv) (u .uncut) Recovering (u .phase)
 
-      carried : Carried false r (afterTaken Step r)
+      carried : Preserved false r (afterTaken Step r)
       carried = carried-recovery-step r (u .inv) (u .uncut) (u .phase)
 
       size : SameBoard r (afterTaken Step r)
@@ -121,7 +121,7 @@ module _ (σ : Shape) (w : ℕ) (xs : Location → ℕ) where
       values : (c : Location) → afterTaken Step r .machine .current c ≡ xs c
       values c = ap (λ (m : Machine). m .current c) (step-counts (r .machine) (known .1 .request) (known .1 .formatting)) ∙ u .values c
 
-      go : ((effect Step (r .board) .state .phase ≡ Recovering) × (remaining (effect Step (r .board)) + 1 ≡ remaining (r .board))) ⊎ ((effect Step (r .board) .state .phase ≡ Running) × (remaining (r .board) ≡ 1)) → InRecovery n σ w xs (afterTaken Step r) ⊎ ((n ≡ 0) × Done σ w xs (effect Step (r .board)))
+      go : ((effect Step (r .board) .state .phase ≡ Recovering) × (remaining (effect Step (r .board)) + 1 ≡ remaining (r .board))) ⊎ ((effect Step (r .board) .state .phase ≡ Running) × (remaining (r .board) ≡ 1)) → InRecovery n σ w xs (afterTaken Step r) ⊎ ((n ≡ 0) × RecoveryDone σ w xs (effect Step (r .board)))
       go (inl x) =
           inl (record { inv = carried .keeps; uncut = uncut; phase = x .0; left = omega (arith, x .1, u .left); shape = size .shape ∙ u .shape; workers = workers; values = values })
       go (inr x) =
@@ -158,13 +158,13 @@ module _ (σ : Shape) (w : ℕ) (xs : Location → ℕ) where
       by-kind (reading c) q o p = absurd (not-running (r .board) (u .phase) p)
 
   -- To the last step, and the board is done.
-  to-the-end : {n : ℕ} {b b′ : Board} → Takes n b b′ → (r : Run) → r .board ≡ b → InRecovery n σ w xs r → Done σ w xs b′
+  to-the-end : {n : ℕ} {b b′ : Board} → Takes n b b′ → (r : Run) → r .board ≡ b → InRecovery n σ w xs r → RecoveryDone σ w xs b′
   to-the-end finished r e u = absurd (steps-left r u)
   to-the-end (steps {n = n} {b = b} p rest) r e u =
       let now : effect Step (r .board) ≡ _ = ap (effect Step) e ∙ sym (performed-taken Step b p refl .1) in
       ⊎-elim
       (λ v. to-the-end rest (afterTaken Step r) now v)
-      (λ v. subst (Done σ w xs) (now ∙ takes-none rest (v .0)) (v .1))
+      (λ v. subst (RecoveryDone σ w xs) (now ∙ takes-none rest (v .0)) (v .1))
       (stepped-on n r u)
   to-the-end (between {n = n} {number = number} k {b = b} p f rest) r e u =
       split (eqb number 0)
@@ -194,7 +194,7 @@ started r i t =
     }
 
 -- After a finished recovery every cell reads the value checkpointed at its start, and L and W are the header's.
-pub recovers : (r : Run) → Inv r → (b : Board) → Recovered r b → Done (r .machine .shape) (workersOf (r .board .memory)) (r .machine .checkpointed) b
+pub recovers : (r : Run) → Inv r → (b : Board) → Recovered r b → RecoveryDone (r .machine .shape) (workersOf (r .board .memory)) (r .machine .checkpointed) b
 recovers r i b e =
     let (t, same) = performed-taken RecoveryStart (r .board) (e .begun) refl in
     to-the-end (r .machine .shape) (workersOf (r .board .memory)) (r .machine .checkpointed) (e .ended) (afterTaken RecoveryStart r) (sym same) (started r i t)

@@ -14,7 +14,7 @@ use Rattle.board.specs.Statements.{stepsFrom, AllTaken}
 use Rattle.board.specs.Steps.{OnlyLine, OnlyLineInBoth, formatAfter, FormatWrites}
 use Rattle.board.proofs.Laws.View.{Sized, line-in}
 use Rattle.board.proofs.Laws.Taken.{taken-next}
-use Rattle.board.proofs.Format.Board.{Formats, format-begins, erasing, erasing-step, format-erases, finishing, finishing-step}
+use Rattle.board.proofs.Format.Board.{InFormat, format-begins, erasing, erasing-step, format-erases, finishing, finishing-step}
 use Rattle.board.proofs.Format.Ends.{format-ends}
 
 -- ---- one step after others
@@ -36,7 +36,7 @@ step-taken (suc n) (suc i) b t h = step-taken n i (next Step b) (t .1) (omega ar
 
 -- A format (l, w) at place `i`.
 record At (l w i : ℕ) (b : Board) : Type 0 where
-  formats : Formats (shaped l) b
+  formats : InFormat (shaped l) b
   place : b .state .place ≡ i
   workers : b .state .workers ≡ w
 

@@ -9,13 +9,13 @@ use Rattle.text.specs.Writing.{put}
 use Rattle.text.proofs.Writing.{put-put}
 use Rattle.board.specs.Page.{lineText, headingText, cellText, before, ordered, cellOrder, pageText}
 use Rattle.predicate.specs.Passing.{numbersUnder}
-use Rattle.page.specs.Cells.{AllHeld, HeldUnder}
+use Rattle.page.specs.Cells.{AllInCache, InCacheUnder}
 use Rattle.page.proofs.Ordering.{order-length, cell-below}
 use Rattle.page.proofs.put_ordered.Statement.{statement}
 use Rattle.page.proofs.put_ordered.Tie as tie
 
 -- The cells on the page are held.
-all-held : (cache : List ℕ) (n : ℕ) → HeldUnder cache n → AllHeld cache (cellOrder cache n)
+all-held : (cache : List ℕ) (n : ℕ) → InCacheUnder cache n → AllInCache cache (cellOrder cache n)
 all-held cache n h i g =
     h (getD (cellOrder cache n) i 0) (cell-below cache n i (omega (arith, order-length cache n)))
 
@@ -33,7 +33,7 @@ put-cells-requires c κs =
     let cache = start .args .cache .now in
     let n = length (start .args .cells .now) in
     let is : c .before .before .before .before .before .before .before .before .before .before .sort .last .1 .0 ≡ cellOrder cache n = c .before .before .before .before .before .before .before .before .before .before .sort .ensures ∙ ap (ordered (before cache)) (c .before .before .before .before .before .before .before .before .before .before .before .before .before .before .before .before .before .before .before .number .ensures) in
-    (subst (AllHeld cache) (sym is) (all-held cache n (start .pre .2)), omega (arith, ap length is, order-length cache n, start .pre .3, c .before .before .before .before .put-heading .kept .0))
+    (subst (AllInCache cache) (sym is) (all-held cache n (start .pre .2)), omega (arith, ap length is, order-length cache n, start .pre .3, c .before .before .before .before .put-heading .kept .0))
 
 returns : tie.Need-returns
 returns c =

@@ -9,12 +9,12 @@ use borrow.Author.Needs.{needs}
 use Rattle.text.specs.Writing.{put}
 use Rattle.board.specs.Board.{shaped, cells, rowWords}
 use Rattle.board.specs.Page.{pageText}
-use Rattle.page.specs.Cells.{HeldUnder}
+use Rattle.page.specs.Cells.{InCacheUnder}
 use Rattle.page.proofs.put_page.Statement.{statement}
 use Rattle.page.proofs.put_page.Tie as tie
 
 -- A board's cache holds its cells.
-all-held : (cache : List ℕ) (l : ℕ) → l ≤ 511 → length cache ≡ rowWords l → HeldUnder cache (cells (shaped l))
+all-held : (cache : List ℕ) (l : ℕ) → l ≤ 511 → length cache ≡ rowWords l → InCacheUnder cache (cells (shaped l))
 all-held cache l h e c g = record { short = omega arith; inside = omega arith }
 
 -- The board's cells fit the array.
@@ -34,7 +34,7 @@ put-ordered-requires c κs =
     let size = length-take-le (n .result) _ (few (c .before .before .before)) in (
       subst (λ (k : ℕ). k ≤ 1022) (sym size) (few (c .before .before .before)),
       refl,
-      subst (HeldUnder (start .args .cache .now)) (sym (size ∙ n .ensures)) (all-held (start .args .cache .now) (start .args .lines) (start .pre .0) (start .pre .1)),
+      subst (InCacheUnder (start .args .cache .now)) (sym (size ∙ n .ensures)) (all-held (start .args .cache .now) (start .args .lines) (start .pre .0) (start .pre .1)),
       omega (arith, size, n .ensures, start .pre .2),
     )
 

@@ -1,7 +1,7 @@
 -- `session::harm` meets its contract: the session's lengths are the rows' sizes.
 use mathlib.Core.Path.{ap}
 use borrow.Author.Needs.{needs}
-use Rattle.damage.specs.Damages.{Outcome}
+use Rattle.damage.specs.Damages.{DamageOutcome}
 use Rattle.session.specs.Lines.{done}
 use Rattle.session.proofs.harm.Statement.{statement}
 use Rattle.session.proofs.harm.Tie as tie
@@ -10,7 +10,7 @@ returns : tie.Need-returns
 returns c =
     let r = c .before .before .before .before .before .before .carry-out in
     let within = r .ensures .1 in (
-      ap (λ (o : Outcome). done (o .board) (o .answer) (o .value)) (r .ensures .0),
+      ap (λ (o : DamageOutcome). done (o .board) (o .answer) (o .value)) (r .ensures .0),
       record { memory-within = within .memory-within; cache-within = within .cache-within },
     )
 

@@ -3,12 +3,12 @@ use Prim.Native.Nat.{_-_}
 use native.Mathlib.Omega.{arith}
 use lib.ListN.{length}
 use borrow.Author.Needs.{needs}
-use Rattle.session.proofs.Rows.{Zeroed, zeroed-none, zeroed-more, zeroed-all}
+use Rattle.session.proofs.Rows.{ZeroedUpTo, zeroed-none, zeroed-more, zeroed-all}
 use Rattle.session.proofs.zero.Statement.{statement}
 use Rattle.session.proofs.zero.Tie as tie
 
 abbrev Inv-loop : tie.InvT-loop
-Inv-loop row₀ i₀ row i = Zeroed row₀ row i
+Inv-loop row₀ i₀ row i = ZeroedUpTo row₀ row i
 
 abbrev μ-loop : tie.MeasureT-loop
 μ-loop row₀ i₀ row i = length row₀ - i

@@ -8,12 +8,12 @@ use borrow.Author.Needs.{needs}
 use Rattle.script.specs.Answers.{letterOf}
 use Rattle.script.specs.declared.Line.the-variants as line
 use Rattle.script.specs.declared.Shown.the-variants.{Unknown, Nothing}
-use Rattle.console.specs.declared.answers.Progress.{Progress}
+use Rattle.console.specs.declared.answers.Ongoing.{Ongoing}
 use Rattle.session.specs.Session.{boardOf}
 use Rattle.session.specs.Lines.{done, left}
 use Rattle.console.specs.Pieces.{carriedBy}
 use Rattle.session.proofs.Acts.{acted}
-use Rattle.console.proofs.Ends.{line-ends, ends-as, ready-after}
+use Rattle.console.proofs.LineEnds.{line-ends, ends-as, ready-after}
 use Rattle.console.proofs.answers.end_line.Statement.{statement}
 use Rattle.console.proofs.answers.end_line.Tie as tie
 
@@ -29,7 +29,7 @@ returns c =
     let b = boardOf (p .session) (a .memory .now) (a .cache .now) in
     let did = acted line.Unknown b (done b Unknown Nothing) (c .before .before .before .enum-told .given .1) refl in (
       ends-as (line-ends (a .program) b (p .number) text (number .result) _ (asked .result .line) _ (number .ensures) (asked .ensures .means) did refl (c .put-answer .ensures .0) (c .put-answer .ensures .1) (omega arith))
-          (sym (ap (λ (q : Progress). carriedBy q (a .memory .now) (a .cache .now) (asked .last .1 .0)) (next .ensures))),
+          (sym (ap (λ (q : Ongoing). carriedBy q (a .memory .now) (a .cache .now) (asked .last .1 .0)) (next .ensures))),
       ready-after (p .session) (number .result) (next .ensures) (start .pre .0 .session-within),
     )
 
@@ -49,7 +49,7 @@ returns-2 c =
     let did = left (act .result) (act .last .1 .0) (act .last .1 .1 .0) in
     let heads = letter .ensures ∙ ap (λ (first : ℕ). letterOf first (act .result .answer)) (asked .ensures .begins) in (
       ends-as (line-ends (a .program) b (p .number) text (number .result) (letter .result) (asked .result .line) did (number .ensures) (asked .ensures .means) (act .ensures .0) heads {out = a .out .now} {at = a .at} (wrote .ensures .0) (wrote .ensures .1) (omega (arith, start .pre .2, c .before .before .put-answer-arg2 .given)))
-          (sym (ap (λ (q : Progress). carriedBy q (act .last .1 .0) (act .last .1 .1 .0) (asked .last .1 .0)) (next .ensures))),
+          (sym (ap (λ (q : Ongoing). carriedBy q (act .last .1 .0) (act .last .1 .1 .0) (asked .last .1 .0)) (next .ensures))),
       ready-after (act .result .session) (number .result) (next .ensures) (act .ensures .1),
     )
 

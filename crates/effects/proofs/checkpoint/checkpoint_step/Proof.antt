@@ -1,6 +1,6 @@
 -- `effects::checkpoint::checkpoint_step` meets its contract: each branch does the act that comes at its place, within the bounds of `Checkpoints`.
 use borrow.Author.Needs.{needs}
-use Rattle.effects.proofs.Ready.{dirty-in, epoch-in, place-fits}
+use Rattle.effects.proofs.Bounds.{dirty-in, epoch-in, place-fits}
 use Rattle.effects.proofs.Effects.{writes-dirty, stores-epoch, writes-header, releases}
 use Rattle.effects.proofs.checkpoint.checkpoint_step.Statement.{statement}
 use Rattle.effects.proofs.checkpoint.checkpoint_step.Tie as tie

@@ -1,4 +1,4 @@
--- `text::digits::put_run` meets its contract: `Run` at each place.
+-- `text::digits::put_run` meets its contract: `DigitRun` at each place.
 use Prim.Native.Nat.{ℕ, _+_, _*_, _-_, _/_, _%_, _^_, _≤_}
 use mathlib.Core.Path.{_≡_, subst}
 use mathlib.Core.List.{List}
@@ -7,12 +7,12 @@ use lib.ListN.{getD}
 use borrow.Author.Needs.{needs}
 use Rattle.text.specs.Powers.{PowersOfTen}
 use Rattle.text.proofs.TenTimes.{power-at}
-use Rattle.text.proofs.Running.{Run, run-begins, run-more, run-ends, countable}
+use Rattle.text.proofs.Running.{DigitRun, run-begins, run-more, run-ends, countable}
 use Rattle.text.proofs.digits.put_run.Statement.{statement}
 use Rattle.text.proofs.digits.put_run.Tie as tie
 
 abbrev Inv-loop : tie.InvT-loop
-Inv-loop powers out₀ end from to scale s left₀ k₀ out left k = Run out₀ end from to scale s out left k
+Inv-loop powers out₀ end from to scale s left₀ k₀ out left k = DigitRun out₀ end from to scale s out left k
 
 abbrev μ-loop : tie.MeasureT-loop
 μ-loop powers out₀ end from to scale s left₀ k₀ out left k = k

@@ -14,7 +14,7 @@ use Rattle.text.proofs.number.put_divided.Statement.{statement}
 use Rattle.text.proofs.number.put_divided.Tie as tie
 
 -- What is written so far: the last digits of `whole`, `rest` being those before them.
-pub record Written (row whole : List ℕ) (end : ℕ) (out : List ℕ) (at : ℕ) (rest : List ℕ) : Type 0 where
+pub record WrittenDigits (row whole : List ℕ) (end : ℕ) (out : List ℕ) (at : ℕ) (rest : List ℕ) : Type 0 where
   pub digits : List ℕ
   pub ends : at + length digits ≡ end
   pub holds : out ≡ put row at digits
@@ -22,14 +22,14 @@ pub record Written (row whole : List ℕ) (end : ℕ) (out : List ℕ) (at : ℕ
   pub size : length out ≡ length row
 
 abbrev Inv-loop : tie.InvT-loop
-Inv-loop out₀ end n at₀ left₀ out at left = Written out₀ (numberText n) end out at (numberText left)
+Inv-loop out₀ end n at₀ left₀ out at left = WrittenDigits out₀ (numberText n) end out at (numberText left)
 
 abbrev μ-loop : tie.MeasureT-loop
 μ-loop out₀ end n at₀ left₀ out at left = left
 
 -- The last digit of the rest, written before those that are.
 one-more : (row whole : List ℕ) (end : ℕ) (out : List ℕ) (at : ℕ) (rest : List ℕ) (digit : ℕ) → 0 < at → end ≤ length row →
-    Written row whole end out at (rest ++ (digit ∷ [])) → Written row whole end (set out (at - 1) digit) (at - 1) rest
+    WrittenDigits row whole end out at (rest ++ (digit ∷ [])) → WrittenDigits row whole end (set out (at - 1) digit) (at - 1) rest
 one-more row whole end out at rest digit low high w =
     let here : at - 1 + length (digit ∷ []) ≡ at = omega arith in
     record {
@@ -43,7 +43,7 @@ one-more row whole end out at rest digit low high w =
     }
 
 -- There is room before what is written.
-room : {row whole : List ℕ} {end : ℕ} {out : List ℕ} {at : ℕ} (left : ℕ) → Written row whole end out at (numberText left) → length whole ≤ end → 0 < at
+room : {row whole : List ℕ} {end : ℕ} {out : List ℕ} {at : ℕ} (left : ℕ) → WrittenDigits row whole end out at (numberText left) → length whole ≤ end → 0 < at
 room left w h = omega (arith, w .ends, ap length (w .all), length-append (numberText left) (w .digits), number-some left)
 
 loop-holds : tie.Need-loop-holds Inv-loop μ-loop
@@ -63,7 +63,7 @@ loop-again c =
     let digit = '0' + l .left % 10 in
     one-more (a .out .now) (numberText (a .n)) (a .end) (l .out) (l .at) (numberText (l .left / 10)) digit
     (room (l .left) (l .inv) (c .before .before .pre .0)) (c .before .before .pre .1)
-    (subst (Written (a .out .now) (numberText (a .n)) (a .end) (l .out) (l .at)) (number-more (l .left) (omega arith)) (l .inv))
+    (subst (WrittenDigits (a .out .now) (numberText (a .n)) (a .end) (l .out) (l .at)) (number-more (l .left) (omega arith)) (l .inv))
 
 sub-at-2 : tie.Need-sub-at-2 Inv-loop μ-loop
 sub-at-2 c = room (c .before .loop .left) (c .before .loop .inv) (c .before .before .pre .0)
@@ -81,7 +81,7 @@ returns c =
     let done =
     one-more (a .out .now) (numberText (a .n)) (a .end) (l .out) (l .at) [] ('0' + l .left)
     (room (l .left) (l .inv) (c .before .before .pre .0)) (c .before .before .pre .1)
-    (subst (Written (a .out .now) (numberText (a .n)) (a .end) (l .out) (l .at)) (number-one (l .left) (omega arith)) (l .inv)) in
+    (subst (WrittenDigits (a .out .now) (numberText (a .n)) (a .end) (l .out) (l .at)) (number-one (l .left) (omega arith)) (l .inv)) in
     record { ends = sym (ap (λ (t : List ℕ). l .at - 1 + length t) (done .all) ∙ done .ends); holds = done .holds ∙ ap (put (a .out .now) (l .at - 1)) (sym (done .all)) }
 
 pub put-divided-spec : {M : Type 1} → statement M

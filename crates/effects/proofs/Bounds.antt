@@ -1,4 +1,4 @@
--- What the bounds of specs/Ready.antt give at the step at hand.
+-- What the bounds of specs/Bounds.antt give at the step at hand.
 use Prim.Native.Nat.{ℕ, _+_, _≤_, _<_, _^_}
 use mathlib.Core.Path.{_≡_, sym, _∙_}
 use mathlib.Core.List.{List}
@@ -11,7 +11,7 @@ use Rattle.line.specs.Line.{lineStart}
 use Rattle.board.specs.declared.State.{State}
 use Rattle.board.specs.Board.{epochOf, lastEpoch}
 use Rattle.board.specs.State.{dirtyCount}
-use Rattle.effects.specs.Ready.{Checkpoints}
+use Rattle.effects.specs.Bounds.{Checkpoints}
 
 module _ (s : State) (m c : List ℕ) (k : Checkpoints s m c) {n : ℕ} (count : n ≡ dirtyCount s) where
   -- A dirty line is in both rows.

@@ -13,13 +13,13 @@ use Rattle.text.specs.Writing.{Put}
 use Rattle.script.proofs.NumberLaws.{meaning-kept}
 use Rattle.text.proofs.Writing.{put-front}
 use Rattle.script.specs.declared.Program.{Program}
-use Rattle.console.specs.declared.answers.Asked.{Asked}
-use Rattle.console.specs.declared.answers.Progress.{Progress}
+use Rattle.console.specs.declared.answers.LineAsked.{LineAsked}
+use Rattle.console.specs.declared.answers.Ongoing.{Ongoing}
 use Rattle.session.specs.declared.Session.{Session}
 use Rattle.session.specs.Session.{Within}
 use Rattle.session.specs.Lines.{Done, carriedOut}
 use Rattle.console.specs.Transcript.{following, lineText}
-use Rattle.console.specs.Pieces.{Carried, carried, Fed, leaving, ended, afterLine, Ready, Reads, Ends}
+use Rattle.console.specs.Pieces.{Carried, carried, Fed, leaving, ended, afterLine, Ready, LineRead, LineEnds}
 
 -- ---- what is written
 
@@ -38,7 +38,7 @@ module _ (program : Program) (b : Board) (n : ℕ) (text : List ℕ) (number let
       ∙ ap (λ (x : ℕ). carried (carriedOut (meaning program text) b .board) x []) counts
 
   -- A line's end, once its answer is written behind the others.
-  pub line-ends : letter ≡ letterOf (getD text 0 0) (d .answer) → {out written : List ℕ} {at end : ℕ} → Put out at (answerText number letter (d .answer) (d .value)) written end → end ≤ at + 65 → at + 80 ≤ length out → Ends (ended program (carried b n text)) (carried (d .board) number []) out at written end
+  pub line-ends : letter ≡ letterOf (getD text 0 0) (d .answer) → {out written : List ℕ} {at end : ℕ} → Put out at (answerText number letter (d .answer) (d .value)) written end → end ≤ at + 65 → at + 80 ≤ length out → LineEnds (ended program (carried b n text)) (carried (d .board) number []) out at written end
   line-ends heads {out} {written} {at} {end} puts short room =
       record {
         leaves = line-leaves;
@@ -49,7 +49,7 @@ module _ (program : Program) (b : Board) (n : ℕ) (text : List ℕ) (number let
 -- ---- 80 bytes of a line
 
 -- A line is read by its first 80 bytes.
-pub reads-kept : {program : Program} {text : List ℕ} {asked : Asked} → Reads program text asked → Reads program (take 80 text) asked
+pub reads-kept : {program : Program} {text : List ℕ} {asked : LineAsked} → LineRead program text asked → LineRead program (take 80 text) asked
 reads-kept {program} {text} {asked} r =
     record { means = r .means ∙ sym (meaning-kept program text); begins = r .begins ∙ sym (getD-take 80 text 0 0 (omega arith)) }
 
@@ -62,9 +62,9 @@ ended-kept program b n text =
     ∙ ap (λ (first : ℕ). end (letterOf first (d .answer)) d) (getD-take 80 text 0 0 (omega arith))
 
 -- A line's end that leaves the same by another name.
-pub ends-as : {should : Fed} {after other : Carried} {out written : List ℕ} {at end : ℕ} → Ends should after out at written end → after ≡ other → Ends should other out at written end
-ends-as {should} {after} {other} {out} {written} {at} {end} e same = subst (λ (x : Carried). Ends should x out at written end) same e
+pub ends-as : {should : Fed} {after other : Carried} {out written : List ℕ} {at end : ℕ} → LineEnds should after out at written end → after ≡ other → LineEnds should other out at written end
+ends-as {should} {after} {other} {out} {written} {at} {end} e same = subst (λ (x : Carried). LineEnds should x out at written end) same e
 
 -- After a line the code is ready for the next.
-pub ready-after : {p : Progress} (s : Session) (n : ℕ) → p ≡ afterLine s n → Within s → Ready p
+pub ready-after : {p : Ongoing} (s : Session) (n : ℕ) → p ≡ afterLine s n → Within s → Ready p
 ready-after s n e fits = subst Ready (sym e) (record { session-within = fits; line-within = omega arith })
