@@ -12,7 +12,7 @@ use Rattle.board.specs.Board.{Board, Shape, shaped, shapeOf, cells, epoc
 use Rattle.board.specs.State.{isRunning, isFormatting, dirtyCount}
 use Rattle.board.specs.Causes.{causes}
 use Rattle.board.specs.Next.{Taken, next, valueOf}
-use Rattle.board.specs.Location.{Location, cell, Has}
+use Rattle.board.specs.Location.{Location, Has}
 use Rattle.board.specs.Machine.{Machine, beginning, formatSteps}
 use Rattle.board.specs.Sequence.{Begins, formatted, recoveryStarted, Run, cutRun, cuts, History, begun, further, rose, lastCheckpoint, recoverySteps}
 use Rattle.board.specs.Statements.{Reads, ReadsCheckpointed, Recovery, CutAndRecovered, ReadAlike, Demand3, LastCheckpoint, HeaderSizes, RecoveredSizes, Completes, formatStepIn, Completion, stepsFrom, FormatEnds, RecoveryEnds, CheckpointEnds, AwayHoldsUpNone, GoesAndComes, RecoveryStarts, OwnMemory, RequestAnswers, HistoryBegins, HasRecovery, UpdateEnds, SingleStores, SpareWords, FormatSpare}

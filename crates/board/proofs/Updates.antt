@@ -2,7 +2,6 @@
 use Prim.Native.Nat.{ℕ, suc, _-_, _<_}
 use mathlib.Core.Path.{_≡_, refl, sym, ap, subst, _∙_}
 use mathlib.Core.Bool.{Bool, true, false, cond, _&&_, _||_}
-use native.Mathlib.Omega.{arith}
 use lib.Dec.{ltb}
 use lib.ListN.{length}
 use borrow.Author.Tests.{lt-leb}
@@ -19,7 +18,7 @@ use Rattle.board.specs.Causes.{causes, badRows}
 use Rattle.board.specs.Location.{cell, logged}
 use Rattle.board.specs.Effects.{firstStore, noted, afterLast, advance, advanceOf, effect}
 use Rattle.board.specs.Next.{Taken, next, valueOf, Performed}
-use Rattle.board.specs.Machine.{Machine, Unfinished, update, fewer, advanced, feed}
+use Rattle.board.specs.Machine.{Machine, Unfinished, fewer, advanced, feed}
 use Rattle.board.specs.Sequence.{Run}
 use Rattle.board.specs.Statements.{Starts, updates, restarts, Advances, over, advances}
 use Rattle.predicate.proofs.Bools.{on, decide, and-off, not-on}

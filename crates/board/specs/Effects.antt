@@ -1,7 +1,7 @@
 -- Document 01, "Steps", and document 02, tickets 2, 4, 5 and 6: what a taken call does, store by store.
 use Prim.Native.Nat.{ℕ, _+_}
 use mathlib.Core.List.{List, [], _∷_}
-use mathlib.Core.Bool.{Bool, cond, _&&_}
+use mathlib.Core.Bool.{cond, _&&_}
 use lib.Dec.{leb, ltb}
 use lib.ListN.{set}
 use Rattle.board.specs.declared.State.{State}

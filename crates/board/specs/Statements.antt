@@ -19,7 +19,7 @@ use Rattle.board.specs.Location.{Location, cell, Has, undo}
 use Rattle.board.specs.Effects.{writtenBack}
 use Rattle.board.specs.Next.{Taken, next, Kind, startsFormat, startsRecovery, stepping, writing, counting, other, reading, kind, isStep, Performed}
 use Rattle.board.specs.Machine.{Machine, beginning, recoveryBeginning, formatSteps}
-use Rattle.board.specs.Sequence.{Takes, Begins, Run, called, cutRun, KeepsLength, Happens, performs, pages, cuts, History, begun, further, lastCheckpoint, recoverySteps}
+use Rattle.board.specs.Sequence.{Takes, Begins, Run, cutRun, KeepsLength, Happens, performs, pages, cuts, History, begun, further, lastCheckpoint, recoverySteps}
 
 -- ---- 1. reads
 

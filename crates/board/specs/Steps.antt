@@ -99,21 +99,21 @@ LastStore = (w c v : ℕ) (b : Board) → conditionOf (b .state) w ≡ Updating 
 
 -- ---- 5. the table read both ways
 
--- No row of a table stands.
+-- No line of a table stands.
 abbrev pub NoneStands : List Cause → Type 0
-NoneStands rows = (r : Cause) → List·Memᴰ r rows → r .stands ≡ false
+NoneStands table = (c : Cause) → List·Memᴰ c table → c .stands ≡ false
 
--- A row of number `n` stands, and none before it.
-pub record StandsFirst (n : ℕ) (rows : List Cause) : Type 0 where
+-- A line of number `n` stands, and none before it.
+pub record StandsFirst (n : ℕ) (table : List Cause) : Type 0 where
   pub before : List Cause
-  pub row : Cause
+  pub first : Cause
   pub rest : List Cause
-  pub parts : rows ≡ before ++ (row ∷ rest)
+  pub parts : table ≡ before ++ (first ∷ rest)
   pub clear : NoneStands before
-  pub stands : row .stands ≡ true
-  pub number : row .number ≡ n
+  pub stands : first .stands ≡ true
+  pub number : first .number ≡ n
 
--- A call is taken exactly when no row of its table stands; it is refused by the number of the first that does, and then all is as it was.
+-- A call is taken exactly when no line of its table stands; it is refused by the number of the first that does, and then all is as it was.
 pub record ReadBothWays (k : Call) (b : Board) : Type 0 where
   pub taken : Taken k b ↔ NoneStands (causes k b)
   pub refused : (Taken k b → ⊥) → StandsFirst (cause k b) (causes k b)

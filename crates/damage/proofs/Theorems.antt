@@ -7,11 +7,11 @@ use native.Mathlib.Omega.{arith}
 use lib.Dec.{leb, ltb, eqb}
 use lib.ListN.{length, getD, set, length-set}
 use lib.Seq.{ext-getD}
-use borrow.Author.Tests.{leb-true, eqb-true, eqb-false, ne-eqb}
-use Rattle.locks.specs.Holders.{digitOf, heldBy, givenBack}
+use borrow.Author.Tests.{leb-true, eqb-true, ne-eqb}
+use Rattle.locks.specs.Holders.{heldBy, givenBack}
 use Rattle.locks.proofs.Holders.{digit-own, digit-other}
 use Rattle.predicate.proofs.Bools.{on, split, clash, and-left, and-right, chosen, passedOver}
-use Rattle.damage.specs.Record.{phaseOf, undoOf, storeOf, fieldFits, withField, unused, conditionFits, conditionOf, withHolder}
+use Rattle.damage.specs.Record.{phaseOf, undoOf, storeOf, fieldFits, withField, unused, conditionFits, conditionOf}
 use Rattle.damage.specs.Checksum.{phaseNumber, undoNumber, storeNumber, requestNumber, holderNumber}
 use Rattle.damage.specs.Damages.{FieldsReadBack, WordsReadBack, WorkersReadBack, HoldersReadBack}
 

@@ -114,12 +114,6 @@ pub field-same : (row : List ℕ) (c : ℕ) (f : Field) (v : ℕ) → lineStart 
 unfolding fieldOf withField fieldIndex
 field-same row c f v h = getD-set-same row (fieldIndex c f) v 0 (omega (arith, offset-bound f))
 
--- A store in one cell leaves every field of another.
-pub field-other-cell : (row : List ℕ) (c : ℕ) (f : Field) (v d : ℕ) (g : Field) → (c ≡ d → ⊥) → fieldOf (withField row c f v) d g ≡ fieldOf row d g
-unfolding fieldOf fieldIndex
-field-other-cell row c f v d g o =
-    getD-withField-other row c f v (fieldIndex d g) (λ e. o (omega (arith, offset-bound f, offset-bound g)))
-
 -- A store in one field of a cell leaves its other fields.
 pub field-other-field : (row : List ℕ) (c : ℕ) (f : Field) (v : ℕ) (g : Field) → (fieldOffset f ≡ fieldOffset g → ⊥) → fieldOf (withField row c f v) c g ≡ fieldOf row c g
 unfolding fieldOf fieldIndex
@@ -132,24 +126,11 @@ unfolding fieldOf fieldIndex
 field-withLine row c words f h n =
     getD-withLine-in row (cellLine c) words (cellWord c + fieldOffset f) h n (omega (arith, offset-bound f))
 
--- A line copied from another row brings that row's fields.
-pub field-withLine-in : (row other : List ℕ) (c : ℕ) (f : Field) → lineStart (cellLine c) + 8 ≤ length row → lineStart (cellLine c) + 8 ≤ length other → fieldOf (withLine row (cellLine c) (lineOf other (cellLine c))) c f ≡ fieldOf other c f
-unfolding fieldOf fieldIndex
-field-withLine-in row other c f h k =
-    field-withLine row c (lineOf other (cellLine c)) f h (length-lineOf other (cellLine c) k)
-    ∙ getD-lineOf other (cellLine c) (cellWord c + fieldOffset f) (omega (arith, offset-bound f))
-
 -- A line of zeros brings fields that are zero.
 pub field-withLine-zero : (row : List ℕ) (c : ℕ) (f : Field) → lineStart (cellLine c) + 8 ≤ length row → fieldOf (withLine row (cellLine c) (replicate 8 0)) c f ≡ 0
 field-withLine-zero row c f h =
     field-withLine row c (replicate 8 0) f h (length-replicate {A = ℕ} 8 0)
     ∙ getD-replicate 8 (cellWord c + fieldOffset f) 0 0 (omega (arith, offset-bound f))
-
--- A stored line leaves the fields of every cell of another line.
-pub field-withLine-out : (row : List ℕ) (l : ℕ) (words : List ℕ) (c : ℕ) (f : Field) → lineStart l + 8 ≤ length row → length words ≡ 8 → (cellLine c ≡ l → ⊥) → fieldOf (withLine row l words) c f ≡ fieldOf row c f
-unfolding fieldOf fieldIndex
-field-withLine-out row l words c f h n o =
-    getD-withLine-out row l words (fieldIndex c f) h n (λ e. o (omega (arith, offset-bound f)))
 
 -- A cell's store leaves the header's words.
 pub header-withField : (row : List ℕ) (c : ℕ) (f : Field) (v k : ℕ) → k < 8 → getD (withField row c f v) k 0 ≡ getD row k 0
@@ -159,11 +140,6 @@ header-withField row c f v k b = getD-withField-other row c f v k (λ e. omega a
 -- A stored line other than line 0 leaves the header's words.
 pub header-withLine : (row : List ℕ) (l : ℕ) (words : List ℕ) (k : ℕ) → lineStart l + 8 ≤ length row → 0 < l → k < 8 → getD (withLine row l words) k 0 ≡ getD row k 0
 header-withLine row l words k h p b = getD-withLine-before row l words k h (omega arith)
-
--- A header word's store leaves every cell's fields.
-pub field-set-header : (row : List ℕ) (k v c : ℕ) (f : Field) → k < 8 → fieldOf (set row k v) c f ≡ fieldOf row c f
-unfolding fieldOf fieldIndex
-field-set-header row k v c f b = getD-set-other row k (fieldIndex c f) v 0 (λ e. omega arith)
 
 -- A word among the first six of a line is no word 6 or 7.
 apart : (a l w k : ℕ) → w < 6 → 6 ≤ k → k < 8 → lineStart a + w ≡ lineStart l + k → ⊥

@@ -1,5 +1,5 @@
 -- Laws of tests: what a passed or failed test says, and a choice by a test taken apart.
-use mathlib.Core.Path.{_≡_, refl, sym, subst, _∙_}
+use mathlib.Core.Path.{_≡_, refl, subst}
 use mathlib.Core.Bool.{Bool, true, false, cond, not, _&&_, _||_, true≢false, false≢true}
 
 -- A choice by a test, with what the test says.
@@ -59,11 +59,6 @@ and-both false b p q = p
 pub and-not : (a b : Bool) → a && b ≡ false → a ≡ true → b ≡ false
 and-not true b e p = e
 and-not false b e p = absurd (false≢true p)
-
--- Where the second of two tests holds and not both, the first fails.
-pub and-before : (a b : Bool) → a && b ≡ false → b ≡ true → a ≡ false
-and-before true b e p = absurd (true≢false (sym p ∙ e))
-and-before false b e p = refl
 
 -- Where one of two tests fails, not both hold.
 pub and-off : (a b : Bool) → a ≡ false → a && b ≡ false

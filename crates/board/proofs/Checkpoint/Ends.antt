@@ -1,8 +1,8 @@
 -- A requested checkpoint with all workers waiting or away ends in as many steps as acts are left of it, each of them taken; those that were away stay away.
-use Prim.Native.Nat.{ℕ, zero, suc, _+_, _≤_, _<_}
+use Prim.Native.Nat.{ℕ, zero, suc, _+_, _≤_}
 use mathlib.Core.Path.{_≡_, refl, sym, ap, subst, _∙_}
 use mathlib.Core.Logic.{_⊎_, inl, inr}
-use mathlib.Core.List.{List, [], _∷_}
+use mathlib.Core.List.{List, _∷_}
 use mathlib.Core.Bool.{true, false, not, _&&_, _||_, false≢true}
 use native.Mathlib.Omega.{arith}
 use lib.ListN.{length}
@@ -14,7 +14,7 @@ use Rattle.board.specs.declared.Phase.the-variants.{Running}
 use Rattle.board.specs.declared.Call.the-variants.{Step}
 use Rattle.board.specs.Board.{Board, Shape, epochOf, lastEpoch}
 use Rattle.board.specs.State.{conditionOf, isOff, isRunning, quiescent, anyWorker, placed, released, dirtyCount}
-use Rattle.board.specs.Checkpoint.{Act, writeLine, storeEpoch, writeHeader, release, acts, storesEpoch}
+use Rattle.board.specs.Checkpoint.{Act, acts, storesEpoch}
 use Rattle.board.specs.Causes.{causes, checkpointing, epochSpent}
 use Rattle.board.specs.Effects.{stated, performAct, performFirst, effect}
 use Rattle.board.specs.Next.{next, Taken}

@@ -1,11 +1,10 @@
 -- Memory after a line's write-back: what recovery would give from it, and its cells.
-use Prim.Native.Nat.{ℕ, _+_, _≤_, _<_}
+use Prim.Native.Nat.{ℕ, _+_, _≤_}
 use mathlib.Core.Path.{_≡_, refl, sym, subst, _∙_}
 use mathlib.Core.Logic.{⊎-elim}
 use mathlib.Core.List.{List}
 use mathlib.Core.Bool.{true≢false}
 use native.Mathlib.Omega.{arith}
-use native.Mathlib.Decide.{ℕ-discrete}
 use Rattle.line.specs.Line.{lineOf, withLine}
 use Rattle.line.proofs.Laws.{length-lineOf}
 use Rattle.board.specs.Board.{Shape, epochOf}

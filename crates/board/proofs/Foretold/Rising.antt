@@ -1,6 +1,6 @@
 -- What the acts of a checkpoint write: each dirty line once, rising, and then line 0.
 use Prim.Native.Nat.{ℕ}
-use mathlib.Core.Path.{_≡_, refl, sym, ap, _∙_}
+use mathlib.Core.Path.{_≡_, refl, ap, _∙_}
 use mathlib.Core.List.{List, [], _∷_, _++_, map}
 use Rattle.predicate.specs.Passing.{nthUnder, numbersUnder}
 use Rattle.predicate.proofs.Rising.{rising-listed}

@@ -16,7 +16,7 @@ use Rattle.board.specs.declared.Call.{Call}
 use Rattle.board.specs.declared.Call.the-variants.{FormatStart, RecoveryStart, Step, Update, RestartPoint, Advance, Request, WriteBack, Read, GoAway, ComeBack, Count, TakeLock, GiveBackLock}
 use Rattle.board.specs.Board.{Board}
 use Rattle.board.specs.State.{conditionOf, isFree, isUpdating, quiescent, placed, locked}
-use Rattle.board.specs.Checkpoint.{Act, writeLine, storeEpoch, writeHeader, release, planned, acts}
+use Rattle.board.specs.Checkpoint.{Act, storeEpoch, writeHeader, release, planned, acts}
 use Rattle.board.specs.Causes.{causes}
 use Rattle.board.specs.Effects.{performAct, performFirst, effect}
 use Rattle.board.specs.Next.{Taken, kind, isStart, isStep}

@@ -1,5 +1,5 @@
 -- THE THEOREMS about document 02, ticket 5: every statement of `specs/Foretold.antt`, proved.
-use Prim.Native.Nat.{ℕ, _+_, _/_, _<_}
+use Prim.Native.Nat.{ℕ, _<_}
 use mathlib.Core.Path.{_≡_, ap, subst, _∙_}
 use mathlib.Core.List.{List, map}
 use mathlib.Core.Bool.{false}

@@ -1,12 +1,12 @@
 -- What a format's start and steps leave, on any board: nothing is known of what its rows held.
-use Prim.Native.Nat.{ℕ, _+_, _/_, _≤_, _<_}
+use Prim.Native.Nat.{ℕ, _+_, _/_, _≤_}
 use mathlib.Core.Path.{_≡_, refl, sym, ap, subst, subst₂, _∙_}
 use mathlib.Core.List.{List}
 use mathlib.Core.Bool.{false, cond, not}
 use native.Mathlib.Omega.{arith}
 use lib.Dec.{leb, eqb}
 use lib.ListN.{length, getD}
-use borrow.Author.Tests.{eqb-true, le-leb, lt-leb, ne-eqb}
+use borrow.Author.Tests.{eqb-true, le-leb, lt-leb}
 use Rattle.line.specs.Line.{withLine}
 use Rattle.board.specs.declared.Phase.{Phase}
 use Rattle.board.specs.declared.Phase.the-variants.{Formatting, Running}

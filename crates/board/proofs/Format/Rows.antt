@@ -9,9 +9,8 @@ use lib.Dec.{eqb}
 use borrow.Author.Tests.{eqb-false, eq-eqb, ne-eqb}
 use lib.ListN.{getD, getD-replicate}
 use Rattle.line.specs.Line.{lineStart, withLine}
-use Rattle.line.specs.Cell.{cellLine}
 use Rattle.line.proofs.Laws.{getD-withLine-in, getD-withLine-out, header-withLine}
-use Rattle.board.specs.Board.{Shape, cells, shaped, outside, epochOf, headerWords, zeroWords}
+use Rattle.board.specs.Board.{Shape, shaped, outside, epochOf, headerWords, zeroWords}
 use Rattle.board.specs.Statements.{Spare}
 use Rattle.predicate.proofs.Bools.{on, chosen, passedOver}
 use Rattle.board.specs.Location.{Location, Has, lineFor}

@@ -9,8 +9,6 @@ use native.Mathlib.Decide.{ℕ-discrete}
 use lib.ListN.{length, set}
 use Rattle.bitset.specs.Words.{nth}
 use Rattle.bitset.proofs.Members.{nth-own}
-use Rattle.bitset.proofs.Words.{size-count}
-use Rattle.predicate.proofs.Bools.{chosen}
 use Rattle.board.specs.Location.{Location, Has, lineFor}
 use Rattle.board.specs.declared.State.{State}
 use Rattle.board.specs.declared.Condition.{Condition}
@@ -20,11 +18,11 @@ use Rattle.board.specs.declared.Call.the-variants.{Step}
 use Rattle.board.specs.Board.{Board, Shape, epochOf}
 use Rattle.board.specs.State.{conditionOf, quiescent, afterRelease, placed, released, dirtyCount}
 use Rattle.board.specs.Checkpoint.{Act, writeLine, storeEpoch, writeHeader, release, progress, acts}
-use Rattle.board.specs.Effects.{writtenBack, cached, stated, performAct}
+use Rattle.board.specs.Effects.{cached, stated, performAct}
 use Rattle.board.specs.Machine.{Unfinished, Machine, markedCount, counted, completed, dropped, checkpointStep}
 use Rattle.board.specs.Sequence.{Run}
-use Rattle.board.proofs.Laws.View.{View, view, Sized, view-backed, view-header}
-use Rattle.board.proofs.Invariant.{AllQuiescent, Undo, WorkerInv, Touches, WorkersPart, SameValues, Lengths, Early, Late, Stage, early, gap, late, RunningInv, Inv}
+use Rattle.board.proofs.Laws.View.{View, view, view-backed, view-header}
+use Rattle.board.proofs.Invariant.{AllQuiescent, Undo, WorkerInv, Touches, WorkersPart, Lengths, Early, Late, Stage, early, gap, late, RunningInv, Inv}
 use Rattle.board.proofs.Laws.Rows.{epoch-set, sized-set, header-set, spare-set, own-same, sizes-same, sizes-set}
 use Rattle.board.proofs.Laws.Taken.{limits-in, afterTaken}
 use Rattle.board.proofs.Laws.Workers.{released-condition}

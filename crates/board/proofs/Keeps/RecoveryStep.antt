@@ -19,7 +19,7 @@ use Rattle.board.specs.Effects.{writtenBack, stopOf, pastStop, effect}
 use Rattle.board.specs.Machine.{Machine, counted, stepped, feed}
 use Rattle.board.specs.Sequence.{Run, erasedBy}
 use Rattle.predicate.proofs.Bools.{passedOver, clash, and-off}
-use Rattle.board.proofs.Laws.View.{View, view, logs, placeOf, place-among, view-backed}
+use Rattle.board.proofs.Laws.View.{view, logs, placeOf, place-among, view-backed}
 use Rattle.board.proofs.Invariant.{Undo, Underway, Restoring, Lengths, SameSizes, Own, Here, RecoveryInv, RecoveryMachine, RunningInv, InPhase, Inv}
 use Rattle.board.proofs.Laws.Taken.{afterTaken}
 use Rattle.board.proofs.Recovery.Board.{recovery-cases, past-cases, underway-placed, underway-opened}

@@ -1,7 +1,7 @@
 -- A taken request keeps the invariant; when one is taken.
 use Prim.Native.Nat.{ℕ}
 use mathlib.Core.Path.{_≡_, refl, sym, ap, subst, _∙_}
-use mathlib.Core.List.{List, List·Memᴰ}
+use mathlib.Core.List.{List·Memᴰ}
 use mathlib.Core.Bool.{true, false, cond}
 use lib.Dec.{eqb}
 use native.Mathlib.Omega.{arith}

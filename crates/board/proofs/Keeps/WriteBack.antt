@@ -1,5 +1,5 @@
 -- A taken write-back keeps the invariant, in recovery and while running.
-use Prim.Native.Nat.{ℕ, _+_, _≤_, _<_}
+use Prim.Native.Nat.{ℕ, _+_, _≤_}
 use mathlib.Core.Path.{_≡_, refl, sym, subst, _∙_, ap}
 use mathlib.Core.Logic.{inl}
 use mathlib.Core.Bool.{Bool, true, false, _&&_, _||_, true≢false}
@@ -13,17 +13,17 @@ use Rattle.board.specs.declared.UndoStep.{UndoStep}
 use Rattle.board.specs.declared.UndoStep.the-variants.{Restore, Unmark, WriteLine}
 use Rattle.board.specs.declared.Call.the-variants.{WriteBack}
 use Rattle.board.specs.Location.{Location}
-use Rattle.board.specs.Board.{Board, Shape, cells, epochOf}
-use Rattle.board.specs.State.{isOff, isFormatting, dirtyCount}
+use Rattle.board.specs.Board.{Board, Shape, epochOf}
+use Rattle.board.specs.State.{isOff, isFormatting}
 use Rattle.board.specs.Causes.{causes, notRecoveringOrRunning}
 use Rattle.board.specs.Effects.{writtenBack, backed, effect}
 use Rattle.board.specs.Machine.{Machine, markedCount, completed, writeBackSeen, feed}
 use Rattle.board.specs.Sequence.{Run}
 use Rattle.predicate.proofs.Bools.{on, passedOver, clash, and-left, and-right, and-both, and-off, and-off-right}
 use Rattle.board.proofs.Laws.View.{View, view, sized-back, logs}
-use Rattle.board.proofs.Invariant.{Undoes, Lengths, AtPlace, RecoveryInv, Stage, early, gap, late, CheckpointPart, InPhase, Inv}
+use Rattle.board.proofs.Invariant.{Lengths, AtPlace, RecoveryInv, Stage, early, gap, late, CheckpointPart, InPhase, Inv}
 use Rattle.board.specs.Checkpoint.{acts}
-use Rattle.board.proofs.Laws.Rows.{epoch-back, spare-back, spare-backed, own-same, sizes-same, sizes-back}
+use Rattle.board.proofs.Laws.Rows.{epoch-back, spare-back, own-same, sizes-same, sizes-back}
 use Rattle.board.proofs.Laws.Taken.{standsAt, passed, afterTaken, same-lines}
 use Rattle.board.proofs.Laws.Reading.{some-left}
 use Rattle.board.proofs.Checkpoint.Run.{Preserved, RunningRun, running-run}

@@ -11,7 +11,7 @@ use lib.Seq.{getD-set-same, getD-set-other}
 use Rattle.line.specs.declared.Field.{Field}
 use Rattle.line.specs.Line.{lineStart, lineOf, withLine}
 use Rattle.line.specs.Cell.{withField}
-use Rattle.line.proofs.Laws.{length-lineOf, getD-lineOf, getD-withLine-in, getD-withLine-out, header-withField, header-withLine, spare-withField}
+use Rattle.line.proofs.Laws.{length-lineOf, getD-lineOf, getD-withLine-in, getD-withLine-out, header-withField, header-withLine}
 use Rattle.board.specs.Board.{Shape, shaped, outside, epochOf}
 use Rattle.board.specs.Statements.{SameSpare}
 use Rattle.board.proofs.Laws.View.{Sized, line-in}
@@ -47,10 +47,6 @@ header-same row row′ same h =
 -- A cell's store leaves the epoch.
 pub epoch-store : (row : List ℕ) (c : ℕ) (f : Field) (v : ℕ) → epochOf (withField row c f v) ≡ epochOf row
 epoch-store row c f v = header-withField row c f v 0 (omega arith)
-
--- A cell's store leaves the header.
-pub header-store : {σ : Shape} (row : List ℕ) (c : ℕ) (f : Field) (v : ℕ) → Header σ row → Header σ (withField row c f v)
-header-store row c f v h = header-same row (withField row c f v) (header-withField row c f v) h
 
 module _ {σ : Shape} (memory cache : List ℕ) (zm : Sized σ memory) (zc : Sized σ cache) where
   -- Line 0's write-back copies the header.
@@ -122,16 +118,8 @@ own-same m c o =
 pub sizes-same : (row : List ℕ) → SameSizes row row
 sizes-same row k p q = refl
 
--- So it does after a cell's store, and after the epoch's.
-pub sizes-store : (row : List ℕ) (c : ℕ) (f : Field) (v : ℕ) → SameSizes row (withField row c f v)
-sizes-store row c f v k p q = header-withField row c f v k q
-
 pub sizes-set : (row : List ℕ) (e : ℕ) → SameSizes row (set row 0 e)
 sizes-set row e k p q = getD-set-other row 0 k e 0 (λ n. omega arith)
-
--- A cell's store leaves words 6 and 7.
-pub spare-store : {σ : Shape} (memory row : List ℕ) (c : ℕ) (f : Field) (v : ℕ) → SameSpare σ memory row → SameSpare σ memory (withField row c f v)
-spare-store memory row c f v s i k a b p q = spare-withField row c f v i k p q ∙ s i k a b p q
 
 -- ---- the epoch's store
 

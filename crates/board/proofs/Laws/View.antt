@@ -1,22 +1,22 @@
 -- A location seen as one thing: its value, the old value of its log, and the log's stamp. Nothing is said here of a row's words but that a location owns some of them; every law of stores and write-backs follows from that.
-use Prim.Native.Nat.{ℕ, _+_, _*_, _/_, _%_, _≤_, _<_}
+use Prim.Native.Nat.{ℕ, _+_, _/_, _%_, _≤_, _<_}
 use mathlib.Core.Path.{_≡_, refl, sym, ap, subst, _∙_}
 use mathlib.Core.Logic.{_⊎_, inl, inr}
 use mathlib.Core.List.{List}
-use mathlib.Core.Bool.{Bool, true, false, cond}
+use mathlib.Core.Bool.{Bool, true, false}
 use native.Mathlib.Omega.{arith}
 use native.Mathlib.Decide.{ℕ-discrete}
 use lib.Dec.{eqb}
-use lib.ListN.{length, getD, set, getD-replicate}
-use lib.Seq.{getD-set-same, getD-set-other}
-use borrow.Author.Tests.{eqb-true, eqb-false, eq-eqb, ne-eqb}
+use lib.ListN.{length, getD, set}
+use lib.Seq.{getD-set-other}
+use borrow.Author.Tests.{eq-eqb, ne-eqb}
 use Rattle.line.specs.declared.Field.{Field}
 use Rattle.line.specs.declared.Field.the-variants.{Record, Backup, Mark}
 use Rattle.line.specs.Line.{lineStart, lineOf, withLine}
 use Rattle.line.specs.Cell.{cellLine, fieldIndex, fieldOf, withField}
-use Rattle.line.proofs.Laws.{offset-bound, length-lineOf, length-withLine, length-withField, field-same, field-other-field, getD-lineOf, getD-withLine-in, getD-withLine-out, getD-withField-other, field-withLine-zero}
+use Rattle.line.proofs.Laws.{offset-bound, length-lineOf, length-withLine, field-same, field-other-field, getD-lineOf, getD-withLine-in, getD-withLine-out, field-withLine-zero}
 use Rattle.board.specs.Board.{Shape, cells, rowWords, epochOf, zeroWords}
-use Rattle.board.specs.Location.{Location, cell, Has, sameLocation, lineFor, valueIn, oldIn, logged, Stop, atCell, stops, stopAt, changedAt}
+use Rattle.board.specs.Location.{Location, cell, Has, sameLocation, lineFor, valueIn, oldIn, logged, stops, changedAt}
 use Rattle.predicate.proofs.Bools.{chosen, passedOver}
 
 -- ---- the view
@@ -232,10 +232,6 @@ module _ {σ : Shape} (row : List ℕ) (c v : ℕ) (z : Sized σ row) (h : c < c
 pub view-other : (σ : Shape) (row : List ℕ) (c : ℕ) (f : Field) (v : ℕ) → Has σ (cell c) → (t : Location) → Has σ t → (placeOf t ≡ c → ⊥) → view (withField row c f v) t ≡ view row t
 unfolding withField
 view-other σ row c f v a t b o = view-set-other σ row (cell c) (fieldIndex c f) v a (owns-field c f) t b o
-
--- A store keeps the row's length.
-pub sized-store : {σ : Shape} (row : List ℕ) (c : ℕ) (f : Field) (v : ℕ) → Sized σ row → Sized σ (withField row c f v)
-sized-store row c f v z = record { size = length-withField row c f v ∙ z .size }
 
 -- An erased line's locations are zeros.
 pub view-erased : {σ : Shape} (row : List ℕ) (u : Location) → Sized σ row → Has σ u → view (withLine row (lineFor u) zeroWords) u ≡ zeros

@@ -4,7 +4,6 @@ use mathlib.Core.Path.{_≡_, refl, sym, ap, subst, _∙_}
 use mathlib.Core.Bool.{true, false, _&&_, false≢true}
 use native.Mathlib.Omega.{arith}
 use native.Mathlib.Decide.{decLt}
-use native.Mathlib.Nat.{mod-lt}
 use lib.Dec.{leb, ltb, eqb}
 use lib.ListN.{length, length-set}
 use borrow.Author.Tests.{leb-false, ltb-false, ltb-true, le-leb, eq-eqb, eqb-true, eqb-false}
@@ -102,10 +101,6 @@ refit workers holders holders′ w Free own none h = tt
 refit workers holders holders′ w Waiting own none h = none h
 refit workers holders holders′ w (Updating n c v) own none h = (λ l. own c v n refl l (h .0 l), λ l. (h .1 l .0, none (h .1 l .1)))
 refit workers holders holders′ w Away own none h = none h
-
--- The lock of a data cell is one of 16.
-lock-in : (c : ℕ) → c % 16 < 16
-lock-in c = mod-lt c (omega arith)
 
 -- A free lock is taken by a free worker: it was nobody's.
 take-fits : (s : State) (w k u : ℕ) → w < 15 → unheld (s .holders) k ≡ true → (w ≡ u → ⊥) → Holding (s .workers) (s .holders) u (conditionOf s u) → Holding (s .workers) (heldBy (s .holders) k w) u (conditionOf s u)

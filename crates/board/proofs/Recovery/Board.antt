@@ -7,10 +7,7 @@ use native.Mathlib.Omega.{arith}
 use lib.Dec.{leb, ltb, eqb}
 use lib.ListN.{length}
 use borrow.Author.Tests.{ltb-true, ltb-false, leb-true, eqb-true, eqb-false}
-use Rattle.line.specs.Cell.{cellLine}
-use Rattle.bitset.specs.Words.{empty}
 use Rattle.board.specs.declared.State.{State}
-use Rattle.board.specs.declared.Condition.the-variants.{Free}
 use Rattle.board.specs.declared.UndoStep.{UndoStep}
 use Rattle.board.specs.declared.UndoStep.the-variants.{Restore, Unmark, WriteLine}
 use Rattle.board.specs.declared.Phase.{Phase}
@@ -18,12 +15,11 @@ use Rattle.board.specs.declared.Phase.the-variants.{Recovering}
 use Rattle.board.specs.declared.Call.the-variants.{RecoveryStart, Step}
 use Rattle.board.specs.Board.{Board, Shape, shapeOf, shapeIn, rowWords, shapeOutside, outside, epochOf, linesOf, workersOf, restNotZero}
 use Rattle.board.specs.Location.{stops, stopLine, undoes, restored, unmarked}
-use Rattle.board.specs.State.{allFree, conditionOf, placed, opened}
+use Rattle.board.specs.State.{placed, opened}
 use Rattle.board.specs.Effects.{cached, stated, backed, stopOf, pastStop, recoveryStep, step, effect}
 use Rattle.board.specs.Causes.{causes, badRecoveryRows, badHeader}
 use Rattle.predicate.proofs.Bools.{on, or-left, or-right, and-left, and-right, not-off}
 use Rattle.board.proofs.Invariant.{Underway, Lengths}
-use Rattle.board.proofs.Laws.Workers.{free-condition}
 use Rattle.board.proofs.Laws.Taken.{standsAt, passed, shape-in, limits-in}
 use Rattle.board.specs.Next.{Taken}
 
@@ -64,10 +60,6 @@ pub underway-opened : {σ : Shape} {s : State} → 0 < stops σ → Underway σ 
 underway-opened h u =
     let own = u .own in
     record { own = record { shape = own .shape; limits = own .limits; holders = own .holders; eight = refl }; clean = u .clean; request = u .request; free = refl; within = h }
-
--- Every worker is free.
-pub all-free : {σ : Shape} {s : State} → Underway σ s → (w : ℕ) → conditionOf s w ≡ Free
-all-free {s = s} u w = free-condition s w (u .free)
 
 -- A board within the limits has a stop.
 pub some-stop : (σ : Shape) → shapeOutside σ ≡ false → 0 < stops σ

@@ -5,7 +5,6 @@ use mathlib.Core.Logic.{_⊎_, inl, inr}
 use mathlib.Core.List.{List}
 use mathlib.Core.Bool.{Bool, true, false, cond}
 use native.Mathlib.Omega.{arith}
-use lib.Dec.{eqb}
 use Rattle.board.specs.declared.State.{State}
 use Rattle.board.specs.declared.UndoStep.{UndoStep}
 use Rattle.board.specs.declared.UndoStep.the-variants.{Restore, Unmark, WriteLine}

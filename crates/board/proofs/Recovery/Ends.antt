@@ -1,5 +1,5 @@
 -- Each recovery that is started ends in the steps that its memory calls for, every one of them taken. A taken start has the invariant on any board, so nothing is asked of the board before it.
-use Prim.Native.Nat.{ℕ, zero, suc, _+_}
+use Prim.Native.Nat.{ℕ, zero, suc}
 use mathlib.Core.Path.{_≡_, refl, sym, ap, subst, _∙_}
 use mathlib.Core.Logic.{⊎-elim}
 use mathlib.Core.Bool.{true, false}
@@ -8,7 +8,7 @@ use borrow.Author.Tests.{lt-leb}
 use Rattle.board.specs.declared.Phase.{Phase}
 use Rattle.board.specs.declared.Phase.the-variants.{Recovering, Running}
 use Rattle.board.specs.declared.Call.the-variants.{RecoveryStart, Step}
-use Rattle.board.specs.Board.{Board, shapeOf, shapeIn}
+use Rattle.board.specs.Board.{shapeOf, shapeIn}
 use Rattle.board.specs.Location.{stops, undo}
 use Rattle.board.specs.State.{isOff, isRunning}
 use Rattle.board.specs.Causes.{placePast}

@@ -9,7 +9,6 @@ use native.Mathlib.Decide.{ℕ-discrete}
 use Rattle.line.specs.Line.{lineOf, withLine}
 use Rattle.board.specs.Board.{Shape, epochOf}
 use Rattle.board.specs.Location.{Location, Has}
-use Rattle.board.specs.Statements.{SameSpare}
 use Rattle.board.proofs.Laws.View.{View, view, logs, placeOf, Sized, sized-back, view-back}
 use Rattle.board.proofs.Laws.Only.{OnlyAt, at-places}
 use Rattle.board.proofs.Invariant.{Undo, Undoes, Kept, Whole, Logs, Restoring}

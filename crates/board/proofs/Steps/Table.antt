@@ -11,9 +11,9 @@ use Rattle.predicate.proofs.Bools.{split, chosen, passedOver}
 use Rattle.board.proofs.Invariant.{Lengths}
 use Rattle.board.proofs.Laws.Taken.{Clear, first-clear, table-numbered, take, refused-next, in-shape, in-limits, rows-fine}
 
--- ---- no row stands
+-- ---- no line stands
 
--- No row stands, read row by row.
+-- No line stands, read line by line.
 clear-none : (ks : List Cause) → Clear ks → NoneStands ks
 unfolding Clear
 clear-none [] c r m = absurd (List·Memᴰ·not-nil m)
@@ -25,22 +25,22 @@ unfolding Clear
 none-clear [] n = tt
 none-clear (k ∷ ks) n = (n k (List·Memᴰ·head refl), none-clear ks (λ r m. n r (List·Memᴰ·tail m)))
 
--- ---- the first row that stands
+-- ---- the first line that stands
 
--- Where no number is given but 0, no row stands; else the first row that stands has the number given.
+-- Where no number is given but 0, no line stands; else the first line that stands has the number given.
 first-stands : (ks : List Cause) → Clear ks ⊎ StandsFirst (firstStanding ks) ks
 unfolding Clear firstStanding
 first-stands [] = inl tt
 first-stands (k ∷ ks) =
     split (k .stands)
-    (λ on. inr (record { before = []; row = k; rest = ks; parts = refl; clear = λ r m. absurd (List·Memᴰ·not-nil m); stands = on; number = sym (chosen (k .stands) (k .number) (firstStanding ks) on) }))
+    (λ on. inr (record { before = []; first = k; rest = ks; parts = refl; clear = λ r m. absurd (List·Memᴰ·not-nil m); stands = on; number = sym (chosen (k .stands) (k .number) (firstStanding ks) on) }))
     (λ off. ⊎-elim (λ c. inl (off, c)) (λ f. inr (later off f)) (first-stands ks))
   where
     later : k .stands ≡ false → StandsFirst (firstStanding ks) ks → StandsFirst (cond (k .stands) (k .number) (firstStanding ks)) (k ∷ ks)
     later off f =
         record {
           before = k ∷ f .before;
-          row = f .row;
+          first = f .first;
           rest = f .rest;
           parts = ap (λ (xs : List Cause). k ∷ xs) (f .parts);
           clear = λ r m. ⊎-elim (λ e. ap (λ (x : Cause). x .stands) e ∙ off) (f .clear r) (List·Memᴰ·cases-cons m);
@@ -50,7 +50,7 @@ first-stands (k ∷ ks) =
 
 -- ---- the table
 
--- A call is taken exactly when no row of its table stands, and else refused by the first that does.
+-- A call is taken exactly when no line of its table stands, and else refused by the first that does.
 pub table-both-ways : TableBothWays
 unfolding cause
 table-both-ways k b =

@@ -1,5 +1,4 @@
 -- The bound is the number of cells.
-use borrow.Author.Needs.{needs}
 use Rattle.checks.proofs.record.no_cell.Statement.{statement}
 use Rattle.checks.proofs.record.no_cell.Tie as tie
 
