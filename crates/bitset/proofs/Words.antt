@@ -104,14 +104,16 @@ count-start f = refl
 -- ---- how many numbers the set has
 
 -- They are counted word by word.
-count-words : (words : List ℕ) → countUnder capacity (contains words) ≡ wordCount words 0 + wordCount words 1 + wordCount words 2 + wordCount words 3 + wordCount words 4 + wordCount words 5 + wordCount words 6 + wordCount words 7
+count-words : (words : List ℕ) →
+    countUnder capacity (contains words) ≡ wordCount words 0 + wordCount words 1 + wordCount words 2 + wordCount words 3 + wordCount words 4 + wordCount words 5 + wordCount words 6 + wordCount words 7
 count-words words =
     let more : (k n : ℕ) → countUnder (64 * k) (contains words) ≡ n → countUnder (64 * (k + 1)) (contains words) ≡ n + wordCount words k =
     λ k n e. count-word words k ∙ ap (λ (x : ℕ). x + wordCount words k) e in
     more 7 _ (more 6 _ (more 5 _ (more 4 _ (more 3 _ (more 2 _ (more 1 _ (more 0 0 (count-start (contains words)) ∙ zero-add (wordCount words 0))))))))
 
 -- The size is the sum of the words' counts.
-pub size-words : (words : List ℕ) → size words ≡ wordCount words 0 + wordCount words 1 + wordCount words 2 + wordCount words 3 + wordCount words 4 + wordCount words 5 + wordCount words 6 + wordCount words 7
+pub size-words : (words : List ℕ) →
+    size words ≡ wordCount words 0 + wordCount words 1 + wordCount words 2 + wordCount words 3 + wordCount words 4 + wordCount words 5 + wordCount words 6 + wordCount words 7
 unfolding size
 size-words words =
     let bits : (k : ℕ) → bitsIn 64 (getD words k 0) ≡ wordCount words k = λ k. bits-count 64 (getD words k 0) in

@@ -32,7 +32,8 @@ pub record PlayedRecovery (r : Run) (s : State) (cache : List ℕ) (ks : List Ca
   pub count : recoverySteps (r .board .memory) ≡ n
 
 -- By the theorem, and not by running it, a read of cell `c` then returns 0 and gives the checkpointed value.
-pub played-reads : (r : Run) → History r → (s : State) (cache : List ℕ) (ks : List Call) (n : ℕ) → PlayedRecovery r s cache ks n → (c v : ℕ) → c < cells (shapeIn (r .board .memory)) → r .machine .checkpointed (cell c) ≡ v →
+pub played-reads : (r : Run) → History r → (s : State) (cache : List ℕ) (ks : List Call) (n : ℕ) → PlayedRecovery r s cache ks n → (c v : ℕ) →
+    c < cells (shapeIn (r .board .memory)) → r .machine .checkpointed (cell c) ≡ v →
     (number value : ℕ) (b : Board) → Performed (Read c) (cutAndPlayed r s cache ks) number value b → (number ≡ 0) × (value ≡ v)
 played-reads r h s cache ks n played c v inside holds number value b p =
     let left = cutAndPlayed r s cache ks in

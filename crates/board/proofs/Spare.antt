@@ -18,7 +18,8 @@ use Rattle.board.proofs.Keeps.Every.{carried, history-inv}
 use Rattle.board.proofs.Format.Begins.{format-fresh}
 
 -- While recovering or running the cache has memory's.
-spare-cache : (r : Run) → Inv r → r .crashed ≡ false → isFormatting (r .board .state .phase) ≡ false → SameSpare (r .machine .shape) (r .board .memory) (r .board .cache)
+spare-cache : (r : Run) → Inv r → r .crashed ≡ false → isFormatting (r .board .state .phase) ≡ false →
+    SameSpare (r .machine .shape) (r .board .memory) (r .board .cache)
 spare-cache r inv d f = go (r .board .state .phase) refl
   where
     go : (p : Phase) → r .board .state .phase ≡ p → SameSpare (r .machine .shape) (r .board .memory) (r .board .cache)
@@ -35,10 +36,12 @@ spare-next format r r′ given done s i k a b c d = go format done
     inside : r′ .machine .shape ≡ r .machine .shape → i ≤ cellLines (r .machine .shape)
     inside e = subst (λ (σ : Shape). i ≤ cellLines σ) e b
 
-    old : r′ .machine .shape ≡ r .machine .shape → cond (eqb ((lineStart i + k) / 8) (r .board .state .place)) 0 (getD (r .board .memory) (lineStart i + k) 0) ≡ cond (eqb ((lineStart i + k) / 8) (r .board .state .place)) 0 (given (lineStart i + k))
+    old : r′ .machine .shape ≡ r .machine .shape →
+        cond (eqb ((lineStart i + k) / 8) (r .board .state .place)) 0 (getD (r .board .memory) (lineStart i + k) 0) ≡ cond (eqb ((lineStart i + k) / 8) (r .board .state .place)) 0 (given (lineStart i + k))
     old e = ap (cond (eqb ((lineStart i + k) / 8) (r .board .state .place)) 0) (s i k a (inside e) c d)
 
-    go : (f : Bool) → Completes f r r′ → getD (r′ .board .memory) (lineStart i + k) 0 ≡ cond (f && eqb ((lineStart i + k) / 8) (r .board .state .place)) 0 (given (lineStart i + k))
+    go : (f : Bool) → Completes f r r′ →
+        getD (r′ .board .memory) (lineStart i + k) 0 ≡ cond (f && eqb ((lineStart i + k) / 8) (r .board .state .place)) 0 (given (lineStart i + k))
     go false (inl u) = u .board .spare i k a (inside (u .board .shape)) c d ∙ s i k a (inside (u .board .shape)) c d
     go false (inr u) = u .board .spare i k a (inside (u .board .shape)) c d ∙ s i k a (inside (u .board .shape)) c d
     go true (inl u) = u .spare i k a (inside (u .shape)) c d ∙ old (u .shape)

@@ -89,7 +89,8 @@ demand3 r s hr hs b d er es =
     (x, y, λ same. alike (r .machine) (s .machine) b d same x y)
 
 -- The last checkpoint stays where memory's epoch does, and is the current one where it rises.
-last-stays : (format : Bool) (r r′ : Run) (xs : Location → ℕ) → Completes format r r′ → (c : Location) → Has (r′ .machine .shape) c → (Has (r .machine .shape) c → xs c ≡ r .machine .checkpointed c) → cond (rose r r′) (r′ .machine .current) xs c ≡ r′ .machine .checkpointed c
+last-stays : (format : Bool) (r r′ : Run) (xs : Location → ℕ) → Completes format r r′ → (c : Location) → Has (r′ .machine .shape) c →
+    (Has (r .machine .shape) c → xs c ≡ r .machine .checkpointed c) → cond (rose r r′) (r′ .machine .current) xs c ≡ r′ .machine .checkpointed c
 last-stays format r r′ xs done c h before = go format done
   where
     old : ℕ
@@ -98,7 +99,8 @@ last-stays format r r′ xs done c h before = go format done
     new : ℕ
     new = epochOf (r′ .board .memory)
 
-    by-rise : (new ≡ old + 1 → r′ .machine .current c ≡ r′ .machine .checkpointed c) → ((new ≡ old + 1 → ⊥) → xs c ≡ r′ .machine .checkpointed c) → cond (rose r r′) (r′ .machine .current) xs c ≡ r′ .machine .checkpointed c
+    by-rise : (new ≡ old + 1 → r′ .machine .current c ≡ r′ .machine .checkpointed c) → ((new ≡ old + 1 → ⊥) → xs c ≡ r′ .machine .checkpointed c) →
+        cond (rose r r′) (r′ .machine .current) xs c ≡ r′ .machine .checkpointed c
     by-rise f g =
         on (λ (x : Location → ℕ). x c ≡ r′ .machine .checkpointed c) (rose r r′) (r′ .machine .current) xs (λ t. f (eqb-true new (old + 1) t)) (λ t. g (eqb-false new (old + 1) t))
 
@@ -134,7 +136,8 @@ header-sizes r h e =
     header : linesOf (r .board .memory) ≡ r .machine .shape .lines
     header = same-lines (i .kept e .header .shape)
 
-    lines : (p : Phase) → r .board .state .phase ≡ p → r .crashed ≡ false → isFormatting (r .board .state .phase) ≡ false → (r .board .state .lines ≡ linesOf (r .board .memory)) × (r .board .state .workers ≡ workersOf (r .board .memory))
+    lines : (p : Phase) → r .board .state .phase ≡ p → r .crashed ≡ false → isFormatting (r .board .state .phase) ≡ false →
+        (r .board .state .lines ≡ linesOf (r .board .memory)) × (r .board .state .workers ≡ workersOf (r .board .memory))
     lines Off q d f = absurd (in-phase r i d Off q)
     lines Formatting q d f = absurd (true≢false (sym (ap isFormatting q) ∙ f))
     lines Recovering q d f = (same-lines (in-phase r i d Recovering q .0 .underway .own .shape) ∙ sym header, in-phase r i d Recovering q .0 .sizes .workers)

@@ -89,7 +89,9 @@ module _ {r : Run} {w c v : ℕ} {next : Store} (u : Before r w c v next) where
   seat = own-seat (r .board .state) (now .run .own) (u .under)
 
   -- An advance after which the update goes on, to the store `then`.
-  goes-on : (then : Store) → (advance next w c v (r .board .state) (r .board) .state .phase ≡ Running) × (w < advance next w c v (r .board .state) (r .board) .state .workers) × (conditionOf (advance next w c v (r .board .state) (r .board) .state) w ≡ Updating then c v) → Before (afterTaken (Advance w) r) w c v then
+  goes-on : (then : Store) →
+      (advance next w c v (r .board .state) (r .board) .state .phase ≡ Running) × (w < advance next w c v (r .board .state) (r .board) .state .workers) × (conditionOf (advance next w c v (r .board .state) (r .board) .state) w ≡ Updating then c v) →
+      Before (afterTaken (Advance w) r) w c v then
   goes-on then p =
       record {
         inv = after-inv;
@@ -168,7 +170,8 @@ module _ (r : Run) (w c v : ℕ) (k : Call) (inv : Inv (afterTaken k r)) (uncut 
       (decide (λ (t : Bool). Before (afterTaken k r) w c v (cond t Record Backup) → UpdateEnded w c v (cond t 1 3) (effect k (r .board))) (logged (r .board .cache) (cell c)) (λ t. last-store) (λ t. three-stores) started)
 
 -- A started update or restart point ends, where the invariant holds.
-pub update-ends : (r : Run) → Inv r → r .crashed ≡ false → (w c v : ℕ) (k : Call) → Starts w c v k → (value : ℕ) (b : Board) → Performed k (r .board) 0 value b → UpdateEnded w c v (cond (r .machine .marked (cell c)) 1 3) b
+pub update-ends : (r : Run) → Inv r → r .crashed ≡ false → (w c v : ℕ) (k : Call) → Starts w c v k → (value : ℕ) (b : Board) →
+    Performed k (r .board) 0 value b → UpdateEnded w c v (cond (r .machine .marked (cell c)) 1 3) b
 unfolding standsAt causes effect
 update-ends r inv d w c v k (updates) value b p =
     let (t, same) = performed-taken (Update w c v) (r .board) p refl in

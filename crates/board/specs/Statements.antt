@@ -195,7 +195,8 @@ abbrev pub AwayHoldsUpNone : Type 0
 AwayHoldsUpNone =
     (r : Run) → History r → r .crashed ≡ false → isRunning (r .board .state .phase) ≡ true → r .board .state .requested ≡ true →
     AllWaitOrAway (r .board .state) →
-    (left : ℕ) → r .board .state .place + left ≡ dirtyCount (r .board .state) + 3 → EndsIn left (r .board) × KeepsAway (r .board .state) (stepsFrom left (r .board) .state)
+    (left : ℕ) → r .board .state .place + left ≡ dirtyCount (r .board .state) + 3 →
+    EndsIn left (r .board) × KeepsAway (r .board .state) (stepsFrom left (r .board) .state)
 
 -- Worker `w` holds none of the 16 locks.
 abbrev pub HoldsNone : State → ℕ → Type 0

@@ -91,7 +91,8 @@ head-told s =
     ap (λ (past : Bool). outside (shapeOf s) (s .workers) || strays (s .dirty) (s .lines) || heldFrom (s .holders) (s .workers) || past) (place-told (s .phase) s)
 
 -- The record of a running step that is ready is told without its workers: all workers under W wait or are away, so that none has an update.
-pub ready-record : {running unready : Bool} (s : State) → running ≡ isRunning (s .phase) → unready ≡ notReady s → running && not unready ≡ true → badHead s ≡ badRecord s
+pub ready-record : {running unready : Bool} (s : State) → running ≡ isRunning (s .phase) → unready ≡ notReady s → running && not unready ≡ true →
+    badHead s ≡ badRecord s
 unfolding badRecord
 ready-record {running} {unready} s p q t =
     let waits = anyWorker s (λ condition. not (quiescent condition)) in

@@ -57,7 +57,8 @@ quiet-later s i (suc n) h t =
 -- ---- what is kept of a line
 
 -- A text copied to the front of what lies behind `at` is the text written there.
-pub appended : (row : List ℕ) (at : ℕ) (text last : List ℕ) → at + length text ≤ length row → last ≡ take (length text) text ++ drop (length text) (midOf at (length row - at) row) → putMid at (length row - at) row last ≡ put row at text
+pub appended : (row : List ℕ) (at : ℕ) (text last : List ℕ) → at + length text ≤ length row →
+    last ≡ take (length text) text ++ drop (length text) (midOf at (length row - at) row) → putMid at (length row - at) row last ≡ put row at text
 appended row at text last h e =
     let size : length row - at ≡ length (drop at row) = sym (length-drop at row) in
     let part : midOf at (length row - at) row ≡ drop at row = take-all (length row - at) (drop at row) (omega arith) in
@@ -70,7 +71,9 @@ appended row at text last h e =
     ∙ sym (append-assoc (take at row) text (drop (at + length text) row))
 
 -- The first `n` bytes of `more`, put behind the bytes kept, are all of it that is kept.
-pub kept-line : (line more after : List ℕ) (begun n end : ℕ) → length line ≡ 80 → begun + n ≤ 80 → n ≤ length more → take n more ≡ take (80 - begun) more → end ≡ begun + n → after ≡ put line begun (take n more) → take end after ≡ take 80 (take begun line ++ more)
+pub kept-line : (line more after : List ℕ) (begun n end : ℕ) → length line ≡ 80 → begun + n ≤ 80 → n ≤ length more →
+    take n more ≡ take (80 - begun) more → end ≡ begun + n → after ≡ put line begun (take n more) →
+    take end after ≡ take 80 (take begun line ++ more)
 kept-line line more after begun n end size fits within all e p =
     let front = take begun line in
     let width : length (take n more) ≡ n = length-take-le n more within in

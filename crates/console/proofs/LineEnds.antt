@@ -38,7 +38,9 @@ module _ (program : Program) (b : Board) (n : ℕ) (text : List ℕ) (number let
       ∙ ap (λ (x : ℕ). carried (carriedOut (meaning program text) b .board) x []) counts
 
   -- A line's end, once its answer is written behind the others.
-  pub line-ends : letter ≡ letterOf (getD text 0 0) (d .answer) → {out written : List ℕ} {at end : ℕ} → Put out at (answerText number letter (d .answer) (d .value)) written end → end ≤ at + 65 → at + 80 ≤ length out → LineEnds (ended program (carried b n text)) (carried (d .board) number []) out at written end
+  pub line-ends : letter ≡ letterOf (getD text 0 0) (d .answer) → {out written : List ℕ} {at end : ℕ} →
+      Put out at (answerText number letter (d .answer) (d .value)) written end → end ≤ at + 65 → at + 80 ≤ length out →
+      LineEnds (ended program (carried b n text)) (carried (d .board) number []) out at written end
   line-ends heads {out} {written} {at} {end} puts short room =
       record {
         leaves = line-leaves;
@@ -62,7 +64,8 @@ ended-kept program b n text =
     ∙ ap (λ (first : ℕ). end (letterOf first (d .answer)) d) (getD-take 80 text 0 0 (omega arith))
 
 -- A line's end that leaves the same by another name.
-pub ends-as : {should : Fed} {after other : Carried} {out written : List ℕ} {at end : ℕ} → LineEnds should after out at written end → after ≡ other → LineEnds should other out at written end
+pub ends-as : {should : Fed} {after other : Carried} {out written : List ℕ} {at end : ℕ} → LineEnds should after out at written end → after ≡ other →
+    LineEnds should other out at written end
 ends-as {should} {after} {other} {out} {written} {at} {end} e same = subst (λ (x : Carried). LineEnds should x out at written end) same e
 
 -- After a line the code is ready for the next.

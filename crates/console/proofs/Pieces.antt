@@ -62,19 +62,25 @@ unfolding fed indexOf indexAfter
 rest-fed program p [] e h = ap (λ (q : Carried). leaving q []) (sym (kept-none p h))
 rest-fed program p (b ∷ bs) e h = by-test (eqb b feed) (λ i. rest-fed program (kept p (b ∷ [])) bs i (kept-short p (b ∷ []))) e
   where
-    by-test : (t : Bool) → (indexOf feed bs ≡ length bs → fed program (kept p (b ∷ [])) bs ≡ leaving (kept (kept p (b ∷ [])) bs) []) → indexAfter t (indexOf feed bs) ≡ suc (length bs) → andThen (cond t (ended program p) (leaving (kept p (b ∷ [])) [])) (fed program (cond t (ended program p) (leaving (kept p (b ∷ [])) []) .after) bs) ≡ leaving (kept p (b ∷ bs)) []
+    by-test : (t : Bool) → (indexOf feed bs ≡ length bs → fed program (kept p (b ∷ [])) bs ≡ leaving (kept (kept p (b ∷ [])) bs) []) →
+        indexAfter t (indexOf feed bs) ≡ suc (length bs) →
+        andThen (cond t (ended program p) (leaving (kept p (b ∷ [])) [])) (fed program (cond t (ended program p) (leaving (kept p (b ∷ [])) []) .after) bs) ≡ leaving (kept p (b ∷ bs)) []
     by-test true again e = absurd (omega arith)
     by-test false again e =
         ap (andThen (leaving (kept p (b ∷ [])) [])) (again (omega arith))
         ∙ ap (λ (q : Carried). leaving q []) (kept-kept p (b ∷ []) bs)
 
 -- A piece up to its first line feed ends a line.
-pub line-fed : (program : Program) (p : Carried) (s : List ℕ) → indexOf feed s < length s → length (p .begun) ≤ 80 → fed program p (take (suc (indexOf feed s)) s) ≡ ended program (kept p (take (indexOf feed s) s))
+pub line-fed : (program : Program) (p : Carried) (s : List ℕ) → indexOf feed s < length s → length (p .begun) ≤ 80 →
+    fed program p (take (suc (indexOf feed s)) s) ≡ ended program (kept p (take (indexOf feed s) s))
 unfolding fed indexOf indexAfter
 line-fed program p [] e h = absurd (omega arith)
 line-fed program p (b ∷ bs) e h = by-test (eqb b feed) (λ i. line-fed program (kept p (b ∷ [])) bs i (kept-short p (b ∷ []))) e
   where
-    by-test : (t : Bool) → (indexOf feed bs < length bs → fed program (kept p (b ∷ [])) (take (suc (indexOf feed bs)) bs) ≡ ended program (kept (kept p (b ∷ [])) (take (indexOf feed bs) bs))) → indexAfter t (indexOf feed bs) < suc (length bs) → andThen (cond t (ended program p) (leaving (kept p (b ∷ [])) [])) (fed program (cond t (ended program p) (leaving (kept p (b ∷ [])) []) .after) (take (indexAfter t (indexOf feed bs)) bs)) ≡ ended program (kept p (take (indexAfter t (indexOf feed bs)) (b ∷ bs)))
+    by-test : (t : Bool) →
+        (indexOf feed bs < length bs → fed program (kept p (b ∷ [])) (take (suc (indexOf feed bs)) bs) ≡ ended program (kept (kept p (b ∷ [])) (take (indexOf feed bs) bs))) →
+        indexAfter t (indexOf feed bs) < suc (length bs) →
+        andThen (cond t (ended program p) (leaving (kept p (b ∷ [])) [])) (fed program (cond t (ended program p) (leaving (kept p (b ∷ [])) []) .after) (take (indexAfter t (indexOf feed bs)) bs)) ≡ ended program (kept p (take (indexAfter t (indexOf feed bs)) (b ∷ bs)))
     by-test true again e =
         ap (leaving (ended program p .after)) (append-nil (ended program p .text)) ∙ ap (ended program) (sym (kept-none p h))
     by-test false again e =
@@ -85,14 +91,18 @@ line-fed program p (b ∷ bs) e h = by-test (eqb b feed) (λ i. line-fed program
 
 module _ (program : Program) (first reached : Carried) (text piece : List ℕ) (at : ℕ) (so-far : leaving reached text ≡ fed program first (take at piece)) (short : length (reached .begun) ≤ 80) where
   -- A further part of the piece.
-  further : (more : List ℕ) (does : Fed) → fed program reached more ≡ does → leaving (does .after) (text ++ does .text) ≡ fed program first (take at piece ++ more)
+  further : (more : List ℕ) (does : Fed) → fed program reached more ≡ does →
+      leaving (does .after) (text ++ does .text) ≡ fed program first (take at piece ++ more)
   further more does e =
       sym (fed-append program first (take at piece) more
       ∙ ap (λ (f : Fed). andThen f (fed program (f .after) more)) (sym so-far)
       ∙ ap (andThen (leaving reached text)) e)
 
   -- A line more.
-  pub line-more : (stop : ℕ) → stop ≡ at + indexOf feed (drop at piece) → stop < length piece → {after : Carried} {out written : List ℕ} {from end : ℕ} → text ≡ take from out → LineEnds (ended program (kept reached (take (stop - at) (drop at piece)))) after out from written end → leaving after (take end written) ≡ fed program first (take (stop + 1) piece)
+  pub line-more : (stop : ℕ) → stop ≡ at + indexOf feed (drop at piece) → stop < length piece →
+      {after : Carried} {out written : List ℕ} {from end : ℕ} → text ≡ take from out →
+      LineEnds (ended program (kept reached (take (stop - at) (drop at piece)))) after out from written end →
+      leaving after (take end written) ≡ fed program first (take (stop + 1) piece)
   line-more stop e h {after} {out} {written} {from} {end} same ends =
       let s = drop at piece in
       let k = indexOf feed s in
@@ -107,7 +117,8 @@ module _ (program : Program) (first reached : Carried) (text piece : List ℕ) (
       ∙ ap (fed program first) (sym (ap (λ (n : ℕ). take n piece) far ∙ take-add at (suc k) piece))
 
   -- The rest of the piece, in which no line ends.
-  pub rest-more : (stop : ℕ) → at ≤ length piece → stop ≡ at + indexOf feed (drop at piece) → stop ≡ length piece → {after : Carried} → after ≡ kept reached (take (stop - at) (drop at piece)) → leaving after text ≡ fed program first (take stop piece)
+  pub rest-more : (stop : ℕ) → at ≤ length piece → stop ≡ at + indexOf feed (drop at piece) → stop ≡ length piece → {after : Carried} →
+      after ≡ kept reached (take (stop - at) (drop at piece)) → leaving after text ≡ fed program first (take stop piece)
   rest-more stop h e all {after} keeps =
       let s = drop at piece in
       let size : length s ≡ indexOf feed s = omega (arith, length-drop at piece) in
@@ -119,7 +130,10 @@ module _ (program : Program) (first reached : Carried) (text piece : List ℕ) (
       ∙ ap (fed program first) (sym (ap (λ (n : ℕ). take n piece) far ∙ take-add at (length s) piece ∙ ap (λ (l : List ℕ). take at piece ++ l) (take-length s)))
 
 -- The part of a piece that is used up, and the part that is used up of what is left.
-pub used-more : (program : Program) (first reached after : Carried) (piece : List ℕ) (used more : ℕ) → reached ≡ fed program first (take used piece) .after → more ≤ length (take (length piece - used) (drop used piece)) → after ≡ fed program reached (take more (take (length piece - used) (drop used piece))) .after → after ≡ fed program first (take (used + more) piece) .after
+pub used-more : (program : Program) (first reached after : Carried) (piece : List ℕ) (used more : ℕ) →
+    reached ≡ fed program first (take used piece) .after → more ≤ length (take (length piece - used) (drop used piece)) →
+    after ≡ fed program reached (take more (take (length piece - used) (drop used piece))) .after →
+    after ≡ fed program first (take (used + more) piece) .after
 used-more program first reached after piece used more so-far fits e =
     let rest = drop used piece in
     let part : take more (take (length piece - used) rest) ≡ take more rest = take-take more (length piece - used) rest (omega (arith, length-take (length piece - used) rest)) in
@@ -129,7 +143,9 @@ used-more program first reached after piece used more so-far fits e =
     ∙ sym (ap (λ (f : Fed). f .after) (ap (fed program first) (take-add used more piece) ∙ fed-append program first (take used piece) (take more rest)))
 
 -- What is carried once more bytes of a line are kept.
-pub kept-by : (k p : Ongoing) (m c line after rest : List ℕ) → (k .session ≡ p .session) × (k .number ≡ p .number) × (take (k .begun) after ≡ take 80 (take (p .begun) line ++ rest)) → carriedBy k m c after ≡ kept (carriedBy p m c line) rest
+pub kept-by : (k p : Ongoing) (m c line after rest : List ℕ) →
+    (k .session ≡ p .session) × (k .number ≡ p .number) × (take (k .begun) after ≡ take 80 (take (p .begun) line ++ rest)) →
+    carriedBy k m c after ≡ kept (carriedBy p m c line) rest
 kept-by k p m c line after rest w =
     ap (λ (s : Session). carried (boardOf s m c) (k .number) (take (k .begun) after)) (w .0)
     ∙ ap (λ (n : ℕ). carried (boardOf (p .session) m c) n (take (k .begun) after)) (w .1)
@@ -142,13 +158,16 @@ begun-short {p} r line = omega (arith, r .line-within, length-take (p .begun) li
 -- ---- after the input
 
 -- No line is begun.
-pub none-last : (program : Program) (p : Ongoing) (m c line : List ℕ) → p .begun ≡ 0 → leaving (carriedBy p m c line) [] ≡ finished program (carriedBy p m c line)
+pub none-last : (program : Program) (p : Ongoing) (m c line : List ℕ) → p .begun ≡ 0 →
+    leaving (carriedBy p m c line) [] ≡ finished program (carriedBy p m c line)
 none-last program p m c line z =
     let none : length (take (p .begun) line) ≡ 0 = ap (λ (k : ℕ). length (take k line)) z in
     sym (chosen (eqb (length (take (p .begun) line)) 0) _ _ (eq-eqb _ 0 none))
 
 -- The line begun ends by the line feed that it lacks.
-pub line-last : (program : Program) (p : Ongoing) (m c line : List ℕ) → Ready p → length line ≡ 80 → (p .begun ≡ 0 → ⊥) → {f : Fed} {used written : ℕ} → f ≡ fed program (carriedBy p m c line) (take used (feed ∷ [])) → Stops (feed ∷ []) used written → f ≡ finished program (carriedBy p m c line)
+pub line-last : (program : Program) (p : Ongoing) (m c line : List ℕ) → Ready p → length line ≡ 80 → (p .begun ≡ 0 → ⊥) →
+    {f : Fed} {used written : ℕ} → f ≡ fed program (carriedBy p m c line) (take used (feed ∷ [])) → Stops (feed ∷ []) used written →
+    f ≡ finished program (carriedBy p m c line)
 unfolding fed
 line-last program p m c line r size some {f} {used} {written} e′ stops =
     let from = carriedBy p m c line in

@@ -105,7 +105,8 @@ module _ (program : Program) (b : Board) (n : ℕ) (u : List ℕ) (c : ℕ) (cs 
       linesFed program n b (onto u (cond t ([] ∷ linesOf cs) (joined c (linesOf cs))))
 
   -- A line feed ends the line begun.
-  at-feed : closed program (fed program (ended program (carried b n u) .after) cs) ≡ linesFed program (following n) (carriedOut (meaning program u) b .board) (linesOf cs) → Byte true
+  at-feed : closed program (fed program (ended program (carried b n u) .after) cs) ≡ linesFed program (following n) (carriedOut (meaning program u) b .board) (linesOf cs) →
+      Byte true
   unfolding linesFed
   at-feed again =
       let line = ended program (carried b n u) in
@@ -128,7 +129,8 @@ module _ (program : Program) (b : Board) (n : ℕ) (u : List ℕ) (c : ℕ) (cs 
   either false feeds goes-on = goes-on
 
 -- A piece and the input's end do what its lines do, the first of which goes on the line begun.
-closed-fed : (program : Program) (b : Board) (n : ℕ) (u x : List ℕ) → closed program (fed program (carried b n (take 80 u)) x) ≡ linesFed program n b (onto u (linesOf x))
+closed-fed : (program : Program) (b : Board) (n : ℕ) (u x : List ℕ) →
+    closed program (fed program (carried b n (take 80 u)) x) ≡ linesFed program n b (onto u (linesOf x))
 unfolding fed linesOf onto
 closed-fed program b n u [] = last-line program b n u
 closed-fed program b n u (c ∷ cs) =

@@ -11,7 +11,8 @@ use Rattle.board.specs.Board.{Board}
 use Rattle.damage.specs.Checksum.{mixed, summed, fieldNumbers, workersNumbers, dirtyNumbers, holdersNumbers, rowNumbers, checksum}
 
 -- The product by 2^40 + 435 mod 2^64, from the low 24 bits and two halves.
-pub spread-parts : (y : ℕ) → ((y % 16777216 * 1099511627776 + y / 4294967296 * 435 % 4294967296 * 4294967296) % 2 ^ 64 + y % 4294967296 * 435) % 2 ^ 64 ≡ (y * 1099511628211) % 2 ^ 64
+pub spread-parts : (y : ℕ) →
+    ((y % 16777216 * 1099511627776 + y / 4294967296 * 435 % 4294967296 * 4294967296) % 2 ^ 64 + y % 4294967296 * 435) % 2 ^ 64 ≡ (y * 1099511628211) % 2 ^ 64
 spread-parts y =
     let far = y % 16777216 * 1099511627776 in
     let high = y / 4294967296 * 435 % 4294967296 * 4294967296 in
@@ -44,7 +45,8 @@ unfolding summed
 mixing-row h row e = record { within = omega arith; rest = ap (λ (x : ℕ). summed x row) (sym e) }
 
 -- A word more.
-pub mixing-more : {whole reached i next : ℕ} {row : List ℕ} → Mixing whole row reached i → i < length row → next ≡ mixed reached (getD row i 0) → Mixing whole row next (i + 1)
+pub mixing-more : {whole reached i next : ℕ} {row : List ℕ} → Mixing whole row reached i → i < length row → next ≡ mixed reached (getD row i 0) →
+    Mixing whole row next (i + 1)
 unfolding summed
 mixing-more {whole} {reached} {i} {next} {row} m h e =
     record {
@@ -69,11 +71,13 @@ six-parts : (h : ℕ) (a b c d e f : List ℕ) → summed h (a ++ b ++ c ++ d ++
 six-parts h a b c d e f = simp summed-append
 
 -- Eight parts.
-pub eight-parts : (h : ℕ) (a b c d e f g i : List ℕ) → summed h (a ++ b ++ c ++ d ++ e ++ f ++ g ++ i) ≡ summed (summed (summed (summed (summed (summed (summed (summed h a) b) c) d) e) f) g) i
+pub eight-parts : (h : ℕ) (a b c d e f g i : List ℕ) →
+    summed h (a ++ b ++ c ++ d ++ e ++ f ++ g ++ i) ≡ summed (summed (summed (summed (summed (summed (summed (summed h a) b) c) d) e) f) g) i
 eight-parts h a b c d e f g i = simp summed-append
 
 -- Everything, part by part.
-pub checksum-parts : (b : Board) → checksum b ≡ summed (summed (summed (summed (summed (summed 14695981039346656037 (fieldNumbers (b .state))) (workersNumbers (b .state))) (dirtyNumbers (b .state))) (holdersNumbers (b .state))) (rowNumbers (b .memory))) (rowNumbers (b .cache))
+pub checksum-parts : (b : Board) →
+    checksum b ≡ summed (summed (summed (summed (summed (summed 14695981039346656037 (fieldNumbers (b .state))) (workersNumbers (b .state))) (dirtyNumbers (b .state))) (holdersNumbers (b .state))) (rowNumbers (b .memory))) (rowNumbers (b .cache))
 unfolding checksum
 checksum-parts b =
     six-parts 14695981039346656037 (fieldNumbers (b .state)) (workersNumbers (b .state)) (dirtyNumbers (b .state)) (holdersNumbers (b .state)) (rowNumbers (b .memory)) (rowNumbers (b .cache))

@@ -45,19 +45,22 @@ dropped x p q e = e ∙ sym (passedOver _ x _ (sym p ∙ q))
 
 module _ (s : State) {s′ : State} (m c : List ℕ) {m′ c′ : List ℕ} where
   -- A line up to L becomes zeros.
-  pub erased : s .place ≤ s .lines → s′ ≡ placed s (s .place + 1) (s .undo) → m′ ≡ withLine m (s .place) zeroWords → c′ ≡ withLine c (s .place) zeroWords → lent s′ m′ c′ ≡ formatStep s (lent s m c)
+  pub erased : s .place ≤ s .lines → s′ ≡ placed s (s .place + 1) (s .undo) → m′ ≡ withLine m (s .place) zeroWords →
+      c′ ≡ withLine c (s .place) zeroWords → lent s′ m′ c′ ≡ formatStep s (lent s m c)
   unfolding formatStep
   erased h p q r = picked _ (sym (le-leb (s .place) (s .lines) h)) refl (same-board p q r)
 
   -- Past line L the header is made.
-  pub headed : s .lines < s .place → s′ ≡ opened s empty → m′ ≡ withLine m 0 (headerWords 1 (shapeOf s) (s .workers)) → c′ ≡ withLine c 0 (headerWords 1 (shapeOf s) (s .workers)) → lent s′ m′ c′ ≡ formatStep s (lent s m c)
+  pub headed : s .lines < s .place → s′ ≡ opened s empty → m′ ≡ withLine m 0 (headerWords 1 (shapeOf s) (s .workers)) →
+      c′ ≡ withLine c 0 (headerWords 1 (shapeOf s) (s .workers)) → lent s′ m′ c′ ≡ formatStep s (lent s m c)
   unfolding formatStep
   headed h p q r = dropped _ (sym (lt-leb (s .place) (s .lines) h)) refl (same-board p q r)
 
 -- ---- recovery
 
 -- A recovery's start, from the header's two words.
-pub restarts : {s′ : State} {l w : ℕ} (row : List ℕ) → l ≡ linesOf row → w ≡ workersOf row → s′ ≡ started Recovering (shaped l) w → s′ ≡ started Recovering (shapeIn row) (workersOf row)
+pub restarts : {s′ : State} {l w : ℕ} (row : List ℕ) → l ≡ linesOf row → w ≡ workersOf row → s′ ≡ started Recovering (shaped l) w →
+    s′ ≡ started Recovering (shapeIn row) (workersOf row)
 restarts row p q e = e ∙ (λ i. started Recovering (shaped (p i)) (q i))
 
 -- A cell's log, from the two words that are compared.
@@ -74,7 +77,8 @@ last-cell s e h p = dropped _ (sym (le-ltb (s .place + 1) (cells (shapeOf s)) (o
 
 module _ (s : State) {s′ : State} (m c : List ℕ) where
   -- "record := backup".
-  pub restores : {c′ : List ℕ} {t : Bool} {v : ℕ} → t ≡ logged c (Location.cell (s .place)) → t ≡ true → s′ ≡ placed s (s .place) Unmark → v ≡ fieldOf c (s .place) Field.Backup → c′ ≡ withField c (s .place) Field.Record v → lent s′ m c′ ≡ recoveryStep Restore s (lent s m c)
+  pub restores : {c′ : List ℕ} {t : Bool} {v : ℕ} → t ≡ logged c (Location.cell (s .place)) → t ≡ true → s′ ≡ placed s (s .place) Unmark →
+      v ≡ fieldOf c (s .place) Field.Backup → c′ ≡ withField c (s .place) Field.Record v → lent s′ m c′ ≡ recoveryStep Restore s (lent s m c)
   unfolding recoveryStep
   restores p q r f g = picked _ p q (same-board r refl (g ∙ ap (withField c (s .place) Field.Record) f))
 
@@ -84,12 +88,14 @@ module _ (s : State) {s′ : State} (m c : List ℕ) where
   passes p q r = dropped _ p q (same-board r refl refl)
 
   -- "mark := 0".
-  pub unmarks : {c′ : List ℕ} → s′ ≡ placed s (s .place) WriteLine → c′ ≡ withField c (s .place) Field.Mark 0 → lent s′ m c′ ≡ recoveryStep Unmark s (lent s m c)
+  pub unmarks : {c′ : List ℕ} → s′ ≡ placed s (s .place) WriteLine → c′ ≡ withField c (s .place) Field.Mark 0 →
+      lent s′ m c′ ≡ recoveryStep Unmark s (lent s m c)
   unfolding recoveryStep
   unmarks p q = same-board p refl q
 
   -- "its line written back".
-  pub writes : {m′ : List ℕ} {l : ℕ} → l ≡ cellLine (s .place) → s′ ≡ pastStop s → m′ ≡ withLine m l (lineOf c l) → lent s′ m′ c ≡ recoveryStep WriteLine s (lent s m c)
+  pub writes : {m′ : List ℕ} {l : ℕ} → l ≡ cellLine (s .place) → s′ ≡ pastStop s → m′ ≡ withLine m l (lineOf c l) →
+      lent s′ m′ c ≡ recoveryStep WriteLine s (lent s m c)
   unfolding recoveryStep
   writes e p q = same-board p (q ∙ ap (λ (l : ℕ). withLine m l (lineOf c l)) e) refl
 
@@ -105,17 +111,20 @@ module _ (s : State) {s′ : State} (m c : List ℕ) (w cell v : ℕ) where
   notes p q = same-board (q ∙ ap (λ (x : Store). conditioned s w (Updating x cell v)) p) refl refl
 
   -- "backup := record".
-  pub backs-up : {c′ : List ℕ} {old : ℕ} → old ≡ fieldOf c cell Field.Record → c′ ≡ withField c cell Field.Backup old → s′ ≡ conditioned s w (Updating Mark cell v) → lent s′ m c′ ≡ advance Backup w cell v s (lent s m c)
+  pub backs-up : {c′ : List ℕ} {old : ℕ} → old ≡ fieldOf c cell Field.Record → c′ ≡ withField c cell Field.Backup old →
+      s′ ≡ conditioned s w (Updating Mark cell v) → lent s′ m c′ ≡ advance Backup w cell v s (lent s m c)
   unfolding advance
   backs-up f p q = same-board q refl (p ∙ ap (withField c cell Field.Backup) f)
 
   -- "mark := epoch", and the bit of the cell's line.
-  pub marks : {c′ : List ℕ} {epoch l : ℕ} {s″ : State} → epoch ≡ epochOf c → c′ ≡ withField c cell Field.Mark epoch → l ≡ cellLine cell → s″ ≡ conditioned s w (Updating Record cell v) → s′ ≡ dirtied s″ l → lent s′ m c′ ≡ advance Mark w cell v s (lent s m c)
+  pub marks : {c′ : List ℕ} {epoch l : ℕ} {s″ : State} → epoch ≡ epochOf c → c′ ≡ withField c cell Field.Mark epoch → l ≡ cellLine cell →
+      s″ ≡ conditioned s w (Updating Record cell v) → s′ ≡ dirtied s″ l → lent s′ m c′ ≡ advance Mark w cell v s (lent s m c)
   unfolding advance
   marks f p e r t = same-board (t ∙ (λ i. dirtied (r i) (e i))) refl (p ∙ ap (withField c cell Field.Mark) f)
 
   -- "record := value".
-  pub records : {c′ : List ℕ} {k : Condition} → k ≡ afterLast s cell → c′ ≡ withField c cell Field.Record v → s′ ≡ conditioned s w k → lent s′ m c′ ≡ advance Record w cell v s (lent s m c)
+  pub records : {c′ : List ℕ} {k : Condition} → k ≡ afterLast s cell → c′ ≡ withField c cell Field.Record v → s′ ≡ conditioned s w k →
+      lent s′ m c′ ≡ advance Record w cell v s (lent s m c)
   unfolding advance
   records f p q = same-board (q ∙ ap (λ (k : Condition). conditioned s w k) f) refl p
 
@@ -131,17 +140,20 @@ Steps b b′ = b′ ≡ performFirst (acts b) (b .state) b
 
 module _ (s : State) {s′ : State} (m c : List ℕ) (on : s .requested ≡ true) {n : ℕ} (count : n ≡ dirtyCount s) where
   -- "writes the set lines in rising order".
-  pub writes-dirty : {m′ : List ℕ} {l : ℕ} → l ≡ nth (s .dirty) (s .place) → s .place < n → s′ ≡ placed s (s .place + 1) (s .undo) → m′ ≡ withLine m l (lineOf c l) → Steps (lent s m c) (lent s′ m′ c)
+  pub writes-dirty : {m′ : List ℕ} {l : ℕ} → l ≡ nth (s .dirty) (s .place) → s .place < n → s′ ≡ placed s (s .place + 1) (s .undo) →
+      m′ ≡ withLine m l (lineOf c l) → Steps (lent s m c) (lent s′ m′ c)
   unfolding performAct
   writes-dirty e h p q = same-board p (q ∙ ap (λ (l : ℕ). withLine m l (lineOf c l)) e) refl ∙ sym (first-line (lent s m c) on (omega arith))
 
   -- "epoch := epoch + 1 in the cache".
-  pub stores-epoch : {c′ : List ℕ} {epoch : ℕ} → s .place ≡ n → s′ ≡ placed s (s .place + 1) (s .undo) → epoch ≡ epochOf c → c′ ≡ set c 0 (epoch + 1) → Steps (lent s m c) (lent s′ m c′)
+  pub stores-epoch : {c′ : List ℕ} {epoch : ℕ} → s .place ≡ n → s′ ≡ placed s (s .place + 1) (s .undo) → epoch ≡ epochOf c →
+      c′ ≡ set c 0 (epoch + 1) → Steps (lent s m c) (lent s′ m c′)
   unfolding performAct
   stores-epoch h p f q = same-board p refl (q ∙ ap (λ (x : ℕ). set c 0 (x + 1)) f) ∙ sym (first-epoch (lent s m c) on (h ∙ count))
 
   -- "line 0 written back".
-  pub writes-header : {m′ : List ℕ} → s .place ≡ n + 1 → s′ ≡ placed s (s .place + 1) (s .undo) → m′ ≡ withLine m 0 (lineOf c 0) → Steps (lent s m c) (lent s′ m′ c)
+  pub writes-header : {m′ : List ℕ} → s .place ≡ n + 1 → s′ ≡ placed s (s .place + 1) (s .undo) → m′ ≡ withLine m 0 (lineOf c 0) →
+      Steps (lent s m c) (lent s′ m′ c)
   unfolding performAct
   writes-header h p q = same-board p q refl ∙ sym (first-header (lent s m c) on (omega arith))
 

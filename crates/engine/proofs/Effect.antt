@@ -24,7 +24,8 @@ unfolding effect
 in-phase s m c p e = e ∙ ap (λ (x : Phase). step x s (lent s m c)) (sym p)
 
 -- An advance in the condition that the worker is in.
-pub in-condition : (w : ℕ) (s : State) (m c : List ℕ) {k : Condition} {b′ : Board} → conditionOf s w ≡ k → b′ ≡ advanceOf k w s (lent s m c) → b′ ≡ effect (Call.Advance w) (lent s m c)
+pub in-condition : (w : ℕ) (s : State) (m c : List ℕ) {k : Condition} {b′ : Board} → conditionOf s w ≡ k → b′ ≡ advanceOf k w s (lent s m c) →
+    b′ ≡ effect (Call.Advance w) (lent s m c)
 unfolding effect
 in-condition w s m c p e = e ∙ ap (λ (x : Condition). advanceOf x w s (lent s m c)) (sym p)
 
@@ -35,7 +36,8 @@ module _ (s : State) (m c : List ℕ) where
   unfolding effect
   starts-format l w p = same-board p refl refl
 
-  pub starts-recovery : {s′ : State} {c′ : List ℕ} → s′ ≡ started Recovering (shapeIn m) (workersOf m) → c′ ≡ m → lent s′ m c′ ≡ effect Call.RecoveryStart (lent s m c)
+  pub starts-recovery : {s′ : State} {c′ : List ℕ} → s′ ≡ started Recovering (shapeIn m) (workersOf m) → c′ ≡ m →
+      lent s′ m c′ ≡ effect Call.RecoveryStart (lent s m c)
   unfolding effect
   starts-recovery p q = same-board p refl q
 

@@ -41,7 +41,8 @@ unfolding valueOf valueRead
 reads-nothing cell b e o = sym (passedOver (taken (Call.Read cell) b) (fieldOf (b .cache) cell Field.Record) 0 (ne-eqb (cause (Call.Read cell) b) 0 (λ t. o (e ∙ t))))
 
 -- A taken read gives the cell's record in the cache.
-pub reads-record : {n v : ℕ} (cell : ℕ) (b : Board) → n ≡ cause (Call.Read cell) b → n ≡ 0 → v ≡ fieldOf (b .cache) cell Field.Record → v ≡ valueOf (Call.Read cell) b
+pub reads-record : {n v : ℕ} (cell : ℕ) (b : Board) → n ≡ cause (Call.Read cell) b → n ≡ 0 → v ≡ fieldOf (b .cache) cell Field.Record →
+    v ≡ valueOf (Call.Read cell) b
 unfolding valueOf valueRead
 reads-record cell b e z f = f ∙ sym (chosen (taken (Call.Read cell) b) (fieldOf (b .cache) cell Field.Record) 0 (eq-eqb (cause (Call.Read cell) b) 0 (sym e ∙ z)))
 
@@ -62,5 +63,6 @@ pub told : {k k′ : Call} (b : Board) {n v : ℕ} {b′ : Board} → k ≡ k′
 told b p e = e ∙ ap (λ (x : Call). outcome x b) (sym p)
 
 -- A named call that reads nothing.
-pub unread-told : {k k′ : Call} (b : Board) {n n′ v : ℕ} {s s′ : State} {m c : List ℕ} → k ≡ k′ → (n′ ≡ n) × (v ≡ 0) × (s′ ≡ s) → Performed k′ b n 0 (lent s m c) → Performed k b n′ v (lent s′ m c)
+pub unread-told : {k k′ : Call} (b : Board) {n n′ v : ℕ} {s s′ : State} {m c : List ℕ} → k ≡ k′ → (n′ ≡ n) × (v ≡ 0) × (s′ ≡ s) →
+    Performed k′ b n 0 (lent s m c) → Performed k b n′ v (lent s′ m c)
 unread-told b p u e = told b p (same-outcome (u .0) (u .1) (same-board (u .2) refl refl) ∙ e)

@@ -118,7 +118,8 @@ module _ (b : Board) (t : Taken Call.Step b) where
 -- ---- updates, restart points, advances
 
 -- A worker under W and a cell under 2L can be stored by.
-stores-of : (b : Board) (w c : ℕ) → Sound (b .state) → Long (b .state .lines) b → w < b .state .workers → c < cells (shapeOf (b .state)) → Stores (b .cache) w c × (c < 1022)
+stores-of : (b : Board) (w c : ℕ) → Sound (b .state) → Long (b .state .lines) b → w < b .state .workers → c < cells (shapeOf (b .state)) →
+    Stores (b .cache) w c × (c < 1022)
 stores-of b w c s l p q = (record { byWorker = omega arith; ofCell = omega arith; ofBit = omega arith }, omega arith)
 
 pub update-stores : (w c v : ℕ) (b : Board) → Taken (Call.Update w c v) b → Stores (b .cache) w c × (c < 1022)
@@ -137,7 +138,8 @@ restart-stores w v b t =
     let under = leb-false (b .state .workers) w (passed k b t 6) in
     stores-of b w w s (long (b .state .lines) b (passed k b t 4)) under (omega arith)
 
-pub advance-stores : {c v : ℕ} {next : Store} (w : ℕ) (b : Board) → Taken (Call.Advance w) b → conditionOf (b .state) w ≡ Updating next c v → Stores (b .cache) w c
+pub advance-stores : {c v : ℕ} {next : Store} (w : ℕ) (b : Board) → Taken (Call.Advance w) b → conditionOf (b .state) w ≡ Updating next c v →
+    Stores (b .cache) w c
 unfolding standsAt causes
 advance-stores {c} w b t e =
     let s = b .state in

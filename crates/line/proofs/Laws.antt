@@ -27,7 +27,8 @@ from-place : (words : List ℕ) (i : ℕ) {rest : List ℕ} → i < length words
 from-place words i h e = ap (λ (r : List ℕ). getD words i 0 ∷ r) e ∙ sym (drop-cons words i 0 h)
 
 -- Eight words are those at the eight places.
-pub eight-words : (words : List ℕ) → length words ≡ 8 → getD words 0 0 ∷ getD words 1 0 ∷ getD words 2 0 ∷ getD words 3 0 ∷ getD words 4 0 ∷ getD words 5 0 ∷ getD words 6 0 ∷ getD words 7 0 ∷ [] ≡ words
+pub eight-words : (words : List ℕ) → length words ≡ 8 →
+    getD words 0 0 ∷ getD words 1 0 ∷ getD words 2 0 ∷ getD words 3 0 ∷ getD words 4 0 ∷ getD words 5 0 ∷ getD words 6 0 ∷ getD words 7 0 ∷ [] ≡ words
 eight-words words h =
     from-place words 0 (omega arith)
     (from-place words 1 (omega arith)
@@ -54,7 +55,8 @@ unfolding lineOf
 getD-lineOf row l k h = getD-take 8 (drop (lineStart l) row) k 0 h ∙ getD-drop (lineStart l) row k 0
 
 -- A stored line has the words that were given.
-pub getD-withLine-in : (row : List ℕ) (l : ℕ) (words : List ℕ) (k : ℕ) → lineStart l + 8 ≤ length row → length words ≡ 8 → k < 8 → getD (withLine row l words) (lineStart l + k) 0 ≡ getD words k 0
+pub getD-withLine-in : (row : List ℕ) (l : ℕ) (words : List ℕ) (k : ℕ) → lineStart l + 8 ≤ length row → length words ≡ 8 → k < 8 →
+    getD (withLine row l words) (lineStart l + k) 0 ≡ getD words k 0
 unfolding withLine
 getD-withLine-in row l words k h n b =
     let a : length (take (lineStart l) row) ≡ lineStart l = length-take-le (lineStart l) row (omega arith) in
@@ -62,7 +64,8 @@ getD-withLine-in row l words k h n b =
     (getD-append-add (take (lineStart l) row) _ k 0 ∙ List·getD-append words _ 0 k (omega arith))
 
 -- The words before a stored line are as they were.
-pub getD-withLine-before : (row : List ℕ) (l : ℕ) (words : List ℕ) (i : ℕ) → lineStart l + 8 ≤ length row → i < lineStart l → getD (withLine row l words) i 0 ≡ getD row i 0
+pub getD-withLine-before : (row : List ℕ) (l : ℕ) (words : List ℕ) (i : ℕ) → lineStart l + 8 ≤ length row → i < lineStart l →
+    getD (withLine row l words) i 0 ≡ getD row i 0
 unfolding withLine
 getD-withLine-before row l words i h b =
     sym (getD-take (lineStart l) (withLine row l words) i 0 b)
@@ -70,13 +73,15 @@ getD-withLine-before row l words i h b =
     ∙ getD-take (lineStart l) row i 0 b
 
 -- What lies after a stored line is as it was.
-drop-withLine : (row : List ℕ) (l : ℕ) (words : List ℕ) → lineStart l + 8 ≤ length row → length words ≡ 8 → drop (lineStart l + 8) (withLine row l words) ≡ drop (lineStart l + 8) row
+drop-withLine : (row : List ℕ) (l : ℕ) (words : List ℕ) → lineStart l + 8 ≤ length row → length words ≡ 8 →
+    drop (lineStart l + 8) (withLine row l words) ≡ drop (lineStart l + 8) row
 unfolding withLine
 drop-withLine row l words h n =
     rw (span l) at (drop-put (lineStart l) (lineStart l + 8) row words (omega arith) h (n ∙ sym (span l)))
 
 -- The words after a stored line are as they were.
-pub getD-withLine-after : (row : List ℕ) (l : ℕ) (words : List ℕ) (i : ℕ) → lineStart l + 8 ≤ length row → length words ≡ 8 → lineStart l + 8 ≤ i → getD (withLine row l words) i 0 ≡ getD row i 0
+pub getD-withLine-after : (row : List ℕ) (l : ℕ) (words : List ℕ) (i : ℕ) → lineStart l + 8 ≤ length row → length words ≡ 8 → lineStart l + 8 ≤ i →
+    getD (withLine row l words) i 0 ≡ getD row i 0
 getD-withLine-after row l words i h n b =
     let k = i - (lineStart l + 8) in
     let e : lineStart l + 8 + k ≡ i = omega arith in
@@ -86,7 +91,8 @@ getD-withLine-after row l words i h n b =
     ∙ getD-drop (lineStart l + 8) row k 0)
 
 -- The words of every other line are as they were.
-pub getD-withLine-out : (row : List ℕ) (l : ℕ) (words : List ℕ) (i : ℕ) → lineStart l + 8 ≤ length row → length words ≡ 8 → (i / 8 ≡ l → ⊥) → getD (withLine row l words) i 0 ≡ getD row i 0
+pub getD-withLine-out : (row : List ℕ) (l : ℕ) (words : List ℕ) (i : ℕ) → lineStart l + 8 ≤ length row → length words ≡ 8 → (i / 8 ≡ l → ⊥) →
+    getD (withLine row l words) i 0 ≡ getD row i 0
 getD-withLine-out row l words i h n o =
     elim (decLt i (lineStart l)) [
       | yes b ↦ getD-withLine-before row l words i h b
@@ -94,7 +100,8 @@ getD-withLine-out row l words i h n o =
     ]
 
 -- A store in a line's words is a store in the row.
-pub withLine-set : (row : List ℕ) (l k value : ℕ) → lineStart l + 8 ≤ length row → k < 8 → withLine row l (set (lineOf row l) k value) ≡ set row (lineStart l + k) value
+pub withLine-set : (row : List ℕ) (l k value : ℕ) → lineStart l + 8 ≤ length row → k < 8 →
+    withLine row l (set (lineOf row l) k value) ≡ set row (lineStart l + k) value
 unfolding withLine lineOf
 withLine-set row l k value h b =
     set-mid-at (lineStart l) 8 k row value (omega (arith, length-lineOf row l h))
@@ -115,19 +122,22 @@ unfolding fieldOf withField fieldIndex
 field-same row c f v h = getD-set-same row (fieldIndex c f) v 0 (omega (arith, offset-bound f))
 
 -- A store in one field of a cell leaves its other fields.
-pub field-other-field : (row : List ℕ) (c : ℕ) (f : Field) (v : ℕ) (g : Field) → (fieldOffset f ≡ fieldOffset g → ⊥) → fieldOf (withField row c f v) c g ≡ fieldOf row c g
+pub field-other-field : (row : List ℕ) (c : ℕ) (f : Field) (v : ℕ) (g : Field) → (fieldOffset f ≡ fieldOffset g → ⊥) →
+    fieldOf (withField row c f v) c g ≡ fieldOf row c g
 unfolding fieldOf fieldIndex
 field-other-field row c f v g o =
     getD-withField-other row c f v (fieldIndex c g) (λ e. o (omega arith))
 
 -- A field in a stored line is the given words'.
-pub field-withLine : (row : List ℕ) (c : ℕ) (words : List ℕ) (f : Field) → lineStart (cellLine c) + 8 ≤ length row → length words ≡ 8 → fieldOf (withLine row (cellLine c) words) c f ≡ getD words (cellWord c + fieldOffset f) 0
+pub field-withLine : (row : List ℕ) (c : ℕ) (words : List ℕ) (f : Field) → lineStart (cellLine c) + 8 ≤ length row → length words ≡ 8 →
+    fieldOf (withLine row (cellLine c) words) c f ≡ getD words (cellWord c + fieldOffset f) 0
 unfolding fieldOf fieldIndex
 field-withLine row c words f h n =
     getD-withLine-in row (cellLine c) words (cellWord c + fieldOffset f) h n (omega (arith, offset-bound f))
 
 -- A line of zeros brings fields that are zero.
-pub field-withLine-zero : (row : List ℕ) (c : ℕ) (f : Field) → lineStart (cellLine c) + 8 ≤ length row → fieldOf (withLine row (cellLine c) (replicate 8 0)) c f ≡ 0
+pub field-withLine-zero : (row : List ℕ) (c : ℕ) (f : Field) → lineStart (cellLine c) + 8 ≤ length row →
+    fieldOf (withLine row (cellLine c) (replicate 8 0)) c f ≡ 0
 field-withLine-zero row c f h =
     field-withLine row c (replicate 8 0) f h (length-replicate {A = ℕ} 8 0)
     ∙ getD-replicate 8 (cellWord c + fieldOffset f) 0 0 (omega (arith, offset-bound f))
@@ -138,7 +148,8 @@ unfolding fieldIndex
 header-withField row c f v k b = getD-withField-other row c f v k (λ e. omega arith)
 
 -- A stored line other than line 0 leaves the header's words.
-pub header-withLine : (row : List ℕ) (l : ℕ) (words : List ℕ) (k : ℕ) → lineStart l + 8 ≤ length row → 0 < l → k < 8 → getD (withLine row l words) k 0 ≡ getD row k 0
+pub header-withLine : (row : List ℕ) (l : ℕ) (words : List ℕ) (k : ℕ) → lineStart l + 8 ≤ length row → 0 < l → k < 8 →
+    getD (withLine row l words) k 0 ≡ getD row k 0
 header-withLine row l words k h p b = getD-withLine-before row l words k h (omega arith)
 
 -- A word among the first six of a line is no word 6 or 7.
@@ -146,7 +157,8 @@ apart : (a l w k : ℕ) → w < 6 → 6 ≤ k → k < 8 → lineStart a + w ≡ 
 apart a l w k p q r e = omega arith
 
 -- A cell's store leaves words 6 and 7 of every line.
-pub spare-withField : (row : List ℕ) (c : ℕ) (f : Field) (v l k : ℕ) → 6 ≤ k → k < 8 → getD (withField row c f v) (lineStart l + k) 0 ≡ getD row (lineStart l + k) 0
+pub spare-withField : (row : List ℕ) (c : ℕ) (f : Field) (v l k : ℕ) → 6 ≤ k → k < 8 →
+    getD (withField row c f v) (lineStart l + k) 0 ≡ getD row (lineStart l + k) 0
 unfolding fieldIndex
 spare-withField row c f v l k a b =
     getD-withField-other row c f v (lineStart l + k)

@@ -43,7 +43,8 @@ module _ (row : List ℕ) (c : ℕ) (f : Field) {l : ℕ} (e : l ≡ cellLine c)
       ∙ ap (λ (n : ℕ). getD row (lineStart n + (cellWord c + fieldOffset f)) 0) e
 
   -- A part given back with a cell's word stored is a field stored.
-  pub field-stored : (v : ℕ) {last : List ℕ} → lineStart (cellLine c) + 8 ≤ length row → last ≡ set (lent row l) (cellWord c + fieldOffset f) v → back row l last ≡ withField row c f v
+  pub field-stored : (v : ℕ) {last : List ℕ} → lineStart (cellLine c) + 8 ≤ length row → last ≡ set (lent row l) (cellWord c + fieldOffset f) v →
+      back row l last ≡ withField row c f v
   unfolding withField fieldIndex
   field-stored v h p =
       back-line row l (p ∙ ap (λ (part : List ℕ). set part (cellWord c + fieldOffset f) v) (lent-line row l))

@@ -26,7 +26,8 @@ flatten-snoc [] t = append-nil t
 flatten-snoc (u ∷ l) t = ap (λ (r : List ℕ). u ++ r) (flatten-snoc l t) ∙ sym (append-assoc u (flatten l) t)
 
 -- The lines of the first cells, and one cell more.
-pub lines-more : (f : ℕ → List ℕ) (cells : List ℕ) (i : ℕ) → i < length cells → flatten (map f (take i cells)) ++ f (getD cells i 0) ≡ flatten (map f (take (i + 1) cells))
+pub lines-more : (f : ℕ → List ℕ) (cells : List ℕ) (i : ℕ) → i < length cells →
+    flatten (map f (take i cells)) ++ f (getD cells i 0) ≡ flatten (map f (take (i + 1) cells))
 lines-more f cells i h =
     sym (flatten-snoc (map f (take i cells)) (f (getD cells i 0)))
     ∙ ap flatten (sym (map-append f (take i cells) (getD cells i 0 ∷ [])))
@@ -66,7 +67,8 @@ cell-size cache words c h =
 
 -- Four texts written into a blank line, each up to the end of its column, are the line of them.
 pub line-put : {row r0 r1 r2 r3 r4 a b c d : List ℕ} {at i j k l : ℕ} → at + 68 ≤ length row → length a ≤ 4 → length b ≤ 20 → length c ≤ 20 → length d ≤ 20 →
-    r0 ≡ put row at (lineText [] [] [] []) → Put r0 i a r1 (at + 4) → Put r1 j b r2 (at + 25) → Put r2 k c r3 (at + 46) → Put r3 l d r4 (at + 67) → Put row at (lineText a b c d) r4 (at + 68)
+    r0 ≡ put row at (lineText [] [] [] []) → Put r0 i a r1 (at + 4) → Put r1 j b r2 (at + 25) → Put r2 k c r3 (at + 46) → Put r3 l d r4 (at + 67) →
+    Put row at (lineText a b c d) r4 (at + 68)
 unfolding lineText
 line-put {row} {r0} {a = a} {b = b} {c = c} {at = at} room ha hb hc hd p qa qb qc qd =
     let x = fieldText 4 a blank in

@@ -20,7 +20,8 @@ unfolding fields first later
 fields-parts [] = refl
 fields-parts (b ∷ bs) = by-test (eqb b tab) (fields-parts bs)
   where
-    by-test : (t : Bool) → fields bs ≡ first bs ∷ later (drop (length (first bs)) bs) → cond t ([] ∷ fields bs) (joined b (fields bs)) ≡ cond t [] (b ∷ first bs) ∷ later (drop (length (cond t [] (b ∷ first bs))) (b ∷ bs))
+    by-test : (t : Bool) → fields bs ≡ first bs ∷ later (drop (length (first bs)) bs) →
+        cond t ([] ∷ fields bs) (joined b (fields bs)) ≡ cond t [] (b ∷ first bs) ∷ later (drop (length (cond t [] (b ∷ first bs))) (b ∷ bs))
     by-test true e = refl
     by-test false e = ap (joined b) e
 
@@ -77,7 +78,8 @@ first-single (b ∷ bs) e = by-test (eqb b tab) e
     by-test false e = single (first bs) e
 
 -- The fields after a tab at `i`: the one that starts there and those from its end on.
-pub later-parts : (s : List ℕ) (i end : ℕ) → i < length s → end ≡ i + 1 + length (first (drop (i + 1) s)) → later (drop i s) ≡ first (drop (i + 1) s) ∷ later (drop end s)
+pub later-parts : (s : List ℕ) (i end : ℕ) → i < length s → end ≡ i + 1 + length (first (drop (i + 1) s)) →
+    later (drop i s) ≡ first (drop (i + 1) s) ∷ later (drop end s)
 unfolding later
 later-parts s i end h e =
     let rest : List ℕ = drop (i + 1) s in

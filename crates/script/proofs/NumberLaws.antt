@@ -54,7 +54,8 @@ number-ends n f i h b =
     ∙ chosen (leb n (2 ^ 64 - 1)) (number.Value n) number.Bad (le-leb n (2 ^ 64 - 1) b)
 
 -- A digit.
-pub number-goes-on : (n : ℕ) (f : List ℕ) (i : ℕ) → i < length f → '0' ≤ getD f i 0 → getD f i 0 ≤ '9' → numberFrom n (drop i f) ≡ numberFrom (10 * n + (getD f i 0 - '0')) (drop (i + 1) f)
+pub number-goes-on : (n : ℕ) (f : List ℕ) (i : ℕ) → i < length f → '0' ≤ getD f i 0 → getD f i 0 ≤ '9' →
+    numberFrom n (drop i f) ≡ numberFrom (10 * n + (getD f i 0 - '0')) (drop (i + 1) f)
 unfolding numberFrom allDigits valueAfter
 number-goes-on n f i h low high =
     let b = getD f i 0 in
@@ -95,7 +96,8 @@ given program letter (numbers.Five a b c d e) t ns = cond t (command program let
 given program letter numbers.Bad t ns = Unknown
 
 -- No letter has six numbers.
-six-unknown : (program : Program) (letter a b c d e f : ℕ) (ns : List ℕ) (t : Bool) → Unknown ≡ cond t (command program letter (a ∷ b ∷ c ∷ d ∷ e ∷ f ∷ ns)) Unknown
+six-unknown : (program : Program) (letter a b c d e f : ℕ) (ns : List ℕ) (t : Bool) →
+    Unknown ≡ cond t (command program letter (a ∷ b ∷ c ∷ d ∷ e ∷ f ∷ ns)) Unknown
 unfolding drilled damaging
 six-unknown Drill letter a b c d e f ns true = refl
 six-unknown Drill letter a b c d e f ns false = refl
@@ -105,7 +107,8 @@ six-unknown Page letter a b c d e f ns true = refl
 six-unknown Page letter a b c d e f ns false = refl
 
 -- One field more, a number or not.
-given-field : (program : Program) (letter : ℕ) (t : Bool) (got : Numbers) (n : ℕ) (u : Bool) (ns : List ℕ) → given program letter (withField got (cond t (number.Value n) number.Bad)) u ns ≡ given program letter got (t && u) (n ∷ ns)
+given-field : (program : Program) (letter : ℕ) (t : Bool) (got : Numbers) (n : ℕ) (u : Bool) (ns : List ℕ) →
+    given program letter (withField got (cond t (number.Value n) number.Bad)) u ns ≡ given program letter got (t && u) (n ∷ ns)
 unfolding given
 given-field program letter true numbers.Zero n u ns = refl
 given-field program letter true (numbers.One a) n u ns = refl
@@ -132,7 +135,8 @@ given-none program letter (numbers.Four a b c d) = refl
 given-none program letter (numbers.Five a b c d e) = refl
 given-none program letter numbers.Bad = refl
 
-given-all : (program : Program) (letter : ℕ) (got : Numbers) (fs : List (List ℕ)) → commandOf program letter (numbersOf got fs) ≡ given program letter got (allNumbers fs) (map value fs)
+given-all : (program : Program) (letter : ℕ) (got : Numbers) (fs : List (List ℕ)) →
+    commandOf program letter (numbersOf got fs) ≡ given program letter got (allNumbers fs) (map value fs)
 unfolding numbersOf allNumbers numberOf
 given-all program letter got [] = given-none program letter got
 given-all program letter got (f ∷ fs) =
@@ -140,12 +144,14 @@ given-all program letter got (f ∷ fs) =
     ∙ given-field program letter (isNumber f) got (value f) (allNumbers fs) (map value fs)
 
 -- The numbers read one after the other give what the whole list of them asks for.
-pub asked-all : (program : Program) (letter : ℕ) (fs : List (List ℕ)) → commandOf program letter (numbersOf numbers.Zero fs) ≡ cond (allNumbers fs) (command program letter (map value fs)) Unknown
+pub asked-all : (program : Program) (letter : ℕ) (fs : List (List ℕ)) →
+    commandOf program letter (numbersOf numbers.Zero fs) ≡ cond (allNumbers fs) (command program letter (map value fs)) Unknown
 unfolding given
 asked-all program letter fs = given-all program letter numbers.Zero fs
 
 -- A program that knows no further letter with its numbers knows none with the numbers read.
-pub none-further : (program : Program) (letter : ℕ) → ((ns : List ℕ) → Unknown ≡ further program letter ns) → (got : Numbers) → Unknown ≡ furtherOf program letter got
+pub none-further : (program : Program) (letter : ℕ) → ((ns : List ℕ) → Unknown ≡ further program letter ns) → (got : Numbers) →
+    Unknown ≡ furtherOf program letter got
 none-further program letter none numbers.Zero = none []
 none-further program letter none (numbers.One a) = none (a ∷ [])
 none-further program letter none (numbers.Two a b) = none (a ∷ b ∷ [])
@@ -160,7 +166,8 @@ unfolding numbersOf later
 numbers-end got s i h = ap (λ (l : List ℕ). numbersOf got (later l)) (drop-of-length-le s h)
 
 -- From the tab at `i`, one field more is read, and the rest from its end on.
-pub numbers-more : (got : Numbers) (s : List ℕ) (i end : ℕ) → i < length s → end ≡ i + 1 + length (first (drop (i + 1) s)) → numbersOf got (later (drop i s)) ≡ numbersOf (withField got (numberOf (take (end - (i + 1)) (drop (i + 1) s)))) (later (drop end s))
+pub numbers-more : (got : Numbers) (s : List ℕ) (i end : ℕ) → i < length s → end ≡ i + 1 + length (first (drop (i + 1) s)) →
+    numbersOf got (later (drop i s)) ≡ numbersOf (withField got (numberOf (take (end - (i + 1)) (drop (i + 1) s)))) (later (drop end s))
 unfolding numbersOf
 numbers-more got s i end h e =
     let width : end - (i + 1) ≡ length (first (drop (i + 1) s)) = omega arith in
@@ -192,7 +199,8 @@ pub meaning-other : (program : Program) (s : List ℕ) → length s ≤ 79 → (
 meaning-other program s h o = short program s h ∙ formed-other program (first s) (later (drop (length (first s)) s)) o
 
 -- A letter with the fields after it.
-pub meaning-letter : (program : Program) (s : List ℕ) → length s ≤ 79 → length (first s) ≡ 1 → meaning program s ≡ commandOf program (getD s 0 0) (numbersOf numbers.Zero (later (drop 1 s)))
+pub meaning-letter : (program : Program) (s : List ℕ) → length s ≤ 79 → length (first s) ≡ 1 →
+    meaning program s ≡ commandOf program (getD s 0 0) (numbersOf numbers.Zero (later (drop 1 s)))
 unfolding formed
 meaning-letter program s h e =
     short program s h

@@ -26,13 +26,16 @@ module _ (i j : ℕ) (m c m′ c′ : List ℕ) (im : i ≤ length m) (jc : j �
       ap (λ (x : List ℕ). lent state x (take j (c′ ++ drop j c))) (part-back i m m′ im hm) ∙ ap (lent state m′) (part-back j c c′ jc hc)
 
   -- A call of the board on the parts in use.
-  pub made : (call : Call) (state after : State) (number value : ℕ) → Performed call (lent state (take i m) (take j c)) number value (lent after m′ c′) → done (lent after (take i (m′ ++ drop i m)) (take j (c′ ++ drop j c))) (Number number) (Number value) ≡ carriedOut (line.Show call) (lent state (take i m) (take j c))
+  pub made : (call : Call) (state after : State) (number value : ℕ) →
+      Performed call (lent state (take i m) (take j c)) number value (lent after m′ c′) →
+      done (lent after (take i (m′ ++ drop i m)) (take j (c′ ++ drop j c))) (Number number) (Number value) ≡ carriedOut (line.Show call) (lent state (take i m) (take j c))
   made call state after number value p =
       ap (λ (x : Board). done x (Number number) (Number value)) (board-back after)
       ∙ ap (λ (o : Outcome). done (o .board) (Number (o .number)) (Number (o .value))) p
 
 -- A call whose value is not shown.
-pub hidden : (call : Call) (r s : Answered) (m c : List ℕ) (b : Board) → (r .session ≡ s .session) × (r .answer ≡ s .answer) × (r .value ≡ Nothing) → left s m c ≡ carriedOut (line.Show call) b → left r m c ≡ carriedOut (line.Make call) b
+pub hidden : (call : Call) (r s : Answered) (m c : List ℕ) (b : Board) → (r .session ≡ s .session) × (r .answer ≡ s .answer) × (r .value ≡ Nothing) →
+    left s m c ≡ carriedOut (line.Show call) b → left r m c ≡ carriedOut (line.Make call) b
 hidden call r s m c b w did =
     ap (λ (x : Session). done (boardOf x m c) (r .answer) (r .value)) (w .0)
     ∙ ap (λ (x : Shown). done (boardOf (s .session) m c) x (r .value)) (w .1)
@@ -40,7 +43,8 @@ hidden call r s m c b w did =
     ∙ ap (λ (d : Done). done (d .board) (d .answer) Nothing) did
 
 -- A cut: the whole cache zeroed zeroes the words in use.
-pub cut-off : (s : Session) (r : Answered) (m c c′ : List ℕ) → s .cache ≤ length c → Switched s r → c′ ≡ replicate (length c) 0 → left r m c′ ≡ carriedOut line.Cut (boardOf s m c)
+pub cut-off : (s : Session) (r : Answered) (m c c′ : List ℕ) → s .cache ≤ length c → Switched s r → c′ ≡ replicate (length c) 0 →
+    left r m c′ ≡ carriedOut line.Cut (boardOf s m c)
 cut-off s r m c c′ fits w z =
     let zeros : take (s .cache) c′ ≡ replicate (length (take (s .cache) c)) 0 =
     ap (take (s .cache)) z ∙ take-replicate (s .cache) (length c) 0 fits

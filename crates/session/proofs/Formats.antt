@@ -65,7 +65,10 @@ pub format-down : (l w : ℕ) (b : Board) → outside (shaped l) w ≡ true → 
 format-down l w b o = sym (chosen (outside (shaped l) w) _ _ o)
 
 -- A taken format leaves its last step's board, and rows of its size.
-pub format-up : (l w i : ℕ) (state after : State) (b : Board) (m c m′ c′ : List ℕ) → i ≡ rowWords l → outside (shaped l) w ≡ false → b .state ≡ state → i ≤ length m → i ≤ length c → length m′ ≡ length (take i m) → length c′ ≡ length (take i c) → lent after m′ c′ ≡ formatted l w (lent state (replicate (length (take i m)) 0) (replicate (length (take i c)) 0)) → done (lent after (take i (m′ ++ drop i m)) (take i (c′ ++ drop i c))) (Number 0) Nothing ≡ carriedOut (line.Format l w) b
+pub format-up : (l w i : ℕ) (state after : State) (b : Board) (m c m′ c′ : List ℕ) → i ≡ rowWords l → outside (shaped l) w ≡ false →
+    b .state ≡ state → i ≤ length m → i ≤ length c → length m′ ≡ length (take i m) → length c′ ≡ length (take i c) →
+    lent after m′ c′ ≡ formatted l w (lent state (replicate (length (take i m)) 0) (replicate (length (take i c)) 0)) →
+    done (lent after (take i (m′ ++ drop i m)) (take i (c′ ++ drop i c))) (Number 0) Nothing ≡ carriedOut (line.Format l w) b
 format-up l w i state after b m c m′ c′ words o same im jc hm hc did =
     let sm = length-take-le i m im ∙ words in
     let sc = length-take-le i c jc ∙ words in

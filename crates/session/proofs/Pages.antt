@@ -17,7 +17,8 @@ use Rattle.session.specs.Lines.{done, textRow, carriedOut}
 use Rattle.session.proofs.Rows.{part-back, take-replicate}
 
 -- A page leaves the board that it is made of.
-pub page-keeps : (b : Board) (text : List ℕ) {after : Board} {left : List ℕ} {number : ℕ} → PagePerformed b text number after left → PagePerformed b text number b left
+pub page-keeps : (b : Board) (text : List ℕ) {after : Board} {left : List ℕ} {number : ℕ} → PagePerformed b text number after left →
+    PagePerformed b text number b left
 page-keeps b text p = ap (λ (o : PageOutcome). record { number = o .number; board = b; text = o .text }) p
 
 -- A row has its length once a part of it is back.
@@ -29,7 +30,9 @@ pub page-off : (b : Board) (room : ℕ) → 70000 < room → done b Unknown Noth
 page-off b room h = sym (chosen (ltb 70000 room) _ _ (lt-ltb 70000 room h))
 
 -- A page in the first bytes of a row, and the checksum of these bytes once they are back.
-pub page-shown : (b : Board) (room number sum : ℕ) (row left : List ℕ) → room ≤ 70000 → row ≡ textRow 70000 → room ≤ length row → length left ≡ length (take room row) → PagePerformed b (take room row) number b left → sum ≡ checksumOf (take room (left ++ drop room row)) → done b (Number number) (Number sum) ≡ carriedOut (line.Page room) b
+pub page-shown : (b : Board) (room number sum : ℕ) (row left : List ℕ) → room ≤ 70000 → row ≡ textRow 70000 → room ≤ length row →
+    length left ≡ length (take room row) → PagePerformed b (take room row) number b left → sum ≡ checksumOf (take room (left ++ drop room row)) →
+    done b (Number number) (Number sum) ≡ carriedOut (line.Page room) b
 page-shown b room number sum row left h e within size p s =
     let text : take room row ≡ textRow room = ap (take room) e ∙ take-replicate room 70000 170 h in
     let made : PagePerformed b (textRow room) number b left = subst (λ (t : List ℕ). PagePerformed b t number b left) text p in

@@ -17,7 +17,8 @@ taken-off s k other rest wraps low hk near =
     omega arith ∙ sym (passedOver (ltb s k) other (s - k) (le-ltb s k fits))
 
 -- Any other shows that it did not fit.
-pub left-alone : (s k other rest : ℕ) → (rest + k) % 2 ^ 64 ≡ s → 2 ^ 63 ≤ rest → rest < 2 ^ 64 → k < 2 ^ 64 → s < k + 2 ^ 63 → other ≡ cond (ltb s k) other (s - k)
+pub left-alone : (s k other rest : ℕ) → (rest + k) % 2 ^ 64 ≡ s → 2 ^ 63 ≤ rest → rest < 2 ^ 64 → k < 2 ^ 64 → s < k + 2 ^ 63 →
+    other ≡ cond (ltb s k) other (s - k)
 left-alone s k other rest wraps high hr hk near =
     sym (chosen (ltb s k) other (s - k) (lt-ltb s k (omega arith)))
 

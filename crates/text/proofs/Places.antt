@@ -21,7 +21,8 @@ power-most : (k most : ℕ) → k ≤ most → 10 ^ k ≤ 10 ^ most
 power-most k most h = pow-le-pow-right {n = 10} (omega arith) h
 
 -- A byte behind what is written.
-pub byte-more : {row text mid : List ℕ} {at end : ℕ} (b : ℕ) → Put row at text mid end → end < length row → length mid ≡ length row → Put row at (text ++ (b ∷ [])) (set mid end b) (end + 1)
+pub byte-more : {row text mid : List ℕ} {at end : ℕ} (b : ℕ) → Put row at text mid end → end < length row → length mid ≡ length row →
+    Put row at (text ++ (b ∷ [])) (set mid end b) (end + 1)
 byte-more {row} {text} {mid} {at} {end} b p room same =
     and-then p (record { ends = refl; holds = put-set mid end b (omega arith) }) (omega arith)
 
@@ -40,8 +41,10 @@ last-runs {from} {n} some few under =
     }
 
 -- The last digit, behind the run before it.
-pub last-written : {row mid : List ℕ} {end from r : ℕ} (n : ℕ) → 0 < from → from ≤ end → end ≤ length row → length mid ≡ length row → r ≡ 16 * n % (16 * 10 ^ 1) →
-    Put row (end - from) (lastDigits (from - 1) (16 * n / (16 * 10 ^ 1))) mid (end - 1) → Put row (end - from) (lastDigits from n) (set mid (end - 1) ('0' + r / 16)) end
+pub last-written : {row mid : List ℕ} {end from r : ℕ} (n : ℕ) → 0 < from → from ≤ end → end ≤ length row → length mid ≡ length row →
+    r ≡ 16 * n % (16 * 10 ^ 1) →
+    Put row (end - from) (lastDigits (from - 1) (16 * n / (16 * 10 ^ 1))) mid (end - 1) →
+    Put row (end - from) (lastDigits from n) (set mid (end - 1) ('0' + r / 16)) end
 unfolding lastDigits
 last-written {row} {mid} {end} {from} {r} n some fits room same e p =
     let places : from ≡ suc (from - 1) = omega arith in
@@ -147,6 +150,7 @@ twenty-written {row} {after} {end} n p e high low fits room q =
     subst (λ (t : List ℕ). Put row (end - 20) t after end) (sym (one-nineteen n (omega arith) low)) (and-then one rest (omega arith))
 
 -- Any other is written as its last digits, as many as it has.
-pub number-written : {row after : List ℕ} {end : ℕ} (n d : ℕ) → d ≡ length (numberText n) → Put row (end - d) (lastDigits d n) after end → Put row (end - d) (numberText n) after end
+pub number-written : {row after : List ℕ} {end : ℕ} (n d : ℕ) → d ≡ length (numberText n) → Put row (end - d) (lastDigits d n) after end →
+    Put row (end - d) (numberText n) after end
 number-written {row} {after} {end} n d e q =
     subst (λ (t : List ℕ). Put row (end - d) t after end) (ap (λ (k : ℕ). lastDigits k n) e ∙ sym (number-last n)) q

@@ -118,7 +118,8 @@ module _ (left u : ℕ) (even : left % 16 ≡ 0) (unit : u % 16 ≡ 0) (under : 
       omega (arith, parts, add-mul (10 * value) (left / u) u, mul-assoc 10 value u, mul-left-comm value 10 u)
 
 -- The next digit can be counted by the unit that the table gives.
-pub countable : {row : List ℕ} {end from to scale s : ℕ} {out : List ℕ} {left k : ℕ} (p : ℕ) → p ≡ 10 ^ (k - 1) → Runs from to scale s → DigitRun row end from to scale s out left k → to < k →
+pub countable : {row : List ℕ} {end from to scale s : ℕ} {out : List ℕ} {left k : ℕ} (p : ℕ) → p ≡ 10 ^ (k - 1) → Runs from to scale s →
+    DigitRun row end from to scale s out left k → to < k →
     (left % 16 ≡ 0) × (scale * p % 16 ≡ 0) × (left < 10 * (scale * p)) × (scale * p ≤ 10 ^ 18)
 countable {row} {end} {from} {to} {scale} {s} {out} {left} {k} p e runs w more =
     subst (λ (n : ℕ). (left % 16 ≡ 0) × (scale * n % 16 ≡ 0) × (left < 10 * (scale * n)) × (scale * n ≤ 10 ^ 18)) (sym e) (

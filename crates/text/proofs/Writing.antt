@@ -102,7 +102,8 @@ aligned-size width t h =
     length-append (replicate (width - length t) blank) t ∙ omega (arith, length-replicate (width - length t) blank)
 
 -- A text written up to the end of an empty column stands in it.
-put-aligned : (front back : List ℕ) (width at : ℕ) (t : List ℕ) → length t ≤ width → at + length t ≡ length front + width → put (front ++ aligned width [] ++ back) at t ≡ front ++ aligned width t ++ back
+put-aligned : (front back : List ℕ) (width at : ℕ) (t : List ℕ) → length t ≤ width → at + length t ≡ length front + width →
+    put (front ++ aligned width [] ++ back) at t ≡ front ++ aligned width t ++ back
 put-aligned front back width at t h g =
     let n = width - length t in
     let pad = replicate n blank in
@@ -115,8 +116,10 @@ put-aligned front back width at t h g =
     ∙ ap (λ (l : List ℕ). l ++ back) (append-assoc front pad t)
 
 -- The same of two calls, the first for a line whose column is empty, with `front` before the column and `back` behind it.
-pub in-column : {row t after last : List ℕ} {at end here there : ℕ} (line : List ℕ → List ℕ) (front back : List ℕ) (width : ℕ) → ((u : List ℕ) → line u ≡ front ++ aligned width u ++ back) →
-    Put row at (line []) after end → Put after here t last there → length t ≤ width → there ≡ at + length front + width → end ≤ length row → Put row at (line t) last end
+pub in-column : {row t after last : List ℕ} {at end here there : ℕ} (line : List ℕ → List ℕ) (front back : List ℕ) (width : ℕ) →
+    ((u : List ℕ) → line u ≡ front ++ aligned width u ++ back) →
+    Put row at (line []) after end → Put after here t last there → length t ≤ width → there ≡ at + length front + width → end ≤ length row →
+    Put row at (line t) last end
 in-column {row} {t} {at = at} {end = end} {here = here} line front back width shape p q h g room =
     let size : (u : List ℕ) → length u ≤ width → length (line u) ≡ length front + width + length back =
     (λ u f. ap length (shape u) ∙ length-append (front ++ aligned width u) back ∙ omega (arith, length-append front (aligned width u), aligned-size width u f)) in

@@ -10,7 +10,8 @@ use Rattle.bitset.proofs.counted.Statement.{statement}
 use Rattle.bitset.proofs.counted.Tie as tie
 
 -- Each of the eight is its word's.
-each : {a b c d e f g h : ℕ} (words : List ℕ) → a ≡ wordCount words 0 → b ≡ wordCount words 1 → c ≡ wordCount words 2 → d ≡ wordCount words 3 → e ≡ wordCount words 4 → f ≡ wordCount words 5 → g ≡ wordCount words 6 → h ≡ wordCount words 7
+each : {a b c d e f g h : ℕ} (words : List ℕ) → a ≡ wordCount words 0 → b ≡ wordCount words 1 → c ≡ wordCount words 2 → d ≡ wordCount words 3 →
+    e ≡ wordCount words 4 → f ≡ wordCount words 5 → g ≡ wordCount words 6 → h ≡ wordCount words 7
     → (k : ℕ) → k < 8 → getD (a ∷ b ∷ c ∷ d ∷ e ∷ f ∷ g ∷ h ∷ []) k 0 ≡ wordCount words k
 each words a b c d e f g h zero l = a
 each words a b c d e f g h (suc zero) l = b

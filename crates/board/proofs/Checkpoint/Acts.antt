@@ -63,7 +63,8 @@ planned-line b p h =
 
 -- What is left of a checkpoint, by the act that comes next.
 pub data Remains (b : Board) : List Act → Type 0 where
-  lineNext : (later : List Act) → progress (b .state) < dirtyCount (b .state) → 3 ≤ length later → Remains b (writeLine (nth (b .state .dirty) (progress (b .state))) ∷ later)
+  lineNext : (later : List Act) → progress (b .state) < dirtyCount (b .state) → 3 ≤ length later →
+      Remains b (writeLine (nth (b .state .dirty) (progress (b .state))) ∷ later)
   epochNext : Remains b (storeEpoch ∷ writeHeader ∷ release ∷ [])
   headerNext : Remains b (writeHeader ∷ release ∷ [])
   releaseNext : Remains b (release ∷ [])
@@ -183,7 +184,8 @@ acted r act m =
     record { board = performAct act (r .board .state) (r .board); machine = m; crashed = r .crashed && true; erased = r .erased }
 
 -- The run after a step of a requested checkpoint.
-pub step-acts : (r : Run) {act : Act} {later : List Act} → r .board .state .phase ≡ Running → r .machine .requested ≡ true → acts (r .board) ≡ act ∷ later → afterTaken Step r ≡ acted r act (checkpointStep (r .machine))
+pub step-acts : (r : Run) {act : Act} {later : List Act} → r .board .state .phase ≡ Running → r .machine .requested ≡ true →
+    acts (r .board) ≡ act ∷ later → afterTaken Step r ≡ acted r act (checkpointStep (r .machine))
 unfolding feed stepped performFirst
 step-acts r {act} e on a =
     let m = r .machine in
@@ -233,12 +235,14 @@ module _ (b : Board) (on : b .state .requested ≡ true) where
       ∙ drop-cons (planned b) (b .state .place) release (omega (arith, planned-length b))
 
   -- So a step performs it.
-  first-here : {a : Act} → b .state .place ≤ dirtyCount (b .state) + 2 → getD (planned b) (b .state .place) release ≡ a → performFirst (acts b) (b .state) b ≡ performAct a (b .state) b
+  first-here : {a : Act} → b .state .place ≤ dirtyCount (b .state) + 2 → getD (planned b) (b .state .place) release ≡ a →
+      performFirst (acts b) (b .state) b ≡ performAct a (b .state) b
   unfolding performFirst
   first-here h e = ap (λ (xs : List Act). performFirst xs (b .state) b) (acts-here h) ∙ ap (λ (a : Act). performAct a (b .state) b) e
 
   -- Before the epoch's store a dirty line is written back.
-  pub first-line : b .state .place < dirtyCount (b .state) → performFirst (acts b) (b .state) b ≡ performAct (writeLine (nth (b .state .dirty) (b .state .place))) (b .state) b
+  pub first-line : b .state .place < dirtyCount (b .state) →
+      performFirst (acts b) (b .state) b ≡ performAct (writeLine (nth (b .state .dirty) (b .state .place))) (b .state) b
   first-line h = first-here (omega arith) (planned-line b (b .state .place) h)
 
   -- Behind the dirty lines the epoch is stored.
@@ -270,7 +274,8 @@ module _ (b : Board) (on : b .state .requested ≡ true) where
       nothing-left [] e = refl
       nothing-left (a ∷ later) e = absurd (omega (arith, e))
 
-      by : {xs : List Act} → Remains b xs → length xs ≡ dirtyCount (b .state) + 3 - b .state .place → storesEpoch xs ≡ eqb (b .state .place) (dirtyCount (b .state))
+      by : {xs : List Act} → Remains b xs → length xs ≡ dirtyCount (b .state) + 3 - b .state .place →
+          storesEpoch xs ≡ eqb (b .state .place) (dirtyCount (b .state))
       by (lineNext later low three) e = sym (ne-eqb (b .state .place) (dirtyCount (b .state)) (λ q. omega (arith, e)))
       by epochNext e = sym (eq-eqb (b .state .place) (dirtyCount (b .state)) (omega (arith, e)))
       by headerNext e = sym (ne-eqb (b .state .place) (dirtyCount (b .state)) (λ q. omega (arith, e)))

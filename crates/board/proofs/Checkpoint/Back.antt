@@ -39,7 +39,9 @@ module _ (r : Run) (s : RunningRun r) (place steps : ℕ) {left : List Act} (lea
   spare i h = spare-back (r .board .memory) (r .board .cache) (s .inv .sizes .memory) (s .inv .sizes .cache) i h (s .running .rows .spare)
 
   -- The invariant after a write-back, from what it leaves in memory and the stage it leads to.
-  inv-back : (i : ℕ) → i ≤ σ .lines → (xs : Location → ℕ) → Kept σ xs (writtenBack i (r .board)) → Undoes σ (epochOf (writtenBack i (r .board))) xs (r .board .cache) → Stage σ (moved (r .board) (writtenBack i (r .board)) place) (remade (r .machine) xs steps) → Inv (backRun r i place xs steps crashed)
+  inv-back : (i : ℕ) → i ≤ σ .lines → (xs : Location → ℕ) → Kept σ xs (writtenBack i (r .board)) →
+      Undoes σ (epochOf (writtenBack i (r .board))) xs (r .board .cache) →
+      Stage σ (moved (r .board) (writtenBack i (r .board)) place) (remade (r .machine) xs steps) → Inv (backRun r i place xs steps crashed)
   inv-back i h xs k u stage =
       let z = s .inv .sizes in
       inv-running (backRun r i place xs steps crashed) (s .on) (s .phase)
@@ -49,7 +51,10 @@ module _ (r : Run) (s : RunningRun r) (place steps : ℕ) {left : List Act} (lea
       (λ on. ap (λ (ys : List Act). steps + length ys) (leaves (writtenBack i (r .board))) ∙ agree on) u stage)
 
   -- A write-back that leaves memory's epoch: recovery gives what it gave.
-  pub quiet-back : (i : ℕ) → i ≤ σ .lines → (i ≡ 0 → epochOf (r .board .cache) ≡ epochOf (r .board .memory)) → (xs : Location → ℕ) → ((u : Location) → Has σ u → r .machine .checkpointed u ≡ xs u) → Stage σ (moved (r .board) (writtenBack i (r .board)) place) (remade (r .machine) xs steps) → Preserved false r (backRun r i place xs steps crashed)
+  pub quiet-back : (i : ℕ) → i ≤ σ .lines → (i ≡ 0 → epochOf (r .board .cache) ≡ epochOf (r .board .memory)) → (xs : Location → ℕ) →
+      ((u : Location) → Has σ u → r .machine .checkpointed u ≡ xs u) →
+      Stage σ (moved (r .board) (writtenBack i (r .board)) place) (remade (r .machine) xs steps) →
+      Preserved false r (backRun r i place xs steps crashed)
   quiet-back i h e xs same stage =
       let z = s .inv .sizes in
       let v = s .running .rows in
@@ -66,7 +71,8 @@ module _ (r : Run) (s : RunningRun r) (place steps : ℕ) {left : List Act} (lea
       }
 
   -- Line 0's write-back after the epoch's store completes the checkpoint, and done again changes nothing.
-  pub header-back : r .board .state .requested ≡ true → length (acts (r .board)) ≤ 2 → 1 ≤ length left → length left ≤ 2 → Stage σ (r .board) (r .machine) → Preserved false r (backRun r 0 place (r .machine .current) steps crashed)
+  pub header-back : r .board .state .requested ≡ true → length (acts (r .board)) ≤ 2 → 1 ≤ length left → length left ≤ 2 →
+      Stage σ (r .board) (r .machine) → Preserved false r (backRun r 0 place (r .machine .current) steps crashed)
   header-back on past low high (early e) = absurd (omega (arith, e .left))
   header-back on past low high (gap g) =
       let z = s .inv .sizes in

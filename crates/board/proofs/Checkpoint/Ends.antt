@@ -129,7 +129,8 @@ awaited-on r {memory = memory} {cache = cache} g p q =
     )
 
 -- The next step, where the steps after it end.
-step-ends : (n : ℕ) (r : Run) (xs : List Act) → Awaited r → acts (r .board) ≡ xs → Remains (r .board) xs → length xs ≡ suc n → (Awaited (afterTaken Step r) → length (acts (effect Step (r .board))) ≡ n → EndsAway n (effect Step (r .board))) → EndsAway (suc n) (r .board)
+step-ends : (n : ℕ) (r : Run) (xs : List Act) → Awaited r → acts (r .board) ≡ xs → Remains (r .board) xs → length xs ≡ suc n →
+    (Awaited (afterTaken Step r) → length (acts (effect Step (r .board))) ≡ n → EndsAway n (effect Step (r .board))) → EndsAway (suc n) (r .board)
 unfolding stepsFrom AllTaken performAct performFirst
 step-ends n r xs g p left e rest = by left p e
   where
@@ -139,7 +140,8 @@ step-ends n r xs g p left e rest = by left p e
     t : Taken Step b
     t = step-taken r g
 
-    further : {later : List Act} → length later ≡ n → Awaited (afterTaken Step r) × (acts (effect Step b) ≡ later) × (effect Step b .state .worker ≡ b .state .worker) → EndsAway (suc n) b
+    further : {later : List Act} → length later ≡ n →
+        Awaited (afterTaken Step r) × (acts (effect Step b) ≡ later) × (effect Step b .state .worker ≡ b .state .worker) → EndsAway (suc n) b
     further q on = ends-after n b (effect Step b) t (taken-next Step b t) (on .2) (rest (on .0) (ap length (on .1) ∙ q))
 
     last : (k : ℕ) → k ≡ 0 → next Step b ≡ stated (released (b .state)) b → EndsAway (suc k) b
@@ -161,7 +163,9 @@ ends zero r g e = absurd (omega (arith, some-left (running-run r (g .inv) (g .un
 ends (suc n) r g e = step-ends n r (acts (r .board)) g refl (left-of r g) e (λ h f. ends n (afterTaken Step r) h f)
 
 -- A requested checkpoint ends from whatever place it has reached, where the invariant holds.
-pub checkpoint-ends : (r : Run) → Inv r → r .crashed ≡ false → isRunning (r .board .state .phase) ≡ true → r .board .state .requested ≡ true → AllWaitOrAway (r .board .state) → (left : ℕ) → r .board .state .place + left ≡ dirtyCount (r .board .state) + 3 → EndsIn left (r .board) × KeepsAway (r .board .state) (stepsFrom left (r .board) .state)
+pub checkpoint-ends : (r : Run) → Inv r → r .crashed ≡ false → isRunning (r .board .state .phase) ≡ true → r .board .state .requested ≡ true →
+    AllWaitOrAway (r .board .state) → (left : ℕ) → r .board .state .place + left ≡ dirtyCount (r .board .state) + 3 →
+    EndsIn left (r .board) × KeepsAway (r .board .state) (stepsFrom left (r .board) .state)
 checkpoint-ends r inv d e on wait left h =
     ends left r (record { inv = inv; uncut = d; phase = is-running (r .board .state .phase) e; request = on; waiting = all-quiescent (r .board .state) wait })
     (omega (arith, acts-length (r .board), chosen (r .board .state .requested) (r .board .state .place) 0 on))

@@ -29,15 +29,18 @@ kept-same {σ} {xs} ys row same k = record { header = k .header; undoes = undoes
 
 module _ {σ : Shape} (memory cache : List ℕ) (zm : Sized σ memory) (zc : Sized σ cache) where
   -- What is true of a cell in the cache and in memory is true of it in memory after any line's write-back.
-  pub both-back : (P : View → Type 0) (i : ℕ) (c : Location) → i ≤ σ .lines → P (view cache c) → P (view memory c) → P (view (withLine memory i (lineOf cache i)) c)
+  pub both-back : (P : View → Type 0) (i : ℕ) (c : Location) → i ≤ σ .lines → P (view cache c) → P (view memory c) →
+      P (view (withLine memory i (lineOf cache i)) c)
   both-back P i c h p q = ⊎-elim (λ e. subst P (sym e) p) (λ e. subst P (sym e) q) (view-back memory cache zm zc i h c)
 
   -- A record that was the cache's stays so.
-  pub value-back : (i : ℕ) (c : Location) → i ≤ σ .lines → view memory c .value ≡ view cache c .value → view (withLine memory i (lineOf cache i)) c .value ≡ view cache c .value
+  pub value-back : (i : ℕ) (c : Location) → i ≤ σ .lines → view memory c .value ≡ view cache c .value →
+      view (withLine memory i (lineOf cache i)) c .value ≡ view cache c .value
   value-back i c h e = both-back (λ (v : View). v .value ≡ view cache c .value) i c h refl e
 
   -- After any line's write-back recovery gives what it gave before, where the cache too gives it by memory's epoch and that epoch stays.
-  pub kept-back : (xs : Location → ℕ) (i : ℕ) → i ≤ σ .lines → (i ≡ 0 → epochOf cache ≡ epochOf memory) → Header σ cache → Undoes σ (epochOf memory) xs cache → Kept σ xs memory → Kept σ xs (withLine memory i (lineOf cache i))
+  pub kept-back : (xs : Location → ℕ) (i : ℕ) → i ≤ σ .lines → (i ≡ 0 → epochOf cache ≡ epochOf memory) → Header σ cache →
+      Undoes σ (epochOf memory) xs cache → Kept σ xs memory → Kept σ xs (withLine memory i (lineOf cache i))
   kept-back xs i h e hc u k =
       record {
         header = header-back memory cache zm zc i h (k .header) hc;
@@ -52,7 +55,8 @@ module _ {σ : Shape} (memory cache : List ℕ) (zm : Sized σ memory) (zc : Siz
       view-line-out memory 0 (lineOf cache 0) c zm (omega arith) (length-lineOf cache 0 (line-in cache 0 zc (omega arith))) (λ e. omega (arith, line-positive σ c b))
 
   -- Line 0's write-back with the next epoch: recovery gives the records, which memory has as the cache has them.
-  pub kept-next : (xs ys : Location → ℕ) → epochOf cache ≡ epochOf memory + 1 → Header σ cache → Kept σ xs memory → ((c : Location) → Has σ c → view memory c .value ≡ ys c) → Kept σ ys (withLine memory 0 (lineOf cache 0))
+  pub kept-next : (xs ys : Location → ℕ) → epochOf cache ≡ epochOf memory + 1 → Header σ cache → Kept σ xs memory →
+      ((c : Location) → Has σ c → view memory c .value ≡ ys c) → Kept σ ys (withLine memory 0 (lineOf cache 0))
   kept-next xs ys e hc k same =
       record {
         header = header-back memory cache zm zc 0 (omega arith) (k .header) hc;
@@ -63,7 +67,8 @@ module _ {σ : Shape} (memory cache : List ℕ) (zm : Sized σ memory) (zc : Siz
       }
 
   -- Then the cache gives the records too, by the next epoch.
-  pub undoes-next : (xs ys : Location → ℕ) → epochOf cache ≡ epochOf memory + 1 → Undoes σ (epochOf memory) xs cache → ((c : Location) → Has σ c → view cache c .value ≡ ys c) → Undoes σ (epochOf (withLine memory 0 (lineOf cache 0))) ys cache
+  pub undoes-next : (xs ys : Location → ℕ) → epochOf cache ≡ epochOf memory + 1 → Undoes σ (epochOf memory) xs cache →
+      ((c : Location) → Has σ c → view cache c .value ≡ ys c) → Undoes σ (epochOf (withLine memory 0 (lineOf cache 0))) ys cache
   undoes-next xs ys e u same c b =
       let later : epochOf (withLine memory 0 (lineOf cache 0)) ≡ epochOf memory + 1 = epoch-back-header memory cache zm zc ∙ e in
       undo-next c (ys c) (view cache c) later (u c b) (same c b)

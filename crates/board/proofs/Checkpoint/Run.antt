@@ -25,7 +25,8 @@ pub record Preserved (format : Bool) (r r′ : Run) : Type 0 where
   pub completion : Completes format r r′
 
 -- What leaves memory and the machine's checkpointed values and shape changes nothing of the last checkpoint.
-pub quiet : (r r′ : Run) → r′ .board .memory ≡ r .board .memory → r′ .machine .shape ≡ r .machine .shape → ((u : Location) → r′ .machine .checkpointed u ≡ r .machine .checkpointed u) → Unchanged r r′
+pub quiet : (r r′ : Run) → r′ .board .memory ≡ r .board .memory → r′ .machine .shape ≡ r .machine .shape →
+    ((u : Location) → r′ .machine .checkpointed u ≡ r .machine .checkpointed u) → Unchanged r r′
 quiet r r′ m z v =
     record {
       board = record { shape = z; header = λ k p q. word k; spare = λ i k a b p q. word (lineStart i + k) };
@@ -37,7 +38,8 @@ quiet r r′ m z v =
     word k = ap (λ (row : List ℕ). getD row k 0) m
 
 -- The invariant is kept, and nothing of the last checkpoint changes.
-pub quietly : {r r′ : Run} → Inv r′ → r′ .board .memory ≡ r .board .memory → r′ .machine .shape ≡ r .machine .shape → ((u : Location) → r′ .machine .checkpointed u ≡ r .machine .checkpointed u) → Preserved false r r′
+pub quietly : {r r′ : Run} → Inv r′ → r′ .board .memory ≡ r .board .memory → r′ .machine .shape ≡ r .machine .shape →
+    ((u : Location) → r′ .machine .checkpointed u ≡ r .machine .checkpointed u) → Preserved false r r′
 quietly {r} {r′} i m z v = record { keeps = i; completion = inl (quiet r r′ m z v) }
 
 -- The only phase in which the board runs.
@@ -65,7 +67,9 @@ pub running-count : {r : Run} → RunningRun r → dirtyCount (r .board .state) 
 running-count {r} s = dirty-count (r .board .state .dirty) (r .machine .marked) (s .running .checkpoint .dirty) (shape-in (r .machine .shape) (s .inv .sizes .limits) .1)
 
 -- The invariant of a running board from its parts.
-pub inv-running : (r : Run) → r .erased ≡ false → r .board .state .phase ≡ Running → Lengths (r .machine .shape) (r .board .memory) (r .board .cache) → Kept (r .machine .shape) (r .machine .checkpointed) (r .board .memory) → RunningInv (r .machine .shape) (r .board) (r .machine) → Inv r
+pub inv-running : (r : Run) → r .erased ≡ false → r .board .state .phase ≡ Running →
+    Lengths (r .machine .shape) (r .board .memory) (r .board .cache) → Kept (r .machine .shape) (r .machine .checkpointed) (r .board .memory) →
+    RunningInv (r .machine .shape) (r .board) (r .machine) → Inv r
 inv-running r off e z k v =
     record {
       sizes = z;

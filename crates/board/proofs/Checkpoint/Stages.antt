@@ -36,8 +36,10 @@ unfolding acts
 leaves-same b memory = refl
 
 -- A running board whose memory, place and checkpointed values change.
-pub running-moved : {σ : Shape} {b : Board} {m : Machine} → RunningInv σ b m → (memory : List ℕ) (place : ℕ) (xs : Location → ℕ) (steps : ℕ) → SameSizes (b .memory) memory → SameSpare σ memory (b .cache) →
-    (b .state .requested ≡ true → steps + length (acts (moved b memory place)) ≡ markedCount m + 3) → Undoes σ (epochOf memory) xs (b .cache) → Stage σ (moved b memory place) (remade m xs steps) → RunningInv σ (moved b memory place) (remade m xs steps)
+pub running-moved : {σ : Shape} {b : Board} {m : Machine} → RunningInv σ b m → (memory : List ℕ) (place : ℕ) (xs : Location → ℕ) (steps : ℕ) →
+    SameSizes (b .memory) memory → SameSpare σ memory (b .cache) →
+    (b .state .requested ≡ true → steps + length (acts (moved b memory place)) ≡ markedCount m + 3) → Undoes σ (epochOf memory) xs (b .cache) →
+    Stage σ (moved b memory place) (remade m xs steps) → RunningInv σ (moved b memory place) (remade m xs steps)
 running-moved {b = b} v memory place xs steps sizes spare agree undoes stage =
     record {
       own = v .own;
@@ -52,8 +54,10 @@ module _ {σ : Shape} (b : Board) (z : Lengths σ (b .memory) (b .cache)) (i : �
   same-back same u p = value-back (b .memory) (b .cache) (z .memory) (z .cache) i u h (same u p)
 
   -- Before the epoch's store a write-back of any line leaves the early stage.
-  pub early-back : {m : Machine} (place steps : ℕ) {left : List Act} → Leaves b place left → 3 ≤ length left → (0 < progress (placed (b .state) place (b .state .undo)) → AllQuiescent (b .state)) →
-      ((u : Location) → Has σ u → (List·Memᴰ (writeLine (lineFor u)) left → ⊥) → view (writtenBack i b) u .value ≡ view (b .cache) u .value) → Early σ b m → Early σ (moved b (writtenBack i b) place) (remade m (m .checkpointed) steps)
+  pub early-back : {m : Machine} (place steps : ℕ) {left : List Act} → Leaves b place left → 3 ≤ length left →
+      (0 < progress (placed (b .state) place (b .state .undo)) → AllQuiescent (b .state)) →
+      ((u : Location) → Has σ u → (List·Memᴰ (writeLine (lineFor u)) left → ⊥) → view (writtenBack i b) u .value ≡ view (b .cache) u .value) →
+      Early σ b m → Early σ (moved b (writtenBack i b) place) (remade m (m .checkpointed) steps)
   early-back place steps {left} leaves low waiting written e =
       let same : epochOf (writtenBack i b) ≡ epochOf (b .memory) = epoch-back (b .memory) (b .cache) (z .memory) (z .cache) i h (λ q. e .epochs) in
       let now = leaves (writtenBack i b) in
@@ -79,8 +83,11 @@ module _ {σ : Shape} (b : Board) (z : Lengths σ (b .memory) (b .cache)) (i : �
       }
 
   -- After a write-back that leaves the cache's epoch in memory the board is in the late stage.
-  pub late-back : (m : Machine) (place : ℕ) (xs : Location → ℕ) (steps : ℕ) {left : List Act} → Leaves b place left → 1 ≤ length left → length left ≤ 2 → b .state .requested ≡ true → epochOf (writtenBack i b) ≡ epochOf (b .cache) → SameValues σ (b .memory) (b .cache) → AllQuiescent (b .state) →
-      ((u : Location) → Has σ u → xs u ≡ m .current u) → ((u : Location) → Has σ u → logs u (epochOf (b .cache)) (view (b .cache) u) ≡ false) → Late σ (moved b (writtenBack i b) place) (remade m xs steps)
+  pub late-back : (m : Machine) (place : ℕ) (xs : Location → ℕ) (steps : ℕ) {left : List Act} → Leaves b place left → 1 ≤ length left →
+      length left ≤ 2 → b .state .requested ≡ true → epochOf (writtenBack i b) ≡ epochOf (b .cache) → SameValues σ (b .memory) (b .cache) →
+      AllQuiescent (b .state) →
+      ((u : Location) → Has σ u → xs u ≡ m .current u) → ((u : Location) → Has σ u → logs u (epochOf (b .cache)) (view (b .cache) u) ≡ false) →
+      Late σ (moved b (writtenBack i b) place) (remade m xs steps)
   late-back m place xs steps leaves low high on epoch same waiting complete unlogged =
       let now = leaves (writtenBack i b) in
       record {

@@ -27,6 +27,7 @@ planned-writes b =
     ∙ ap (λ (xs : List ℕ). map line xs ++ (nothing ∷ line 0 ∷ nothing ∷ []))
     (ap (λ (n : ℕ). map g (numbersUnder n)) (size-count (b .state .dirty)) ∙ rising-listed capacity (contains (b .state .dirty)))
   where
-    behind : (g : ℕ → ℕ) (ns : List ℕ) → map writes (map (λ p. writeLine (g p)) ns ++ (storeEpoch ∷ writeHeader ∷ release ∷ [])) ≡ map line (map g ns) ++ (nothing ∷ line 0 ∷ nothing ∷ [])
+    behind : (g : ℕ → ℕ) (ns : List ℕ) →
+        map writes (map (λ p. writeLine (g p)) ns ++ (storeEpoch ∷ writeHeader ∷ release ∷ [])) ≡ map line (map g ns) ++ (nothing ∷ line 0 ∷ nothing ∷ [])
     behind g [] = refl
     behind g (n ∷ ns) = ap {B = List Written} (λ ws. line (g n) ∷ ws) (behind g ns)

@@ -53,7 +53,8 @@ unfolding standsAt causes
 start-sizes l w b t = rows-sized (shaped l) b (limits-in (shaped l) w (passed (FormatStart l w) b t 1) .shape) (passed (FormatStart l w) b t 4)
 
 -- A taken format's start leaves a board in a format, at its beginning.
-pub format-begins : (l w : ℕ) (b : Board) → Taken (FormatStart l w) b → InFormat (shaped l) (effect (FormatStart l w) b) × (effect (FormatStart l w) b .state .place ≡ 0)
+pub format-begins : (l w : ℕ) (b : Board) → Taken (FormatStart l w) b →
+    InFormat (shaped l) (effect (FormatStart l w) b) × (effect (FormatStart l w) b .state .place ≡ 0)
 unfolding standsAt causes effect
 format-begins l w b t = (
   record {
@@ -172,14 +173,17 @@ fresh-part {σ} {cache = cache} o =
     }
 
 -- Its checkpoint is to come, with no line dirty.
-fresh-checkpoint : (σ : Shape) (b : Board) → FreshRows σ (b .state .workers) (b .memory) (b .cache) → b .state .requested ≡ false → b .state .dirty ≡ empty → CheckpointPart σ b (beginning σ)
+fresh-checkpoint : (σ : Shape) (b : Board) → FreshRows σ (b .state .workers) (b .memory) (b .cache) → b .state .requested ≡ false →
+    b .state .dirty ≡ empty → CheckpointPart σ b (beginning σ)
 fresh-checkpoint σ b o quiet clean =
     unbegun-part b (beginning σ) refl quiet clean (λ u. refl) (o .cacheEpoch ∙ sym (o .memoryEpoch))
     (λ u h. subst₂ (λ (e : ℕ) (v : View). logs u e v ≡ false) (sym (o .memoryEpoch)) (sym (o .cacheZeros u h)) (zeros-fit u 1 (omega arith) .0))
     (λ u h. ap (λ (v : View). v .value) (o .memoryZeros u h ∙ sym (o .cacheZeros u h)))
 
 -- The rows of a format at its last place, with the header stored.
-pub fresh-rows : (σ : Shape) (w : ℕ) (memory cache : List ℕ) → Sized σ memory → Sized σ cache → Zeroed σ (σ .lines + 1) memory → Zeroed σ (σ .lines + 1) cache → outside σ w ≡ false → FreshRows σ w (withLine memory 0 (headerWords 1 σ w)) (withLine cache 0 (headerWords 1 σ w))
+pub fresh-rows : (σ : Shape) (w : ℕ) (memory cache : List ℕ) → Sized σ memory → Sized σ cache → Zeroed σ (σ .lines + 1) memory →
+    Zeroed σ (σ .lines + 1) cache → outside σ w ≡ false →
+    FreshRows σ w (withLine memory 0 (headerWords 1 σ w)) (withLine cache 0 (headerWords 1 σ w))
 fresh-rows σ w memory cache zm zc fm fc o =
     record {
       memoryEpoch = epoch-fresh memory w zm;

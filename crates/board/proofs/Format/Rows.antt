@@ -34,7 +34,8 @@ module _ {σ : Shape} (row : List ℕ) (p : ℕ) (z : Sized σ row) (h : p ≤ �
   sized-erased = sized-line row p zeroWords z h refl
 
   -- A word of another line stays, one of the erased line is zero.
-  pub word-erase : (i k : ℕ) → k < 8 → getD (withLine row p zeroWords) (lineStart i + k) 0 ≡ cond (eqb ((lineStart i + k) / 8) p) 0 (getD row (lineStart i + k) 0)
+  pub word-erase : (i k : ℕ) → k < 8 →
+      getD (withLine row p zeroWords) (lineStart i + k) 0 ≡ cond (eqb ((lineStart i + k) / 8) p) 0 (getD row (lineStart i + k) 0)
   word-erase i k b =
       elim (ℕ-discrete p i) [
         | yes e ↦

@@ -42,7 +42,8 @@ module _ {c e x y : ℕ} {t : Bool} {memory v : View} (inv : LocationInv (cell c
       record { undo = record { logged = λ p. absurd (clash p o); plain = inv .undo .plain; fit = inv .undo .fit }; current = inv .current; marks = inv .marks; clean = inv .clean }
 
   -- The mark stored in a cell whose backup is its record.
-  cell-marked : {t′ : Bool} (z : ℕ) → z ≡ e → logs (cell c) e v ≡ false → v .old ≡ v .value → t′ ≡ true → LocationInv (cell c) e x y t′ memory (put Field.Mark z v)
+  cell-marked : {t′ : Bool} (z : ℕ) → z ≡ e → logs (cell c) e v ≡ false → v .old ≡ v .value → t′ ≡ true →
+      LocationInv (cell c) e x y t′ memory (put Field.Mark z v)
   cell-marked z p o q t =
       record { undo = record { logged = λ n. q ∙ inv .undo .plain o; plain = λ n. absurd (clash (eq-eqb z e p) n); fit = omega arith }; current = inv .current; marks = t ∙ sym (eq-eqb z e p); clean = λ n. absurd (clash (eq-eqb z e p) n) }
 
@@ -72,7 +73,8 @@ module _ (r : Run) (w c v : ℕ) (next : Store) (inv : Inv r) (turn : Turn r w c
   view-after = view-store (r .board .cache) c x (inv .sizes .cache) (turn .has) f
 
   -- The worker is about to do the store after this one.
-  worker-after : (then : Store) → BeforeStore then c (epochOf (r .board .memory)) (put f x (view (r .board .cache) (cell c))) → WorkerInv (r .machine .shape) (withField (r .board .cache) c f x) (Updating then c v) (update (cell c) v (storesLeft then))
+  worker-after : (then : Store) → BeforeStore then c (epochOf (r .board .memory)) (put f x (view (r .board .cache) (cell c))) →
+      WorkerInv (r .machine .shape) (withField (r .board .cache) c f x) (Updating then c v) (update (cell c) v (storesLeft then))
   worker-after then before =
       let epoch : epochOf (r .board .memory) ≡ epochOf (withField (r .board .cache) c f x) = sym (epoch-store (r .board .cache) c f x ∙ turn .now .stage .epochs) in
       (refl, turn .has, subst₂ (BeforeStore then c) epoch (sym view-after) before)
@@ -157,7 +159,8 @@ keeps-advance r w inv crashed t = go (conditionOf s w) refl (pass 8) (now .run .
     now : Working r w
     now = working r w isUpdating refl refl inv crashed (pass 2) (pass 6) (pass 8)
 
-    go : (k : Condition) → conditionOf s w ≡ k → not (isUpdating k) ≡ false → WorkerInv (r .machine .shape) (r .board .cache) k (r .machine .unfinished w) → Inv (afterTaken (Advance w) r)
+    go : (k : Condition) → conditionOf s w ≡ k → not (isUpdating k) ≡ false →
+        WorkerInv (r .machine .shape) (r .board .cache) k (r .machine .unfinished w) → Inv (afterTaken (Advance w) r)
     go Free e busy worker = absurd (true≢false busy)
     go Waiting e busy worker = absurd (true≢false busy)
     go Away e busy worker = absurd (true≢false busy)

@@ -38,7 +38,8 @@ use Rattle.board.specs.Next.{Taken}
 -- ---- workers that wait or are away
 
 -- Such a worker has no unfinished update, whatever the cache, and has none after the release.
-quiescent-worker : (σ : Shape) (cache cache′ : List ℕ) (d : Condition) (u : Unfinished) → quiescent d ≡ true → WorkerInv σ cache d u → WorkerInv σ cache′ d u × WorkerInv σ cache′ (afterRelease d) u
+quiescent-worker : (σ : Shape) (cache cache′ : List ℕ) (d : Condition) (u : Unfinished) → quiescent d ≡ true → WorkerInv σ cache d u →
+    WorkerInv σ cache′ d u × WorkerInv σ cache′ (afterRelease d) u
 quiescent-worker σ cache cache′ Free u w p = absurd (false≢true w)
 quiescent-worker σ cache cache′ Waiting u w p = (p, p)
 quiescent-worker σ cache cache′ (Updating next c v) u w p = absurd (false≢true w)
@@ -52,7 +53,8 @@ released-touches (Updating next c v) d t = t
 released-touches Away d t = t
 
 -- The workers after the release.
-released-part : {σ : Shape} (s : State) {cache : List ℕ} {unfinished : ℕ → Unfinished} → s .workers ≤ 8 → AllQuiescent s → WorkersPart σ (s .workers) (s .worker) cache unfinished → WorkersPart σ (s .workers) (released s .worker) cache unfinished
+released-part : {σ : Shape} (s : State) {cache : List ℕ} {unfinished : ℕ → Unfinished} → s .workers ≤ 8 → AllQuiescent s →
+    WorkersPart σ (s .workers) (s .worker) cache unfinished → WorkersPart σ (s .workers) (released s .worker) cache unfinished
 released-part {σ} s {cache} {unfinished} eight wait v =
     record {
       each = λ w h. subst (λ (d : Condition). WorkerInv σ cache d (unfinished w)) (sym (after w h)) (quiescent-worker σ cache cache (conditionOf s w) (unfinished w) (wait w h) (v .each w h) .1);
@@ -86,7 +88,8 @@ module _ (r : Run) (s : RunningRun r) (on : r .board .state .requested ≡ true)
   eight = limits-in σ (b .state .workers) (s .running .own .limits) .eight
 
   -- A step, from its act with what the machine sees of it.
-  by-act : {act : Act} {later : List Act} (seen : Machine) → acts b ≡ act ∷ later → checkpointStep m ≡ seen → Preserved false r (acted r act seen) → Preserved false r (afterTaken Step r)
+  by-act : {act : Act} {later : List Act} (seen : Machine) → acts b ≡ act ∷ later → checkpointStep m ≡ seen → Preserved false r (acted r act seen) →
+      Preserved false r (afterTaken Step r)
   by-act {act} seen p q o =
       subst (Preserved false r) (sym (step-acts r (s .phase) (s .running .checkpoint .request ∙ on) p ∙ ap (acted r act) q)) o
 
@@ -95,7 +98,9 @@ module _ (r : Run) (s : RunningRun r) (on : r .board .state .requested ≡ true)
   one-fewer p on = omega (arith, steps, ap length p)
 
   -- A dirty line written back.
-  line-carried : {later : List Act} → acts b ≡ writeLine (nth (b .state .dirty) (progress (b .state))) ∷ later → progress (b .state) < dirtyCount (b .state) → 3 ≤ length later → Early σ b m → Preserved false r (acted r (writeLine (nth (b .state .dirty) (progress (b .state)))) (counted m))
+  line-carried : {later : List Act} → acts b ≡ writeLine (nth (b .state .dirty) (progress (b .state))) ∷ later →
+      progress (b .state) < dirtyCount (b .state) → 3 ≤ length later → Early σ b m →
+      Preserved false r (acted r (writeLine (nth (b .state .dirty) (progress (b .state)))) (counted m))
   unfolding performAct
   line-carried {later} p low three e =
       let z = s .inv .sizes in
@@ -195,7 +200,8 @@ module _ (r : Run) (s : RunningRun r) (on : r .board .state .requested ≡ true)
   stage-step xs p releaseNext (late e) = release-step p e
 
 -- What a taken step of a running board leaves.
-pub carried-checkpoint-step : (r : Run) → Inv r → r .crashed ≡ false → r .board .state .phase ≡ Running → Taken Step (r .board) → Preserved false r (afterTaken Step r)
+pub carried-checkpoint-step : (r : Run) → Inv r → r .crashed ≡ false → r .board .state .phase ≡ Running → Taken Step (r .board) →
+    Preserved false r (afterTaken Step r)
 carried-checkpoint-step r inv d e t =
     let s = running-run r inv d e in
     let now = step-ready (r .board) e t in

@@ -55,7 +55,8 @@ carried-step r i d t = go (r .board .state .phase) refl
     go Running e = carried-checkpoint-step r i d e t
 
 -- A taken call, where after a cut it is a start.
-carried-call : (k : Call) (r : Run) → Inv r → (r .crashed ≡ true → isStart (kind k) ≡ true) → Taken k (r .board) → Preserved (isStep (kind k) && isFormatting (r .board .state .phase)) r (afterTaken k r)
+carried-call : (k : Call) (r : Run) → Inv r → (r .crashed ≡ true → isStart (kind k) ≡ true) → Taken k (r .board) →
+    Preserved (isStep (kind k) && isFormatting (r .board .state .phase)) r (afterTaken k r)
 unfolding effect feed
 carried-call (FormatStart l w) r i a t = carried-format-start r l w i t
 carried-call RecoveryStart r i a t = quietly (keeps-recovery-start r i t) refl refl (λ c. refl)

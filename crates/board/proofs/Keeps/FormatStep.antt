@@ -41,7 +41,9 @@ erases m e q f =
 -- ---- the run
 
 -- A run whose board, machine and erasure are given by equations.
-carried-of : (r : Run) (d : Bool) {b b′ : Board} {m m′ : Machine} {e e′ : Bool} → b ≡ b′ → m ≡ m′ → e ≡ e′ → Preserved true r (record { board = b′; machine = m′; crashed = d; erased = e′ }) → Preserved true r (record { board = b; machine = m; crashed = d; erased = e })
+carried-of : (r : Run) (d : Bool) {b b′ : Board} {m m′ : Machine} {e e′ : Bool} → b ≡ b′ → m ≡ m′ → e ≡ e′ →
+    Preserved true r (record { board = b′; machine = m′; crashed = d; erased = e′ }) →
+    Preserved true r (record { board = b; machine = m; crashed = d; erased = e })
 carried-of r d p q s =
     subst₃ (λ (b : Board) (m : Machine) (e : Bool). Preserved true r (record { board = b; machine = m; crashed = d; erased = e })) (sym p) (sym q) (sym s)
 
@@ -56,7 +58,8 @@ fresh-inv σ b d f =
     }
 
 -- A format with one more line erased beside a machine that counts the step.
-erased-inv : (b b′ : Board) (m : Machine) (d : Bool) → Erased (m .shape) b b′ → m .formatting ≡ true → m .requested ≡ false → m .steps ≡ b .state .place → Inv (record { board = b′; machine = counted m; crashed = d; erased = true })
+erased-inv : (b b′ : Board) (m : Machine) (d : Bool) → Erased (m .shape) b b′ → m .formatting ≡ true → m .requested ≡ false →
+    m .steps ≡ b .state .place → Inv (record { board = b′; machine = counted m; crashed = d; erased = true })
 erased-inv b b′ m d s f q n =
     record {
       sizes = s .formats .sizes;
@@ -110,7 +113,8 @@ carried-format-step r inv d p =
         stored-last (formats .format .own .shape) i k a d
         ∙ sym (passedOver (eqb (at / 8) (r .board .state .place)) 0 (getD (r .board .memory) at 0) (ne-eqb (at / 8) (r .board .state .place) (λ q. omega (arith, e))))
       where
-        stored-last : shapeOf (r .board .state) ≡ r .machine .shape → (i k : ℕ) → 1 ≤ i → k < 8 → getD (finishing (r .board) .memory) (lineStart i + k) 0 ≡ getD (r .board .memory) (lineStart i + k) 0
+        stored-last : shapeOf (r .board .state) ≡ r .machine .shape → (i k : ℕ) → 1 ≤ i → k < 8 →
+            getD (finishing (r .board) .memory) (lineStart i + k) 0 ≡ getD (r .board .memory) (lineStart i + k) 0
         stored-last q = word-kept (r .board .memory) (r .board .state .workers) (subst (λ (σ : Shape). Sized σ (r .board .memory)) (sym q) (inv .sizes .memory))
 
     finished : r .board .state .place ≡ r .machine .shape .lines + 1 → Preserved true r (afterTaken Step r)

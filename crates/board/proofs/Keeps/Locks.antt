@@ -25,7 +25,8 @@ carried-take-lock r w k inv d t =
     carried-holders r (heldBy (s .holders) k w) _ inv d (pass 2) (taken-under (s .holders) (s .workers) k w (eight-within s (pass 3)) (leb-false (s .workers) w (pass 6)))
 
 -- A lock given back.
-pub carried-give-back-lock : (r : Run) (w k : ℕ) → Inv r → r .crashed ≡ false → Taken (GiveBackLock w k) (r .board) → Preserved false r (afterTaken (GiveBackLock w k) r)
+pub carried-give-back-lock : (r : Run) (w k : ℕ) → Inv r → r .crashed ≡ false → Taken (GiveBackLock w k) (r .board) →
+    Preserved false r (afterTaken (GiveBackLock w k) r)
 unfolding standsAt causes effect feed
 carried-give-back-lock r w k inv d t =
     let s = r .board .state in

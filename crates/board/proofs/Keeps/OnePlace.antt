@@ -40,7 +40,8 @@ pub record LocationInv (u : Location) (e x y : ℕ) (marked : Bool) (memory v : 
   pub clean : logs u e v ≡ false → memory .value ≡ v .value
 
 -- Each location of an early board.
-pub location-inv : {σ : Shape} {b : Board} {m : Machine} → RunningInv σ b m → Early σ b m → (u : Location) → Has σ u → LocationInv u (epochOf (b .memory)) (m .checkpointed u) (m .current u) (m .marked u) (view (b .memory) u) (view (b .cache) u)
+pub location-inv : {σ : Shape} {b : Board} {m : Machine} → RunningInv σ b m → Early σ b m → (u : Location) → Has σ u →
+    LocationInv u (epochOf (b .memory)) (m .checkpointed u) (m .current u) (m .marked u) (view (b .memory) u) (view (b .cache) u)
 location-inv run ear u h = record { undo = run .rows .undoes u h; current = run .rows .current u h; marks = ear .marks u h; clean = ear .clean u h }
 
 -- ---- what changes
@@ -73,7 +74,8 @@ pub record ChangeFits (b : Board) (m : Machine) (ch : Change) : Type 0 where
   pub only : OnlyAt (m .shape) (ch .place) (b .cache) (ch .cache)
   pub currents : (u : Location) → (placeOf u ≡ ch .place → ⊥) → ch .current u ≡ m .current u
   pub marks : (u : Location) → (placeOf u ≡ ch .place → ⊥) → ch .marked u ≡ m .marked u
-  pub here : (u : Location) → Has (m .shape) u → placeOf u ≡ ch .place → LocationInv u (epochOf (b .memory)) (m .checkpointed u) (ch .current u) (ch .marked u) (view (b .memory) u) (view (ch .cache) u)
+  pub here : (u : Location) → Has (m .shape) u → placeOf u ≡ ch .place →
+      LocationInv u (epochOf (b .memory)) (m .checkpointed u) (ch .current u) (ch .marked u) (view (b .memory) u) (view (ch .cache) u)
   pub dirty : Dirty (m .shape) (ch .dirty) (ch .marked)
   pub worker : WorkerInv (m .shape) (ch .cache) (ch .condition) (ch .unfinished)
   pub own : (d : ℕ) → Touches (ch .condition) d → ch .place ≡ d
@@ -96,7 +98,8 @@ not-quiescent test waits leaves (Updating next c v) e = refl
 not-quiescent test waits leaves Away e = absurd (clash (not-off (test Away) e) leaves)
 
 -- A taken call that asks for a running board and for a worker in a condition other than waiting or away: no step of a checkpoint was taken.
-pub working : (r : Run) (w : ℕ) (test : Condition → Bool) → test Waiting ≡ false → test Away ≡ false → Inv r → r .crashed ≡ false → notRunning (r .board) ≡ false → noWorker (r .board .state) w ≡ false → not (test (conditionOf (r .board .state) w)) ≡ false → Working r w
+pub working : (r : Run) (w : ℕ) (test : Condition → Bool) → test Waiting ≡ false → test Away ≡ false → Inv r → r .crashed ≡ false →
+    notRunning (r .board) ≡ false → noWorker (r .board .state) w ≡ false → not (test (conditionOf (r .board .state) w)) ≡ false → Working r w
 working r w test waits leaves inv crashed on worker holds = go (r .board .state .phase) refl (not-off (isRunning (r .board .state .phase)) on) (inv .phase crashed)
   where
     under : w < r .board .state .workers
@@ -128,7 +131,8 @@ working r w test waits leaves inv crashed on worker holds = go (r .board .state 
 -- ---- the workers after a change
 
 -- A worker's update of another cell is as it was.
-worker-other : (σ : Shape) {c : ℕ} {cache cache′ : List ℕ} → OnlyAt σ c cache cache′ → (k : Condition) (u : Unfinished) → (Touches k c → ⊥) → WorkerInv σ cache k u → WorkerInv σ cache′ k u
+worker-other : (σ : Shape) {c : ℕ} {cache cache′ : List ℕ} → OnlyAt σ c cache cache′ → (k : Condition) (u : Unfinished) → (Touches k c → ⊥) →
+    WorkerInv σ cache k u → WorkerInv σ cache′ k u
 worker-other σ only Free u o inv = inv
 worker-other σ only Waiting u o inv = inv
 worker-other σ only Away u o inv = inv
@@ -144,7 +148,8 @@ changedRun ch crashed r =
 
 module _ (b : Board) (m : Machine) (ch : Change) (run : RunningInv (m .shape) b m) (ear : Early (m .shape) b m) (unbegun : progress (b .state) ≡ 0) (under : ch .worker < b .state .workers) (fits : ChangeFits b m ch) where
   -- Every location after a change.
-  each-location : (u : Location) → Has (m .shape) u → LocationInv u (epochOf (b .memory)) (m .checkpointed u) (ch .current u) (ch .marked u) (view (b .memory) u) (view (ch .cache) u)
+  each-location : (u : Location) → Has (m .shape) u →
+      LocationInv u (epochOf (b .memory)) (m .checkpointed u) (ch .current u) (ch .marked u) (view (b .memory) u) (view (ch .cache) u)
   each-location =
       at-places
       (λ (u : Location). Has (m .shape) u → LocationInv u (epochOf (b .memory)) (m .checkpointed u) (ch .current u) (ch .marked u) (view (b .memory) u) (view (ch .cache) u))
@@ -164,7 +169,8 @@ module _ (b : Board) (m : Machine) (ch : Change) (run : RunningInv (m .shape) b 
   few = limits-in (m .shape) (b .state .workers) (run .own .limits) .lines
 
   -- A location whose line is not to be written is not logged.
-  unwritten : (u : Location) → Has (m .shape) u → (List·Memᴰ (writeLine (lineFor u)) (acts (changedBoard ch b)) → ⊥) → view (b .memory) u .value ≡ view (ch .cache) u .value
+  unwritten : (u : Location) → Has (m .shape) u → (List·Memᴰ (writeLine (lineFor u)) (acts (changedBoard ch b)) → ⊥) →
+      view (b .memory) u .value ≡ view (ch .cache) u .value
   unwritten u h o =
       let e = epochOf (b .memory) in
       split (logs u e (view (ch .cache) u))
@@ -197,7 +203,8 @@ module _ (b : Board) (m : Machine) (ch : Change) (run : RunningInv (m .shape) b 
   other = condition-other (b .state) (ch .worker) (ch .condition)
 
   -- Every worker's update is as the machine has it.
-  each-worker : (u : ℕ) → u < b .state .workers → WorkerInv (m .shape) (ch .cache) (conditionOf (changedBoard ch b .state) u) (changed (m .unfinished) (ch .worker) (ch .unfinished) u)
+  each-worker : (u : ℕ) → u < b .state .workers →
+      WorkerInv (m .shape) (ch .cache) (conditionOf (changedBoard ch b .state) u) (changed (m .unfinished) (ch .worker) (ch .unfinished) u)
   each-worker =
       at-each
       (λ (u : ℕ). u < b .state .workers → WorkerInv (m .shape) (ch .cache) (conditionOf (changedBoard ch b .state) u) (changed (m .unfinished) (ch .worker) (ch .unfinished) u))
@@ -208,13 +215,15 @@ module _ (b : Board) (m : Machine) (ch : Change) (run : RunningInv (m .shape) b 
       (worker-other (m .shape) (fits .only) (conditionOf (b .state) u) (m .unfinished u) (fits .alone u h o) (run .workers .each u h)))
 
   -- No other worker has an update of a cell that the worker has one of.
-  met : (u d : ℕ) → u < b .state .workers → (ch .worker ≡ u → ⊥) → Touches (conditionOf (changedBoard ch b .state) u) d → Touches (conditionOf (changedBoard ch b .state) (ch .worker)) d → ⊥
+  met : (u d : ℕ) → u < b .state .workers → (ch .worker ≡ u → ⊥) → Touches (conditionOf (changedBoard ch b .state) u) d →
+      Touches (conditionOf (changedBoard ch b .state) (ch .worker)) d → ⊥
   met u d h o t t′ =
       let own : d ≡ ch .place = sym (fits .own d (subst (λ (k : Condition). Touches k d) at t′)) in
       fits .alone u h o (subst₂ (λ (k : Condition) (i : ℕ). Touches k i) (other u o) own t)
 
   -- Two unfinished updates have two cells.
-  apart-after : (u u′ d : ℕ) → u < b .state .workers → u′ < b .state .workers → Touches (conditionOf (changedBoard ch b .state) u) d → Touches (conditionOf (changedBoard ch b .state) u′) d → u ≡ u′
+  apart-after : (u u′ d : ℕ) → u < b .state .workers → u′ < b .state .workers → Touches (conditionOf (changedBoard ch b .state) u) d →
+      Touches (conditionOf (changedBoard ch b .state) u′) d → u ≡ u′
   apart-after u u′ d h h′ t t′ =
       elim (ℕ-discrete (ch .worker) u) [
         | yes e ↦ elim (ℕ-discrete (ch .worker) u′) [
@@ -245,7 +254,8 @@ module _ (b : Board) (m : Machine) (ch : Change) (run : RunningInv (m .shape) b 
       }
 
 -- A change of one worker and at one place that fits keeps the invariant.
-pub one-place : (r : Run) (ch : Change) (crashed : Bool) → Inv r → Working r (ch .worker) → ChangeFits (r .board) (r .machine) ch → Inv (changedRun ch crashed r)
+pub one-place : (r : Run) (ch : Change) (crashed : Bool) → Inv r → Working r (ch .worker) → ChangeFits (r .board) (r .machine) ch →
+    Inv (changedRun ch crashed r)
 one-place r ch crashed inv now fits =
     record {
       sizes = record { limits = inv .sizes .limits; memory = inv .sizes .memory; cache = record { size = fits .only .size ∙ inv .sizes .cache .size } };

@@ -31,7 +31,8 @@ manned s holders workers =
 -- The workers `ws` have the unfinished updates of the record's own, and no fewer of them wait once a checkpoint has taken a step; the holders `holders` are under W.
 pub record Alike (s : State) (holders : ℕ) (ws : List Worker) : Type 0 where
   pub eight : length ws ≡ length (s .worker)
-  pub work : (w : ℕ) → w < s .workers → (σ : Shape) (cache : List ℕ) (u : Unfinished) → WorkerInv σ cache (conditionOf s w) u → WorkerInv σ cache (getD ws w freeWorker .condition) u
+  pub work : (w : ℕ) → w < s .workers → (σ : Shape) (cache : List ℕ) (u : Unfinished) → WorkerInv σ cache (conditionOf s w) u →
+      WorkerInv σ cache (getD ws w freeWorker .condition) u
   pub touches : (w d : ℕ) → w < s .workers → Touches (getD ws w freeWorker .condition) d → Touches (conditionOf s w) d
   pub waits : 0 < progress s → AllQuiescent s → AllQuiescent (manned s holders ws)
   pub held : HeldUnder s → HeldUnder (manned s holders ws)
@@ -76,7 +77,8 @@ module _ {σ : Shape} (b : Board) (m : Machine) (holders : ℕ) (ws : List Worke
       }
 
 -- A running board with other holders, and other workers that have the same unfinished updates.
-pub carried-workers : (r : Run) (holders : ℕ) (ws : List Worker) (crashed : Bool) → Inv r → r .crashed ≡ false → r .board .state .phase ≡ Running → Alike (r .board .state) holders ws →
+pub carried-workers : (r : Run) (holders : ℕ) (ws : List Worker) (crashed : Bool) → Inv r → r .crashed ≡ false → r .board .state .phase ≡ Running →
+    Alike (r .board .state) holders ws →
     Preserved false r (record { board = stated (manned (r .board .state) holders ws) (r .board); machine = r .machine; crashed = crashed; erased = r .erased })
 carried-workers r holders ws crashed inv d p alike =
     let s = running-run r inv d p in
@@ -86,14 +88,16 @@ carried-workers r holders ws crashed inv d p alike =
     refl refl (λ c. refl)
 
 -- What leaves a running board and the machine as they were, but for the locks' holders.
-pub carried-holders : (r : Run) (holders : ℕ) (crashed : Bool) → Inv r → r .crashed ≡ false → notRunning (r .board) ≡ false → (HeldUnder (r .board .state) → HeldUnder (locked (r .board .state) holders)) →
+pub carried-holders : (r : Run) (holders : ℕ) (crashed : Bool) → Inv r → r .crashed ≡ false → notRunning (r .board) ≡ false →
+    (HeldUnder (r .board .state) → HeldUnder (locked (r .board .state) holders)) →
     Preserved false r (record { board = stated (locked (r .board .state) holders) (r .board); machine = r .machine; crashed = crashed; erased = r .erased })
 carried-holders r holders crashed inv d on held =
     carried-workers r holders (r .board .state .worker) crashed inv d (is-running (r .board .state .phase) (not-off (isRunning (r .board .state .phase)) on))
     (record { eight = refl; work = λ w h σ cache u i. i; touches = λ w n h t. t; waits = λ h a. a; held = held })
 
 -- What leaves a running board and the machine as they were.
-carried-same : (r : Run) (crashed : Bool) → Inv r → r .crashed ≡ false → notRunning (r .board) ≡ false → Preserved false r (record { board = r .board; machine = r .machine; crashed = crashed; erased = r .erased })
+carried-same : (r : Run) (crashed : Bool) → Inv r → r .crashed ≡ false → notRunning (r .board) ≡ false →
+    Preserved false r (record { board = r .board; machine = r .machine; crashed = crashed; erased = r .erased })
 carried-same r crashed inv d on =
     carried-holders r (r .board .state .holders) crashed inv d on (λ h. h)
 

@@ -24,7 +24,8 @@ use Rattle.board.specs.Next.{Taken}
 -- ---- a recovery at its start
 
 -- A recovery of a memory that gives the values `xs`, at its start.
-started-recovery : (σ : Shape) (xs : Location → ℕ) (b : Board) → shapeOutside σ ≡ false → Sized σ (b .memory) → Kept σ xs (b .memory) → RecoveryInv σ xs (effect RecoveryStart b)
+started-recovery : (σ : Shape) (xs : Location → ℕ) (b : Board) → shapeOutside σ ≡ false → Sized σ (b .memory) → Kept σ xs (b .memory) →
+    RecoveryInv σ xs (effect RecoveryStart b)
 unfolding effect
 started-recovery σ xs b lim z k =
     let whole : Whole σ (epochOf (b .memory)) xs (b .memory) = record { sized = z; header = k .header; epoch = refl; undoes = k .undoes } in
@@ -42,7 +43,9 @@ started-recovery σ xs b lim z k =
     }
 
 -- The run there has the invariant.
-started-inv : (b : Board) (m : Machine) (crashed : Bool) {erased : Bool} → erased ≡ false → Lengths (m .shape) (b .memory) (b .memory) → Kept (m .shape) (m .checkpointed) (b .memory) → RecoveryMachine m → Inv (record { board = effect RecoveryStart b; machine = m; crashed = crashed; erased = erased })
+started-inv : (b : Board) (m : Machine) (crashed : Bool) {erased : Bool} → erased ≡ false → Lengths (m .shape) (b .memory) (b .memory) →
+    Kept (m .shape) (m .checkpointed) (b .memory) → RecoveryMachine m →
+    Inv (record { board = effect RecoveryStart b; machine = m; crashed = crashed; erased = erased })
 unfolding effect
 started-inv b m crashed off z k beside =
     record {

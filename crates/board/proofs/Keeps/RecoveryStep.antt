@@ -56,7 +56,8 @@ after-step r m =
 -- ---- the two kinds of board that a step leaves
 
 -- Where a recovery has passed every stop, the board can run.
-running : {σ : Shape} (b : Board) (m : Machine) → RecoveryMachine m → Underway σ (b .state) → Own (b .state .workers) (b .memory) (b .cache) → Restoring σ (epochOf (b .memory)) (m .checkpointed) (stops σ) (b .memory) (b .cache) → RunningInv σ b m
+running : {σ : Shape} (b : Board) (m : Machine) → RecoveryMachine m → Underway σ (b .state) → Own (b .state .workers) (b .memory) (b .cache) →
+    Restoring σ (epochOf (b .memory)) (m .checkpointed) (stops σ) (b .memory) (b .cache) → RunningInv σ b m
 running {σ} b m v u sizes k =
     let plain : (t : Location) → Has σ t → view (b .cache) t .value ≡ m .checkpointed t = λ t h. k .cache .undoes t h .plain (k .stamps .passedCache t h (place-among σ t h)) in
     record {
@@ -77,7 +78,8 @@ module _ (r : Run) (m : RecoveryMachine (r .machine)) (off : r .erased ≡ false
   left s memory cache = record { state = s; memory = memory; cache = cache }
 
   -- What holds in every phase holds of a recovery's rows.
-  every-phase : {e place : ℕ} (s : State) (memory cache : List ℕ) → Restoring (r .machine .shape) e (r .machine .checkpointed) place memory cache → InPhase (s .phase) (stepRun r (left s memory cache)) → Inv (stepRun r (left s memory cache))
+  every-phase : {e place : ℕ} (s : State) (memory cache : List ℕ) → Restoring (r .machine .shape) e (r .machine .checkpointed) place memory cache →
+      InPhase (s .phase) (stepRun r (left s memory cache)) → Inv (stepRun r (left s memory cache))
   every-phase s memory cache k p =
       record {
         sizes = record { limits = lengths .limits; memory = k .memory .sized; cache = k .cache .sized };
@@ -91,7 +93,8 @@ module _ (r : Run) (m : RecoveryMachine (r .machine)) (off : r .erased ≡ false
   counting = record { request = m .request; formatting = m .formatting; current = m .current; marked = m .marked; unfinished = m .unfinished }
 
   -- A step after which the recovery goes on.
-  goes-on : {e : ℕ} (place : ℕ) (undo : UndoStep) (memory cache : List ℕ) → SameSizes (r .board .memory) memory → SameSizes (r .board .cache) cache → place < stops (r .machine .shape) → Restoring (r .machine .shape) e (r .machine .checkpointed) place memory cache →
+  goes-on : {e : ℕ} (place : ℕ) (undo : UndoStep) (memory cache : List ℕ) → SameSizes (r .board .memory) memory → SameSizes (r .board .cache) cache →
+      place < stops (r .machine .shape) → Restoring (r .machine .shape) e (r .machine .checkpointed) place memory cache →
       Here (r .machine .shape) undo place e (r .machine .checkpointed) memory cache → Inv (stepRun r (left (placed (r .board .state) place undo) memory cache))
   goes-on place undo memory cache sm sc h k here =
       every-phase (placed (r .board .state) place undo) memory cache k
@@ -107,15 +110,19 @@ module _ (r : Run) (m : RecoveryMachine (r .machine)) (off : r .erased ≡ false
       ))
 
   -- The step that ends the recovery.
-  ends : {e : ℕ} (memory cache : List ℕ) → SameSizes (r .board .memory) memory → SameSizes (r .board .cache) cache → Restoring (r .machine .shape) e (r .machine .checkpointed) (stops (r .machine .shape)) memory cache → Inv (stepRun r (left (opened (r .board .state) (r .board .state .dirty)) memory cache))
+  ends : {e : ℕ} (memory cache : List ℕ) → SameSizes (r .board .memory) memory → SameSizes (r .board .cache) cache →
+      Restoring (r .machine .shape) e (r .machine .checkpointed) (stops (r .machine .shape)) memory cache →
+      Inv (stepRun r (left (opened (r .board .state) (r .board .state .dirty)) memory cache))
   ends memory cache sm sc k =
       let s = opened (r .board .state) (r .board .state .dirty) in
       every-phase s memory cache k
       (running (left s memory cache) (counted (r .machine)) counting (underway-opened (omega (arith, u .within)) u) (own-same sm sc own) (restoring-own k), off)
 
   -- A step past the cell at the place.
-  goes-past : {e : ℕ} (memory cache : List ℕ) → SameSizes (r .board .memory) memory → SameSizes (r .board .cache) cache → Restoring (r .machine .shape) e (r .machine .checkpointed) (r .board .state .place) memory cache →
-      ((u : Location) → Has (r .machine .shape) u → placeOf u ≡ r .board .state .place → (logs u e (view cache u) ≡ false) × (logs u e (view memory u) ≡ false)) → Inv (stepRun r (left (pastStop (r .board .state)) memory cache))
+  goes-past : {e : ℕ} (memory cache : List ℕ) → SameSizes (r .board .memory) memory → SameSizes (r .board .cache) cache →
+      Restoring (r .machine .shape) e (r .machine .checkpointed) (r .board .state .place) memory cache →
+      ((u : Location) → Has (r .machine .shape) u → placeOf u ≡ r .board .state .place → (logs u e (view cache u) ≡ false) × (logs u e (view memory u) ≡ false)) →
+      Inv (stepRun r (left (pastStop (r .board .state)) memory cache))
   goes-past {e} memory cache sm sc k off =
       past-cases (λ (s : State). Inv (stepRun r (left s memory cache))) (r .board .state)
       (λ h. goes-on (r .board .state .place + 1) Restore memory cache sm sc (subst (λ (τ : Shape). r .board .state .place + 1 < stops τ) (u .own .shape) h) (restoring-past k off) (λ t a q. k .stamps .ahead t a (omega arith)))
@@ -138,7 +145,8 @@ module _ {σ : Shape} {e place : ℕ} {xs : Location → ℕ} {memory cache : Li
       Restoring σ e xs place memory (restored cache (stopAt σ place)) × ((u : Location) → Has σ u → placeOf u ≡ place → view (restored cache (stopAt σ place)) u .value ≡ xs u)
   restore-step w t = (restoring-only k _ (only-restored σ place cache w) (λ u h q. each u h q .0), λ u h q. each u h q .1)
     where
-      each : (u : Location) → Has σ u → placeOf u ≡ place → Undo u e (xs u) (view (restored cache (stopAt σ place)) u) × (view (restored cache (stopAt σ place)) u .value ≡ xs u)
+      each : (u : Location) → Has σ u → placeOf u ≡ place →
+          Undo u e (xs u) (view (restored cache (stopAt σ place)) u) × (view (restored cache (stopAt σ place)) u .value ≡ xs u)
       each u h q =
           subst (λ (n : ℕ). undoes cache (stopAt σ n) ≡ true → Undo u e (xs u) (view (restored cache (stopAt σ n)) u) × (view (restored cache (stopAt σ n)) u .value ≡ xs u)) q
           (λ on. restored-undo σ cache u (k .cache .sized) h (k .cache .epoch) on (k .cache .undoes u h)) t
@@ -148,7 +156,8 @@ module _ {σ : Shape} {e place : ℕ} {xs : Location → ℕ} {memory cache : Li
       Restoring σ e xs place memory (unmarked cache (stopAt σ place)) × ((u : Location) → Has σ u → placeOf u ≡ place → logs u e (view (unmarked cache (stopAt σ place)) u) ≡ false)
   unmark-step w has = (restoring-only k _ (only-unmarked σ place cache w) (λ u h q. each u h q .0), λ u h q. each u h q .1)
     where
-      each : (u : Location) → Has σ u → placeOf u ≡ place → Undo u e (xs u) (view (unmarked cache (stopAt σ place)) u) × (logs u e (view (unmarked cache (stopAt σ place)) u) ≡ false)
+      each : (u : Location) → Has σ u → placeOf u ≡ place →
+          Undo u e (xs u) (view (unmarked cache (stopAt σ place)) u) × (logs u e (view (unmarked cache (stopAt σ place)) u) ≡ false)
       each u h q =
           subst (λ (n : ℕ). Undo u e (xs u) (view (unmarked cache (stopAt σ n)) u) × (logs u e (view (unmarked cache (stopAt σ n)) u) ≡ false)) q
           (unmarked-undo σ cache u (k .cache .sized) h (whole-epoch (k .cache)) (has u h q))
@@ -165,7 +174,8 @@ module _ {σ : Shape} {e place : ℕ} {xs : Location → ℕ} {memory cache : Li
       )
 
 -- What is known of the locations at the place, by the step that is next.
-here-at : {σ : Shape} {xs : Location → ℕ} {b : Board} (undo : UndoStep) → RecoveryInv σ xs b → b .state .undo ≡ undo → Here σ undo (b .state .place) (epochOf (b .memory)) xs (b .memory) (b .cache)
+here-at : {σ : Shape} {xs : Location → ℕ} {b : Board} (undo : UndoStep) → RecoveryInv σ xs b → b .state .undo ≡ undo →
+    Here σ undo (b .state .place) (epochOf (b .memory)) xs (b .memory) (b .cache)
 here-at {σ} {xs} {b} undo i q = subst (λ (y : UndoStep). Here σ y (b .state .place) (epochOf (b .memory)) xs (b .memory) (b .cache)) q (i .here)
 
 -- A taken step of a recovery keeps the invariant.

@@ -32,7 +32,8 @@ unrequested-early off (gap g) = absurd (clash (g .request) off)
 unrequested-early off (late e) = absurd (clash (e .request) off)
 
 -- A request leaves a running board that has taken no step of its checkpoint.
-requested-part : {σ : Shape} (b : Board) (m : Machine) → markedCount m ≡ dirtyCount (b .state) → b .state .requested ≡ false → epochSpent b ≡ false → CheckpointPart σ b m → CheckpointPart σ (stated (requesting (b .state)) b) (startedRequest m)
+requested-part : {σ : Shape} (b : Board) (m : Machine) → markedCount m ≡ dirtyCount (b .state) → b .state .requested ≡ false → epochSpent b ≡ false →
+    CheckpointPart σ b m → CheckpointPart σ (stated (requesting (b .state)) b) (startedRequest m)
 unfolding acts
 requested-part b m count off room v =
     let e = unrequested-early off (v .stage) in
@@ -69,7 +70,8 @@ keeps-request r inv d t =
 -- ---- when it is taken
 
 -- With no request standing cache and memory have one epoch, and it alone decides.
-pub request-answer : (r : Run) → Inv r → r .crashed ≡ false → isRunning (r .board .state .phase) ≡ true → r .board .state .requested ≡ false → cause Request (r .board) ≡ cond (eqb (epochOf (r .board .memory)) lastEpoch) 11 0
+pub request-answer : (r : Run) → Inv r → r .crashed ≡ false → isRunning (r .board .state .phase) ≡ true → r .board .state .requested ≡ false →
+    cause Request (r .board) ≡ cond (eqb (epochOf (r .board .memory)) lastEpoch) 11 0
 unfolding cause causes firstStanding
 request-answer r inv d e off =
     let b = r .board in

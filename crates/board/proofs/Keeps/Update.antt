@@ -47,12 +47,14 @@ alone s w c h e u b o t =
 -- ---- the start
 
 -- An update's first store is decided by the log, and the machine counts the stores alike.
-first-store : (t : Bool) (e : ℕ) (v : View) (c x : ℕ) → t ≡ logs (cell c) e v → (update (cell c) x (cond t 1 3) ≡ update (cell c) x (storesLeft (cond t Record Backup))) × BeforeStore (cond t Record Backup) c e v
+first-store : (t : Bool) (e : ℕ) (v : View) (c x : ℕ) → t ≡ logs (cell c) e v →
+    (update (cell c) x (cond t 1 3) ≡ update (cell c) x (storesLeft (cond t Record Backup))) × BeforeStore (cond t Record Backup) c e v
 first-store true e v c x p = (refl, sym p)
 first-store false e v c x p = (refl, sym p)
 
 -- The worker after the start.
-started-worker : (σ : Shape) (c v : ℕ) (cache : List ℕ) (marked : Bool) → Has σ (cell c) → marked ≡ logged cache (cell c) → WorkerInv σ cache (Updating (firstStore cache c) c v) (update (cell c) v (cond marked 1 3))
+started-worker : (σ : Shape) (c v : ℕ) (cache : List ℕ) (marked : Bool) → Has σ (cell c) → marked ≡ logged cache (cell c) →
+    WorkerInv σ cache (Updating (firstStore cache c) c v) (update (cell c) v (cond marked 1 3))
 started-worker σ c v cache marked h e =
     let first = first-store (logged cache (cell c)) (epochOf cache) (view cache (cell c)) c v (view-logged cache (cell c)) in
     (ap (λ (t : Bool). update (cell c) v (cond t 1 3)) e ∙ first .0, h, first .1)
@@ -68,7 +70,8 @@ marked-logged r now u h =
     now .stage .marks u h ∙ ap (λ (e : ℕ). logs u e (view (r .board .cache) u)) (sym (now .stage .epochs)) ∙ sym (view-logged (r .board .cache) u)
 
 -- The start of an update of a cell that no other worker updates.
-start : (r : Run) (w c v : ℕ) (crashed : Bool) → Inv r → Working r w → c < cells (r .machine .shape) → othersUpdate (r .board .state) w c ≡ false → Inv (changedRun (starting w c v (r .board) (r .machine)) crashed r)
+start : (r : Run) (w c v : ℕ) (crashed : Bool) → Inv r → Working r w → c < cells (r .machine .shape) → othersUpdate (r .board .state) w c ≡ false →
+    Inv (changedRun (starting w c v (r .board) (r .machine)) crashed r)
 start r w c v crashed inv now h e =
     let b = r .board in
     let m = r .machine in

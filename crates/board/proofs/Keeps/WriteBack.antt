@@ -42,7 +42,8 @@ at-place-cache Unmark u e x memory cache p = p
 at-place-cache WriteLine u e x memory cache p = p
 
 -- A recovery's board after a write-back.
-recovery-back : {σ : Shape} {xs : Location → ℕ} (b : Board) → Lengths σ (b .memory) (b .cache) → (i : ℕ) → i ≤ σ .lines → RecoveryInv σ xs b → RecoveryInv σ xs (backed i (b .state) b)
+recovery-back : {σ : Shape} {xs : Location → ℕ} (b : Board) → Lengths σ (b .memory) (b .cache) → (i : ℕ) → i ≤ σ .lines → RecoveryInv σ xs b →
+    RecoveryInv σ xs (backed i (b .state) b)
 recovery-back {σ} {xs} b z i h v =
     let k = restoring-back (v .rows) i h in
     record {
@@ -81,7 +82,8 @@ seen-none i m off =
     (and-off (eqb i 0 && m .requested) (leb (markedCount m + 1) (m .steps)) (and-off-right (eqb i 0) (m .requested) off))
 
 -- A write-back in recovery.
-carried-recovering : (r : Run) → Inv r → InPhase Recovering r → r .board .state .phase ≡ Recovering → (i : ℕ) → i ≤ r .machine .shape .lines → Preserved false r (afterTaken (WriteBack i) r)
+carried-recovering : (r : Run) → Inv r → InPhase Recovering r → r .board .state .phase ≡ Recovering → (i : ℕ) → i ≤ r .machine .shape .lines →
+    Preserved false r (afterTaken (WriteBack i) r)
 unfolding effect feed
 carried-recovering r inv v e i h =
     let z = inv .sizes in

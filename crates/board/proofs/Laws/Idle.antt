@@ -18,7 +18,9 @@ use Rattle.board.proofs.Laws.Dirty.{empty-fine}
 use Rattle.board.proofs.Laws.Workers.{free-condition}
 
 -- On a board that is on and not running, with no line dirty and all workers free, a step is taken while its place is within bounds.
-pub idle-step-taken : (σ : Shape) (b : Board) → Lengths σ (b .memory) (b .cache) → RecordInv σ (b .state) → b .state .dirty ≡ empty → b .state .worker ≡ allFree → isOff (b .state .phase) ≡ false → isRunning (b .state .phase) ≡ false → placePast (b .state .phase) (b .state) ≡ false → Taken Step b
+pub idle-step-taken : (σ : Shape) (b : Board) → Lengths σ (b .memory) (b .cache) → RecordInv σ (b .state) → b .state .dirty ≡ empty →
+    b .state .worker ≡ allFree → isOff (b .state .phase) ≡ false → isRunning (b .state .phase) ≡ false →
+    placePast (b .state .phase) (b .state) ≡ false → Taken Step b
 unfolding Clear causes
 idle-step-taken σ b z own clean free on idle place =
     let s = b .state in

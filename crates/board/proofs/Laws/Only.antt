@@ -34,7 +34,8 @@ only-store σ row c f v h =
     }
 
 -- What holds at one place and at every other holds of each location.
-pub at-places {ℓ} : (P : Location → Type ℓ) (p : ℕ) → ((u : Location) → placeOf u ≡ p → P u) → ((u : Location) → (placeOf u ≡ p → ⊥) → P u) → (u : Location) → P u
+pub at-places {ℓ} : (P : Location → Type ℓ) (p : ℕ) → ((u : Location) → placeOf u ≡ p → P u) → ((u : Location) → (placeOf u ≡ p → ⊥) → P u) →
+    (u : Location) → P u
 at-places P p here other u =
     elim (ℕ-discrete (placeOf u) p) [
       | yes e ↦ here u e

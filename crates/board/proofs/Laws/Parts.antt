@@ -20,7 +20,8 @@ use Rattle.board.proofs.Laws.Dirty.{dirty-none}
 use Rattle.board.proofs.Checkpoint.Acts.{acts-length}
 
 -- Workers that are all free have no unfinished update.
-pub free-part : {σ : Shape} {w : ℕ} (s : State) (cache : List ℕ) {unfinished : ℕ → Unfinished} → s .worker ≡ allFree → ((n : ℕ) → unfinished n ≡ none) → WorkersPart σ w (s .worker) cache unfinished
+pub free-part : {σ : Shape} {w : ℕ} (s : State) (cache : List ℕ) {unfinished : ℕ → Unfinished} → s .worker ≡ allFree →
+    ((n : ℕ) → unfinished n ≡ none) → WorkersPart σ w (s .worker) cache unfinished
 free-part {σ} s cache {unfinished} free idle =
     record {
       each = λ n h. subst (λ (k : Condition). WorkerInv σ cache k (unfinished n)) (sym (free-condition s n free)) (idle n);
@@ -28,7 +29,8 @@ free-part {σ} s cache {unfinished} free idle =
     }
 
 -- Where no request stands, nothing is marked or logged in this epoch and memory has every value, a checkpoint is to come with no line to write.
-pub unbegun-part : {σ : Shape} (b : Board) (m : Machine) → m .requested ≡ false → b .state .requested ≡ false → b .state .dirty ≡ empty → ((u : Location) → m .marked u ≡ false) → epochOf (b .cache) ≡ epochOf (b .memory) →
+pub unbegun-part : {σ : Shape} (b : Board) (m : Machine) → m .requested ≡ false → b .state .requested ≡ false → b .state .dirty ≡ empty →
+    ((u : Location) → m .marked u ≡ false) → epochOf (b .cache) ≡ epochOf (b .memory) →
     ((u : Location) → Has σ u → logs u (epochOf (b .memory)) (view (b .cache) u) ≡ false) → SameValues σ (b .memory) (b .cache) → CheckpointPart σ b m
 unbegun-part {σ} b m quiet off clean unmarked epochs unlogged same =
     record {

@@ -68,7 +68,8 @@ takesTest (suc n) (k ∷ ks) b =
     cond (taken k b) (byKind (kind k) more same) same
 
 -- What the test says of a taken call.
-taken-test : {n : ℕ} {b′ : Board} (b : Board) (more same : Bool) (k : Call) (d : Kind) → kind k ≡ d → Taken k b → (more ≡ true → Takes n (next k b) b′) → (same ≡ true → Takes (suc n) (next k b) b′) → byKind d more same ≡ true → Takes (suc n) b b′
+taken-test : {n : ℕ} {b′ : Board} (b : Board) (more same : Bool) (k : Call) (d : Kind) → kind k ≡ d → Taken k b →
+    (more ≡ true → Takes n (next k b) b′) → (same ≡ true → Takes (suc n) (next k b) b′) → byKind d more same ≡ true → Takes (suc n) b b′
 unfolding byKind
 taken-test b more same k startsFormat e t f g h = absurd (false≢true h)
 taken-test b more same k startsRecovery e t f g h = absurd (false≢true h)
@@ -100,7 +101,8 @@ tested (suc n) (k ∷ ks) b e =
 -- ---- a finished recovery
 
 -- The recovery that is played is finished.
-pub played-recovered : (r : Run) (ks : List Call) (n : ℕ) → taken RecoveryStart (r .board) && takesTest n ks (next RecoveryStart (r .board)) ≡ true → recoverySteps (r .board .memory) ≡ n → Recovered r (afterCalls ks (next RecoveryStart (r .board)))
+pub played-recovered : (r : Run) (ks : List Call) (n : ℕ) → taken RecoveryStart (r .board) && takesTest n ks (next RecoveryStart (r .board)) ≡ true →
+    recoverySteps (r .board .memory) ≡ n → Recovered r (afterCalls ks (next RecoveryStart (r .board)))
 played-recovered r ks n test count =
     let b = r .board in
     let start = next RecoveryStart b in

@@ -91,5 +91,6 @@ read-taken r i d p c h =
     take (Read c) (r .board) (y .phase, (y .state, (y .rows, (lt-leb (cells (shapeOf (r .board .state))) c (subst (λ (τ : Shape). c < cells τ) (sym same) h), tt))))
 
 -- A running board reads the machine's current values.
-pub read-current : (r : Run) → Inv r → r .crashed ≡ false → r .board .state .phase ≡ Running → (c : ℕ) → c < cells (r .machine .shape) → valueRead c (r .board) ≡ r .machine .current (cell c)
+pub read-current : (r : Run) → Inv r → r .crashed ≡ false → r .board .state .phase ≡ Running → (c : ℕ) → c < cells (r .machine .shape) →
+    valueRead c (r .board) ≡ r .machine .current (cell c)
 read-current r i d p c h = value-taken c (r .board) (read-taken r i d p c h) ∙ in-phase r i d Running p .0 .rows .current (cell c) h

@@ -250,7 +250,8 @@ none-worker s test f =
     under-none 8 (λ i. ltb i (s .workers) && test (conditionOf s i)) (λ i h. and-if (ltb i (s .workers)) (test (conditionOf s i)) (λ t. f i (ltb-true i (s .workers) t)))
 
 -- A state record within its bounds passes.
-pub record-fine : (σ : Shape) (s : State) → RecordInv σ s → strays (s .dirty) (σ .lines) ≡ false → placePast (s .phase) s ≡ false → ((w : ℕ) → w < s .workers → updates (leb (cells σ)) (conditionOf s w) ≡ false) → badRecord s ≡ false
+pub record-fine : (σ : Shape) (s : State) → RecordInv σ s → strays (s .dirty) (σ .lines) ≡ false → placePast (s .phase) s ≡ false →
+    ((w : ℕ) → w < s .workers → updates (leb (cells σ)) (conditionOf s w) ≡ false) → badRecord s ≡ false
 unfolding badRecord
 record-fine σ s own n p u =
     let back = sym (own .shape) in

@@ -158,7 +158,8 @@ line-in row i z h = omega arith
 -- ---- a store
 
 -- A store in a word of one location leaves the view of every location at another place.
-pub view-set-other : (σ : Shape) (row : List ℕ) (u : Location) (i v : ℕ) → Has σ u → Owns u i → (t : Location) → Has σ t → (placeOf t ≡ placeOf u → ⊥) → view (set row i v) t ≡ view row t
+pub view-set-other : (σ : Shape) (row : List ℕ) (u : Location) (i v : ℕ) → Has σ u → Owns u i → (t : Location) → Has σ t →
+    (placeOf t ≡ placeOf u → ⊥) → view (set row i v) t ≡ view row t
 view-set-other σ row u i v a own t b o =
     view-same (set row i v) row t (λ j h. getD-set-other row i j v 0 (λ e. o (owns-place σ t u j b a h (subst (Owns u) (sym e) own))))
 
@@ -174,7 +175,8 @@ pub sized-line : {σ : Shape} (row : List ℕ) (i : ℕ) (words : List ℕ) → 
 sized-line row i words z h n = record { size = length-withLine row i words (line-in row i z h) n ∙ z .size }
 
 -- A stored line leaves the views of another line's locations.
-pub view-line-out : {σ : Shape} (row : List ℕ) (i : ℕ) (words : List ℕ) (u : Location) → Sized σ row → i ≤ σ .lines → length words ≡ 8 → (lineFor u ≡ i → ⊥) → view (withLine row i words) u ≡ view row u
+pub view-line-out : {σ : Shape} (row : List ℕ) (i : ℕ) (words : List ℕ) (u : Location) → Sized σ row → i ≤ σ .lines → length words ≡ 8 →
+    (lineFor u ≡ i → ⊥) → view (withLine row i words) u ≡ view row u
 view-line-out row i words u z h n o =
     view-same (withLine row i words) row u (λ j b. getD-withLine-out row i words j (line-in row i z h) n (λ e. o (sym (owns-line u j b) ∙ e)))
 
@@ -198,7 +200,8 @@ module _ {σ : Shape} (memory cache : List ℕ) (zm : Sized σ memory) (zc : Siz
   sized-back i h = sized-line memory i (lineOf cache i) zm h (length-lineOf cache i (line-in cache i zc h))
 
   -- After a write-back each location is as in the cache or as it was in memory.
-  pub view-back : (i : ℕ) → i ≤ σ .lines → (u : Location) → (view (withLine memory i (lineOf cache i)) u ≡ view cache u) ⊎ (view (withLine memory i (lineOf cache i)) u ≡ view memory u)
+  pub view-back : (i : ℕ) → i ≤ σ .lines → (u : Location) →
+      (view (withLine memory i (lineOf cache i)) u ≡ view cache u) ⊎ (view (withLine memory i (lineOf cache i)) u ≡ view memory u)
   view-back i h u =
       elim (ℕ-discrete (lineFor u) i) [
         | yes e ↦ inl (view-backed i u h e)
@@ -229,7 +232,8 @@ module _ {σ : Shape} (row : List ℕ) (c v : ℕ) (z : Sized σ row) (h : c < c
       view-eq (field-other-field row c Mark v Record (λ e. omega arith)) (field-other-field row c Mark v Backup (λ e. omega arith)) (field-same row c Mark v (cell-in row c z h))
 
 -- A store in a cell leaves the view of every location at another place.
-pub view-other : (σ : Shape) (row : List ℕ) (c : ℕ) (f : Field) (v : ℕ) → Has σ (cell c) → (t : Location) → Has σ t → (placeOf t ≡ c → ⊥) → view (withField row c f v) t ≡ view row t
+pub view-other : (σ : Shape) (row : List ℕ) (c : ℕ) (f : Field) (v : ℕ) → Has σ (cell c) → (t : Location) → Has σ t → (placeOf t ≡ c → ⊥) →
+    view (withField row c f v) t ≡ view row t
 unfolding withField
 view-other σ row c f v a t b o = view-set-other σ row (cell c) (fieldIndex c f) v a (owns-field c f) t b o
 

@@ -25,7 +25,8 @@ use Rattle.board.proofs.Locks.Held.{Holding, LockInv}
 -- ---- no other worker has an unfinished update of the cell
 
 -- An unfinished update of cell `c` that fits what its worker `u` holds is worker `w`'s, where `w` holds the data cell's lock or the cell is `w`'s restart cell.
-meets : (s : State) (w c u : ℕ) → (s .workers ≤ c → holds (s .holders) w (c % 16) ≡ true) → (c < s .workers → c ≡ w) → (k : Condition) → Holding (s .workers) (s .holders) u k → updates (eqb c) k ≡ true → u ≡ w
+meets : (s : State) (w c u : ℕ) → (s .workers ≤ c → holds (s .holders) w (c % 16) ≡ true) → (c < s .workers → c ≡ w) → (k : Condition) →
+    Holding (s .workers) (s .holders) u k → updates (eqb c) k ≡ true → u ≡ w
 meets s w c u own restart Free h e = absurd (false≢true e)
 meets s w c u own restart Waiting h e = absurd (false≢true e)
 meets s w c u own restart (Updating next d v) h e =
@@ -39,7 +40,8 @@ meets s w c u own restart (Updating next d v) h e =
 meets s w c u own restart Away h e = absurd (false≢true e)
 
 -- So no other worker has one.
-pub none-other : (s : State) (w c : ℕ) → LockInv s → (s .workers ≤ c → holds (s .holders) w (c % 16) ≡ true) → (c < s .workers → c ≡ w) → othersUpdate s w c ≡ false
+pub none-other : (s : State) (w c : ℕ) → LockInv s → (s .workers ≤ c → holds (s .holders) w (c % 16) ≡ true) → (c < s .workers → c ≡ w) →
+    othersUpdate s w c ≡ false
 none-other s w c i own restart =
     under-none 8 (λ u. ltb u (s .workers) && not (eqb u w) && updates (eqb c) (conditionOf s u))
     (λ u l.

@@ -96,14 +96,17 @@ released-holding s i = record { eight = refl; under = i .under; holding = each }
 -- ---- the locks
 
 -- A worker's condition still fits where each lock that it held it holds, and each that it did not it does not.
-refit : (workers holders holders′ w : ℕ) (k : Condition) → ((c v : ℕ) (n : Store) → k ≡ Updating n c v → workers ≤ c → holds holders w (c % 16) ≡ true → holds holders′ w (c % 16) ≡ true) → (None holders w → None holders′ w) → Holding workers holders w k → Holding workers holders′ w k
+refit : (workers holders holders′ w : ℕ) (k : Condition) →
+    ((c v : ℕ) (n : Store) → k ≡ Updating n c v → workers ≤ c → holds holders w (c % 16) ≡ true → holds holders′ w (c % 16) ≡ true) →
+    (None holders w → None holders′ w) → Holding workers holders w k → Holding workers holders′ w k
 refit workers holders holders′ w Free own none h = tt
 refit workers holders holders′ w Waiting own none h = none h
 refit workers holders holders′ w (Updating n c v) own none h = (λ l. own c v n refl l (h .0 l), λ l. (h .1 l .0, none (h .1 l .1)))
 refit workers holders holders′ w Away own none h = none h
 
 -- A free lock is taken by a free worker: it was nobody's.
-take-fits : (s : State) (w k u : ℕ) → w < 15 → unheld (s .holders) k ≡ true → (w ≡ u → ⊥) → Holding (s .workers) (s .holders) u (conditionOf s u) → Holding (s .workers) (heldBy (s .holders) k w) u (conditionOf s u)
+take-fits : (s : State) (w k u : ℕ) → w < 15 → unheld (s .holders) k ≡ true → (w ≡ u → ⊥) → Holding (s .workers) (s .holders) u (conditionOf s u) →
+    Holding (s .workers) (heldBy (s .holders) k w) u (conditionOf s u)
 take-fits s w k u h free o =
     refit (s .workers) (s .holders) (heldBy (s .holders) k w) u (conditionOf s u)
     (λ c v n e l t.
@@ -116,7 +119,8 @@ take-fits s w k u h free o =
     (λ j q l. held-other (s .holders) k w u j h (λ e. q (sym e)) ∙ none j l))
 
 -- A lock is given back by its holder, which has no unfinished update under it.
-back-fits : (s : State) (w k u : ℕ) → holds (s .holders) w k ≡ true → updatesUnder s w k ≡ false → Holding (s .workers) (s .holders) u (conditionOf s u) → Holding (s .workers) (givenBack (s .holders) k) u (conditionOf s u)
+back-fits : (s : State) (w k u : ℕ) → holds (s .holders) w k ≡ true → updatesUnder s w k ≡ false →
+    Holding (s .workers) (s .holders) u (conditionOf s u) → Holding (s .workers) (givenBack (s .holders) k) u (conditionOf s u)
 back-fits s w k u held idle =
     refit (s .workers) (s .holders) (givenBack (s .holders) k) u (conditionOf s u)
     (λ c v n e l t. back-other (s .holders) k u (c % 16) (λ q. not-here c v n e l t q) ∙ t)
@@ -139,7 +143,8 @@ within b w e h =
     omega (arith, eight-within (b .state) e, leb-false (b .state .workers) w h)
 
 -- An advance of worker `w`, which is one of the eight.
-advance-held : (n : Store) (w c v : ℕ) (b : Board) → LockInv (b .state) → w < 8 → Holding (b .state .workers) (b .state .holders) w (Updating n c v) → LockInv (advance n w c v (b .state) b .state)
+advance-held : (n : Store) (w c v : ℕ) (b : Board) → LockInv (b .state) → w < 8 → Holding (b .state .workers) (b .state .holders) w (Updating n c v) →
+    LockInv (advance n w c v (b .state) b .state)
 unfolding advance
 advance-held Backup w c v b i h f = put (b .state) w (Updating Mark c v) i h f
 advance-held Mark w c v b i h f =
@@ -150,7 +155,8 @@ advance-held Record w c v b i h f =
     (λ t. f .1 (ltb-true c (b .state .workers) (and-left (ltb c (b .state .workers)) (b .state .requested) t)) .1)
     (λ t. tt))
 
-advances-held : (k : Condition) (w : ℕ) (b : Board) → LockInv (b .state) → w < 8 → Holding (b .state .workers) (b .state .holders) w k → LockInv (advanceOf k w (b .state) b .state)
+advances-held : (k : Condition) (w : ℕ) (b : Board) → LockInv (b .state) → w < 8 → Holding (b .state .workers) (b .state .holders) w k →
+    LockInv (advanceOf k w (b .state) b .state)
 unfolding advanceOf
 advances-held Free w b i h f = i
 advances-held Waiting w b i h f = i

@@ -25,7 +25,8 @@ use Rattle.board.proofs.Recovery.Board.{recovery-cases, past-cases}
 use Rattle.board.proofs.Checkpoint.Acts.{effect-acts}
 
 -- What holds of a record, of it at another place, opened and released holds of what a step leaves of it.
-pub step-record : (P : State → Type 0) (b : Board) → P (b .state) → ((place : ℕ) (undo : UndoStep) → P (placed (b .state) place undo)) → ((dirty : List ℕ) → P (opened (b .state) dirty)) → P (released (b .state)) → P (effect Step b .state)
+pub step-record : (P : State → Type 0) (b : Board) → P (b .state) → ((place : ℕ) (undo : UndoStep) → P (placed (b .state) place undo)) →
+    ((dirty : List ℕ) → P (opened (b .state) dirty)) → P (released (b .state)) → P (effect Step b .state)
 unfolding effect step formatStep performAct performFirst
 step-record P b same moved ended freed = go (b .state .phase) refl
   where
@@ -66,7 +67,8 @@ advances-holders (Updating n c v) w b = advance-holders n w c v b
 advances-holders Away w b = refl
 
 -- What a taken call does to the holders.
-effect-holders : (k : Call) (b : Board) → isStart (kind k) ≡ false → ((w j : ℕ) → k ≡ TakeLock w j → ⊥) → ((w j : ℕ) → k ≡ GiveBackLock w j → ⊥) → effect k b .state .holders ≡ b .state .holders
+effect-holders : (k : Call) (b : Board) → isStart (kind k) ≡ false → ((w j : ℕ) → k ≡ TakeLock w j → ⊥) → ((w j : ℕ) → k ≡ GiveBackLock w j → ⊥) →
+    effect k b .state .holders ≡ b .state .holders
 unfolding effect
 effect-holders (FormatStart l w) b s t g = absurd (true≢false s)
 effect-holders RecoveryStart b s t g = absurd (true≢false s)

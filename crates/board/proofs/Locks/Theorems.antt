@@ -124,7 +124,9 @@ from-begins (sequence.formatted l w value b d b′ p t) = from-takes (starts (Fo
 from-begins (sequence.recoveryStarted value b b′ p) = starts RecoveryStart b refl p
 
 -- A call, where after a cut it is a start.
-from-call : (r : Run) (k : Call) (number value : ℕ) (b : Board) → (r .crashed ≡ false → FromStart (r .board)) → Performed k (r .board) number value b → (r .crashed ≡ true → number ≡ 0 → isStart (kind k) ≡ true) → called k number b r .crashed ≡ false → FromStart (called k number b r .board)
+from-call : (r : Run) (k : Call) (number value : ℕ) (b : Board) → (r .crashed ≡ false → FromStart (r .board)) →
+    Performed k (r .board) number value b → (r .crashed ≡ true → number ≡ 0 → isStart (kind k) ≡ true) → called k number b r .crashed ≡ false →
+    FromStart (called k number b r .board)
 from-call r k number value b before p a =
     decide (λ (t : Bool). cond t (takenCall k b r) (unfed b r) .crashed ≡ false → FromStart (cond t (takenCall k b r) (unfed b r) .board)) (eqb number 0)
     (λ t off.
@@ -142,7 +144,8 @@ from-history r (sequence.further h (sequence.cuts s cache p)) d = absurd (true�
 -- ---- when a call is taken
 
 -- No unfinished update under the lock, by the test and in plain words.
-under-off : (s : State) (j : ℕ) (k : Condition) → ((c v : ℕ) (n : Store) → k ≡ Updating n c v → s .workers ≤ c → c % 16 ≡ j → ⊥) → updates (λ c. leb (s .workers) c && eqb (lockOf c) j) k ≡ false
+under-off : (s : State) (j : ℕ) (k : Condition) → ((c v : ℕ) (n : Store) → k ≡ Updating n c v → s .workers ≤ c → c % 16 ≡ j → ⊥) →
+    updates (λ c. leb (s .workers) c && eqb (lockOf c) j) k ≡ false
 under-off s j Free f = refl
 under-off s j Waiting f = refl
 under-off s j (Updating n c v) f =

@@ -70,7 +70,8 @@ steps-sum σ row (suc n) c =
     omega (arith, steps-sum σ row n (c + 1), ap (undoSteps σ row) a, ap (undoSteps σ row) z)
 
 -- Rows in which the stops from `c` on have alike something to undo take equally many steps for them.
-steps-alike : (σ : Shape) (row row′ : List ℕ) (n c : ℕ) → ((d : ℕ) → c ≤ d → d < c + n → undoes row′ (stopAt σ d) ≡ undoes row (stopAt σ d)) → stepsFor σ row′ c n ≡ stepsFor σ row c n
+steps-alike : (σ : Shape) (row row′ : List ℕ) (n c : ℕ) → ((d : ℕ) → c ≤ d → d < c + n → undoes row′ (stopAt σ d) ≡ undoes row (stopAt σ d)) →
+    stepsFor σ row′ c n ≡ stepsFor σ row c n
 unfolding stepsFor
 steps-alike σ row row′ zero c f = refl
 steps-alike σ row row′ (suc n) c f =

@@ -46,7 +46,8 @@ pub record RecoveryDone (σ : Shape) (w : ℕ) (xs : Location → ℕ) (b : Boar
   pub reads : (c : ℕ) → c < cells σ → Taken (Read c) b × (valueRead c b ≡ xs (cell c))
 
 -- A running run with those values is done.
-done : (σ : Shape) (w : ℕ) (xs : Location → ℕ) (r : Run) → Inv r → r .crashed ≡ false → r .board .state .phase ≡ Running → r .machine .shape ≡ σ → workersOf (r .board .memory) ≡ w → ((u : Location) → r .machine .current u ≡ xs u) → RecoveryDone σ w xs (r .board)
+done : (σ : Shape) (w : ℕ) (xs : Location → ℕ) (r : Run) → Inv r → r .crashed ≡ false → r .board .state .phase ≡ Running → r .machine .shape ≡ σ →
+    workersOf (r .board .memory) ≡ w → ((u : Location) → r .machine .current u ≡ xs u) → RecoveryDone σ w xs (r .board)
 done σ w xs r i d p e n v =
     let running = in-phase r i d Running p .0 in
     record {
@@ -100,7 +101,8 @@ not-running b p e = clash (ap (λ (q : Phase). not (isRunning q)) p) e
 
 module _ (σ : Shape) (w : ℕ) (xs : Location → ℕ) where
   -- After a taken step of the recovery one step fewer is left, or it was the last and the board is done.
-  stepped-on : (n : ℕ) (r : Run) → InRecovery (suc n) σ w xs r → InRecovery n σ w xs (afterTaken Step r) ⊎ ((n ≡ 0) × RecoveryDone σ w xs (effect Step (r .board)))
+  stepped-on : (n : ℕ) (r : Run) → InRecovery (suc n) σ w xs r →
+      InRecovery n σ w xs (afterTaken Step r) ⊎ ((n ≡ 0) × RecoveryDone σ w xs (effect Step (r .board)))
   stepped-on n r u = go (remaining-step (r .board) (u .phase) (place-within r (u .inv) (u .uncut) (u .phase)))
     where
       known : RecoveryInv (r .machine .shape) (r .machine .checkpointed) (r .board) × RecoveryMachine (r .machine) × (r .erased ≡ false)
@@ -121,7 +123,8 @@ module _ (σ : Shape) (w : ℕ) (xs : Location → ℕ) where
       values : (c : Location) → afterTaken Step r .machine .current c ≡ xs c
       values c = ap (λ (m : Machine). m .current c) (step-counts (r .machine) (known .1 .request) (known .1 .formatting)) ∙ u .values c
 
-      go : ((effect Step (r .board) .state .phase ≡ Recovering) × (remaining (effect Step (r .board)) + 1 ≡ remaining (r .board))) ⊎ ((effect Step (r .board) .state .phase ≡ Running) × (remaining (r .board) ≡ 1)) → InRecovery n σ w xs (afterTaken Step r) ⊎ ((n ≡ 0) × RecoveryDone σ w xs (effect Step (r .board)))
+      go : ((effect Step (r .board) .state .phase ≡ Recovering) × (remaining (effect Step (r .board)) + 1 ≡ remaining (r .board))) ⊎ ((effect Step (r .board) .state .phase ≡ Running) × (remaining (r .board) ≡ 1)) →
+          InRecovery n σ w xs (afterTaken Step r) ⊎ ((n ≡ 0) × RecoveryDone σ w xs (effect Step (r .board)))
       go (inl x) =
           inl (record { inv = carried .keeps; uncut = uncut; phase = x .0; left = omega (arith, x .1, u .left); shape = size .shape ∙ u .shape; workers = workers; values = values })
       go (inr x) =
@@ -143,7 +146,8 @@ module _ (σ : Shape) (w : ℕ) (xs : Location → ℕ) where
       }
 
   -- A call other than a start or step that is taken in a recovery is a write-back.
-  goes-on : (n : ℕ) (k : Call) (r : Run) → InRecovery n σ w xs r → Taken k (r .board) → isStart (kind k) || isStep (kind k) ≡ false → InRecovery n σ w xs (afterTaken k r)
+  goes-on : (n : ℕ) (k : Call) (r : Run) → InRecovery n σ w xs r → Taken k (r .board) → isStart (kind k) || isStep (kind k) ≡ false →
+      InRecovery n σ w xs (afterTaken k r)
   goes-on n k r u t e = by-kind (kind k) refl e (phase-passed k (r .board) t)
     where
       by-kind : (d : Kind) → kind k ≡ d → isStart d || isStep d ≡ false → phaseBars d (r .board) ≡ false → InRecovery n σ w xs (afterTaken k r)
@@ -180,7 +184,8 @@ unfolding effect
 phase-start b = refl
 
 -- A recovery's start leaves it underway, with all the steps that memory calls for.
-started : (r : Run) → Inv r → Taken RecoveryStart (r .board) → InRecovery (recoverySteps (r .board .memory)) (r .machine .shape) (workersOf (r .board .memory)) (r .machine .checkpointed) (afterTaken RecoveryStart r)
+started : (r : Run) → Inv r → Taken RecoveryStart (r .board) →
+    InRecovery (recoverySteps (r .board .memory)) (r .machine .shape) (workersOf (r .board .memory)) (r .machine .checkpointed) (afterTaken RecoveryStart r)
 unfolding feed effect
 started r i t =
     record {

@@ -26,7 +26,8 @@ whole-kept {σ} {e} {xs} {row} w =
     record { header = w .header; undoes = subst (λ (k : ℕ). Undoes σ k xs row) (sym (w .epoch)) (w .undoes) }
 
 -- A change at one place keeps the row whole where the locations there still undo to their values.
-pub whole-only : {σ : Shape} {e p : ℕ} {xs : Location → ℕ} (row row′ : List ℕ) → OnlyAt σ p row row′ → ((u : Location) → Has σ u → placeOf u ≡ p → Undo u e (xs u) (view row′ u)) → Whole σ e xs row → Whole σ e xs row′
+pub whole-only : {σ : Shape} {e p : ℕ} {xs : Location → ℕ} (row row′ : List ℕ) → OnlyAt σ p row row′ →
+    ((u : Location) → Has σ u → placeOf u ≡ p → Undo u e (xs u) (view row′ u)) → Whole σ e xs row → Whole σ e xs row′
 whole-only {σ} {e} {p} {xs} row row′ only here w =
     record {
       sized = record { size = only .size ∙ w .sized .size };
@@ -37,7 +38,8 @@ whole-only {σ} {e} {p} {xs} row row′ only here w =
     }
 
 -- A write-back between two whole rows leaves them whole.
-pub whole-back : {σ : Shape} {e : ℕ} {xs : Location → ℕ} (memory cache : List ℕ) (i : ℕ) → i ≤ σ .lines → Whole σ e xs memory → Whole σ e xs cache → Whole σ e xs (withLine memory i (lineOf cache i))
+pub whole-back : {σ : Shape} {e : ℕ} {xs : Location → ℕ} (memory cache : List ℕ) (i : ℕ) → i ≤ σ .lines → Whole σ e xs memory → Whole σ e xs cache →
+    Whole σ e xs (withLine memory i (lineOf cache i))
 whole-back {σ} {e} {xs} memory cache i h m k =
     record {
       sized = sized-back memory cache (m .sized) (k .sized) i h;
@@ -52,7 +54,8 @@ whole-back {σ} {e} {xs} memory cache i h m k =
 -- ---- both rows
 
 -- A change in the cache at the place.
-pub logs-only : {σ : Shape} {e place : ℕ} (memory cache cache′ : List ℕ) → OnlyAt σ place cache cache′ → Logs σ e place memory cache → Logs σ e place memory cache′
+pub logs-only : {σ : Shape} {e place : ℕ} (memory cache cache′ : List ℕ) → OnlyAt σ place cache cache′ → Logs σ e place memory cache →
+    Logs σ e place memory cache′
 logs-only {σ} {e} {place} memory cache cache′ only k =
     record {
       passedCache = λ u b h. ap (logs u e) (only .others u b (λ q. omega arith)) ∙ k .passedCache u b h;
@@ -61,7 +64,8 @@ logs-only {σ} {e} {place} memory cache cache′ only k =
     }
 
 -- A write-back of any line.
-pub logs-back : {σ : Shape} {e place : ℕ} (memory cache : List ℕ) (i : ℕ) → i ≤ σ .lines → Sized σ memory → Sized σ cache → Logs σ e place memory cache → Logs σ e place (withLine memory i (lineOf cache i)) cache
+pub logs-back : {σ : Shape} {e place : ℕ} (memory cache : List ℕ) (i : ℕ) → i ≤ σ .lines → Sized σ memory → Sized σ cache →
+    Logs σ e place memory cache → Logs σ e place (withLine memory i (lineOf cache i)) cache
 logs-back {σ} {e} {place} memory cache i h zm zc k =
     record {
       passedCache = k .passedCache;
@@ -73,7 +77,9 @@ logs-back {σ} {e} {place} memory cache i h zm zc k =
     both u P p q = ⊎-elim (λ a. subst P (sym a) p) (λ a. subst P (sym a) q) (view-back memory cache zm zc i h u)
 
 -- The place is passed.
-pub logs-past : {σ : Shape} {e place : ℕ} {memory cache : List ℕ} → ((u : Location) → Has σ u → placeOf u ≡ place → (logs u e (view cache u) ≡ false) × (logs u e (view memory u) ≡ false)) → Logs σ e place memory cache → Logs σ e (place + 1) memory cache
+pub logs-past : {σ : Shape} {e place : ℕ} {memory cache : List ℕ} →
+    ((u : Location) → Has σ u → placeOf u ≡ place → (logs u e (view cache u) ≡ false) × (logs u e (view memory u) ≡ false)) →
+    Logs σ e place memory cache → Logs σ e (place + 1) memory cache
 logs-past {σ} {e} {place} {memory} {cache} off k =
     record {
       passedCache = one cache (k .passedCache) (λ u b q. off u b q .0);
@@ -81,7 +87,9 @@ logs-past {σ} {e} {place} {memory} {cache} off k =
       ahead = λ u b h q. k .ahead u b (omega arith) q;
     }
   where
-    one : (row : List ℕ) → ((u : Location) → Has σ u → placeOf u < place → logs u e (view row u) ≡ false) → ((u : Location) → Has σ u → placeOf u ≡ place → logs u e (view row u) ≡ false) → (u : Location) → Has σ u → placeOf u < place + 1 → logs u e (view row u) ≡ false
+    one : (row : List ℕ) → ((u : Location) → Has σ u → placeOf u < place → logs u e (view row u) ≡ false) →
+        ((u : Location) → Has σ u → placeOf u ≡ place → logs u e (view row u) ≡ false) → (u : Location) → Has σ u → placeOf u < place + 1 →
+        logs u e (view row u) ≡ false
     one row f o u b h =
         elim (ℕ-discrete (placeOf u) place) [
           | yes s ↦ o u b s
@@ -94,7 +102,8 @@ module _ {σ : Shape} {e place : ℕ} {xs : Location → ℕ} {memory cache : Li
   restoring-own = subst (λ (n : ℕ). Restoring σ n xs place memory cache) (sym (k .memory .epoch)) k
 
   -- A change in the cache at the place keeps the rows where the locations there still undo to their values.
-  pub restoring-only : (cache′ : List ℕ) → OnlyAt σ place cache cache′ → ((u : Location) → Has σ u → placeOf u ≡ place → Undo u e (xs u) (view cache′ u)) → Restoring σ e xs place memory cache′
+  pub restoring-only : (cache′ : List ℕ) → OnlyAt σ place cache cache′ →
+      ((u : Location) → Has σ u → placeOf u ≡ place → Undo u e (xs u) (view cache′ u)) → Restoring σ e xs place memory cache′
   restoring-only cache′ only here =
       record { memory = k .memory; cache = whole-only cache cache′ only here (k .cache); stamps = logs-only memory cache cache′ only (k .stamps); spare = λ i j a b p q. only .spare i j p q ∙ k .spare i j a b p q }
 
@@ -104,5 +113,6 @@ module _ {σ : Shape} {e place : ℕ} {xs : Location → ℕ} {memory cache : Li
       record { memory = whole-back memory cache i h (k .memory) (k .cache); cache = k .cache; stamps = logs-back memory cache i h (k .memory .sized) (k .cache .sized) (k .stamps); spare = spare-backed memory cache (k .memory .sized) (k .cache .sized) i h (k .spare) }
 
   -- A place whose locations are logged in neither row is passed.
-  pub restoring-past : ((u : Location) → Has σ u → placeOf u ≡ place → (logs u e (view cache u) ≡ false) × (logs u e (view memory u) ≡ false)) → Restoring σ e xs (place + 1) memory cache
+  pub restoring-past : ((u : Location) → Has σ u → placeOf u ≡ place → (logs u e (view cache u) ≡ false) × (logs u e (view memory u) ≡ false)) →
+      Restoring σ e xs (place + 1) memory cache
   restoring-past off = record { memory = k .memory; cache = k .cache; stamps = logs-past off (k .stamps); spare = k .spare }

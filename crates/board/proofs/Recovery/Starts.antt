@@ -45,7 +45,8 @@ header-passes σ row z h =
     (h .rest)
 
 -- A recovery's start is taken on rows of the right lengths with such a header and such marks.
-pub recoverable-taken : (σ : Shape) (b : Board) → Lengths σ (b .memory) (b .cache) → Header σ (b .memory) → ((c : ℕ) → c < cells σ → fieldOf (b .memory) c Mark ≤ epochOf (b .memory)) → Taken RecoveryStart b
+pub recoverable-taken : (σ : Shape) (b : Board) → Lengths σ (b .memory) (b .cache) → Header σ (b .memory) →
+    ((c : ℕ) → c < cells σ → fieldOf (b .memory) c Mark ≤ epochOf (b .memory)) → Taken RecoveryStart b
 unfolding cause causes firstStanding
 recoverable-taken σ b z h bounded =
     rw (rows-pass σ b z, header-passes σ (b .memory) (z .memory) h) (passedOver _ 14 0 (bounds-later _ (b .memory) (λ c p. omega (arith, bounded c (subst (λ (τ : Shape). c < cells τ) (h .shape) p)))))

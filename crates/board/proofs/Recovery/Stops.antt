@@ -30,18 +30,21 @@ pub stop-holds : (σ : Shape) (u : Location) → Has σ u → lineFor u ≡ stop
 stop-holds σ (cell c) h = refl
 
 -- Whether another stop has something to undo stays.
-pub undoes-other : (σ : Shape) {p : ℕ} (row row′ : List ℕ) → OnlyAt σ p row row′ → (n : ℕ) → n < stops σ → (n ≡ p → ⊥) → undoes row′ (stopAt σ n) ≡ undoes row (stopAt σ n)
+pub undoes-other : (σ : Shape) {p : ℕ} (row row′ : List ℕ) → OnlyAt σ p row row′ → (n : ℕ) → n < stops σ → (n ≡ p → ⊥) →
+    undoes row′ (stopAt σ n) ≡ undoes row (stopAt σ n)
 undoes-other σ row row′ only n h o =
     view-logged row′ (cell n) ∙ (λ i. logs (cell n) (only .header 0 (omega arith) i) (only .others (cell n) h o i)) ∙ sym (view-logged row (cell n))
 
 -- ---- what becomes of a location at the stop
 
 -- The stop has something to undo where the location is logged.
-pub undoes-logs : (σ : Shape) (row : List ℕ) {e : ℕ} (u : Location) → epochOf row ≡ e → undoes row (stopAt σ (placeOf u)) ≡ false → logs u e (view row u) ≡ false
+pub undoes-logs : (σ : Shape) (row : List ℕ) {e : ℕ} (u : Location) → epochOf row ≡ e → undoes row (stopAt σ (placeOf u)) ≡ false →
+    logs u e (view row u) ≡ false
 undoes-logs σ row (cell c) q t = ap (λ (n : ℕ). logs (cell c) n (view row (cell c))) (sym q) ∙ sym (view-logged row (cell c)) ∙ t
 
 -- Restored, the location still undoes to its value, and has it.
-pub restored-undo : (σ : Shape) (row : List ℕ) {e x : ℕ} (u : Location) → Sized σ row → Has σ u → epochOf row ≡ e → undoes row (stopAt σ (placeOf u)) ≡ true → Undo u e x (view row u) →
+pub restored-undo : (σ : Shape) (row : List ℕ) {e x : ℕ} (u : Location) → Sized σ row → Has σ u → epochOf row ≡ e →
+    undoes row (stopAt σ (placeOf u)) ≡ true → Undo u e x (view row u) →
     Undo u e x (view (restored row (stopAt σ (placeOf u))) u) × (view (restored row (stopAt σ (placeOf u))) u .value ≡ x)
 restored-undo σ row {e} {x} (cell c) z h q t k =
     let v = fieldOf row c Field.Backup in

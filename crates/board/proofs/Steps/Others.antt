@@ -28,14 +28,16 @@ use Rattle.board.proofs.Checkpoint.Acts.{Remains, lineNext, epochNext, 
 -- ---- a checkpoint's step
 
 -- Before the release a step keeps the workers.
-step-keeps : (b : Board) → b .state .phase ≡ Running → Taken Step b → (b .state .place ≡ dirtyCount (b .state) + 2 → ⊥) → (i : ℕ) → conditionOf (effect Step b .state) i ≡ conditionOf (b .state) i
+step-keeps : (b : Board) → b .state .phase ≡ Running → Taken Step b → (b .state .place ≡ dirtyCount (b .state) + 2 → ⊥) → (i : ℕ) →
+    conditionOf (effect Step b .state) i ≡ conditionOf (b .state) i
 unfolding performAct performFirst
 step-keeps b e t o i = go (now .left) refl
   where
     now : Stepping b
     now = step-ready b e t
 
-    kept : {xs : List Act} → acts b ≡ xs → conditionOf (performFirst xs (b .state) b .state) i ≡ conditionOf (b .state) i → conditionOf (effect Step b .state) i ≡ conditionOf (b .state) i
+    kept : {xs : List Act} → acts b ≡ xs → conditionOf (performFirst xs (b .state) b .state) i ≡ conditionOf (b .state) i →
+        conditionOf (effect Step b .state) i ≡ conditionOf (b .state) i
     kept p same = ap (λ (d : Board). conditionOf (d .state) i) (effect-acts b e p) ∙ same
 
     go : {xs : List Act} → Remains b xs → acts b ≡ xs → conditionOf (effect Step b .state) i ≡ conditionOf (b .state) i
@@ -68,7 +70,9 @@ unnamed : (i w : ℕ) → eqb i w ≡ false → w ≡ i → ⊥
 unnamed i w e p = eqb-false i w e (sym p)
 
 -- What a taken call does to a worker that it does not name.
-effect-keeps : (k : Call) (b : Board) → b .state .phase ≡ Running → Taken k b → isStart (kind k) ≡ false → (k ≡ Step → b .state .place ≡ dirtyCount (b .state) + 2 → ⊥) → (i : ℕ) → names k i ≡ false → conditionOf (effect k b .state) i ≡ conditionOf (b .state) i
+effect-keeps : (k : Call) (b : Board) → b .state .phase ≡ Running → Taken k b → isStart (kind k) ≡ false →
+    (k ≡ Step → b .state .place ≡ dirtyCount (b .state) + 2 → ⊥) → (i : ℕ) → names k i ≡ false →
+    conditionOf (effect k b .state) i ≡ conditionOf (b .state) i
 unfolding effect
 effect-keeps (FormatStart l w) b e t s o i n = absurd (true≢false s)
 effect-keeps RecoveryStart b e t s o i n = absurd (true≢false s)

@@ -50,7 +50,9 @@ past-place s =
     (λ h p. absurd (false≢true (ap isRecovering p)))
 
 -- A store in the record or the mark of the cell at the place.
-stores-cell : (b : Board) (f : Field) (v : ℕ) → ((i : ℕ) → (i ≡ fieldIndex (b .state .place) Field.Record → ⊥) → (i ≡ fieldIndex (b .state .place) Field.Mark → ⊥) → fieldIndex (b .state .place) f ≡ i → ⊥) → (s : State) → s .place ≡ b .state .place → OnlyCell (b .state .place) b (cached (withField (b .cache) (b .state .place) f v) s b)
+stores-cell : (b : Board) (f : Field) (v : ℕ) →
+    ((i : ℕ) → (i ≡ fieldIndex (b .state .place) Field.Record → ⊥) → (i ≡ fieldIndex (b .state .place) Field.Mark → ⊥) → fieldIndex (b .state .place) f ≡ i → ⊥) →
+    (s : State) → s .place ≡ b .state .place → OnlyCell (b .state .place) b (cached (withField (b .cache) (b .state .place) f v) s b)
 stores-cell b f v other s e =
     record {
       cache = λ i r m. getD-withField-other (b .cache) (b .state .place) f v i (other i r m);
@@ -66,7 +68,8 @@ stores-none b =
     record { cache = λ i r m. refl; cacheSize = refl; memory = λ i o. refl; memorySize = refl; place = past-place (b .state) }
 
 -- The line of the cell at the place written back.
-stores-line : (b : Board) → Lengths (shapeOf (b .state)) (b .memory) (b .cache) → b .state .place < cells (shapeOf (b .state)) → OnlyCell (b .state .place) b (backed (cellLine (b .state .place)) (pastStop (b .state)) b)
+stores-line : (b : Board) → Lengths (shapeOf (b .state)) (b .memory) (b .cache) → b .state .place < cells (shapeOf (b .state)) →
+    OnlyCell (b .state .place) b (backed (cellLine (b .state .place)) (pastStop (b .state)) b)
 stores-line b z h =
     let l = cellLine (b .state .place) in
     let inside = cell-in (b .memory) (b .state .place) (z .memory) h in

@@ -28,7 +28,8 @@ use Rattle.board.proofs.Checkpoint.Acts.{Remains, lineNext, epochNext, 
 -- ---- release
 
 -- The step at place n+2 releases.
-step-releases : (b : Board) → b .state .phase ≡ Running → Taken Step b → b .state .place ≡ dirtyCount (b .state) + 2 → next Step b ≡ stated (released (b .state)) b
+step-releases : (b : Board) → b .state .phase ≡ Running → Taken Step b → b .state .place ≡ dirtyCount (b .state) + 2 →
+    next Step b ≡ stated (released (b .state)) b
 unfolding performAct performFirst
 step-releases b e t p = taken-next Step b t ∙ go (now .left) refl
   where
@@ -66,7 +67,8 @@ releases b e t p =
 -- ---- the last store
 
 -- After the last store the worker's condition is as 01 says.
-last-condition : (w c v : ℕ) (b : Board) → conditionOf (b .state) w ≡ Updating Store.Record c v → Taken (Advance w) b → conditionOf (next (Advance w) b .state) w ≡ afterLast (b .state) c
+last-condition : (w c v : ℕ) (b : Board) → conditionOf (b .state) w ≡ Updating Store.Record c v → Taken (Advance w) b →
+    conditionOf (next (Advance w) b .state) w ≡ afterLast (b .state) c
 unfolding effect advanceOf advance
 last-condition w c v b e t =
     ap (λ (x : Board). conditionOf (x .state) w) (taken-next (Advance w) b t ∙ ap (λ (k : Condition). advanceOf k w (b .state) b) e)
@@ -98,7 +100,8 @@ last-store w c v b e t =
 -- ---- going away and coming back
 
 -- A worker put in another condition, and nothing else.
-only-worker : (w : ℕ) (condition : Condition) (b : Board) → w < length (b .state .worker) → OnlyWorker w condition b (stated (conditioned (b .state) w condition) b)
+only-worker : (w : ℕ) (condition : Condition) (b : Board) → w < length (b .state .worker) →
+    OnlyWorker w condition b (stated (conditioned (b .state) w condition) b)
 only-worker w condition b h =
     record {
       worker = condition-at (b .state) w condition h;

@@ -33,7 +33,8 @@ passed b text e =
     }
 
 -- A page that is taken and written.
-page-taken : (b : Board) (text left : List ℕ) (number : ℕ) → number ≡ pageCause b text → number ≡ 0 → left ≡ put text 0 (pageText (b .cache) (cells (shapeOf (b .state)))) → PagePerformed b text number b left
+page-taken : (b : Board) (text left : List ℕ) (number : ℕ) → number ≡ pageCause b text → number ≡ 0 →
+    left ≡ put text 0 (pageText (b .cache) (cells (shapeOf (b .state)))) → PagePerformed b text number b left
 unfolding pageLeft
 page-taken b text left number e z w =
     let same : left ≡ pageLeft b text = w ∙ sym (chosen (eqb (pageCause b text) 0) (put text 0 (pageText (b .cache) (cells (shapeOf (b .state))))) text (eq-eqb (pageCause b text) 0 (sym e ∙ z))) in

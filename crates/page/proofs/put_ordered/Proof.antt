@@ -20,7 +20,8 @@ all-held cache n h i g =
     h (getD (cellOrder cache n) i 0) (cell-below cache n i (omega (arith, order-length cache n)))
 
 -- The heading and the lines behind it are the page.
-page-written : (text cache : List ℕ) (n : ℕ) → 68 ≤ length text → put (put text 0 headingText) 68 (flatten (map (cellText cache) (cellOrder cache n))) ≡ put text 0 (pageText cache n)
+page-written : (text cache : List ℕ) (n : ℕ) → 68 ≤ length text →
+    put (put text 0 headingText) 68 (flatten (map (cellText cache) (cellOrder cache n))) ≡ put text 0 (pageText cache n)
 unfolding lineText pageText
 page-written text cache n h = put-put text 0 headingText (flatten (map (cellText cache) (cellOrder cache n))) h
 

@@ -40,7 +40,8 @@ end-line-requires c κs =
     let l = c .before .before .before .before .before .before .before .before .before .loop in (l .inv .3, search needs, omega (arith, leb-true (l .end) 65456 (c .before .before .before .before .before .before .before .if1 .taken)))
 
 -- A line feed stands inside the piece.
-inside : (c : tie.After-reached Inv-loop μ-loop) → c .before .before .before .before .before .before .before .before .before .before .feed-at .result < length (c .before .before .before .before .before .before .before .before .before .before .before .before .before .before .before .before .args .piece .now)
+inside : (c : tie.After-reached Inv-loop μ-loop) →
+    c .before .before .before .before .before .before .before .before .before .before .feed-at .result < length (c .before .before .before .before .before .before .before .before .before .before .before .before .before .before .before .before .args .piece .now)
 inside c = omega (arith, c .before .before .before .before .before .before .before .before .before .before .feed-at .ensures .2, c .before .before .before .before .before .before .before .before .if2 .left)
 
 add-at : tie.Need-add-at Inv-loop μ-loop

@@ -9,7 +9,8 @@ use Rattle.line.proofs.cell.cell_field_or_zero.Statement.{statement}
 use Rattle.line.proofs.cell.cell_field_or_zero.Tie as tie
 
 -- Where the field stands.
-index : (c : tie.After-word) → 8 * c .before .cell-line .result + c .word .result ≡ fieldIndex (c .before .before .before .args .cell) (c .before .before .before .args .field)
+index : (c : tie.After-word) →
+    8 * c .before .cell-line .result + c .word .result ≡ fieldIndex (c .before .before .before .args .cell) (c .before .before .before .args .field)
 unfolding fieldIndex
 index c = omega (arith, c .before .cell-line .ensures, c .word .ensures .0)
 

@@ -31,7 +31,8 @@ module _ (s unit : ℕ) (p : (s % 16 ≡ 0) × (unit % 16 ≡ 0) × (s < 10 * un
       record { count = 0; left = s / 16; holds = omega (arith, p .0); whole = omega arith; under = omega (arith, p .0, p .1, p .2); room = omega arith }
 
   -- So many times, or else four: with four more it must reach every digit.
-  many-or-four : {q r : ℕ} (j : ℕ) → q ≡ cond (ltb s (4 * (unit - 1))) s (s - 4 * (unit - 1)) → r ≡ cond (ltb s (j * (unit - 1))) q (s - j * (unit - 1)) → 10 ≤ j + 4 → j ≤ 8 → At 4 r
+  many-or-four : {q r : ℕ} (j : ℕ) → q ≡ cond (ltb s (4 * (unit - 1))) s (s - 4 * (unit - 1)) →
+      r ≡ cond (ltb s (j * (unit - 1))) q (s - j * (unit - 1)) → 10 ≤ j + 4 → j ≤ 8 → At 4 r
   many-or-four {q} {r} j eq er enough few =
       let many = j * (unit - 1) in
       let most : many ≤ 8 * (unit - 1) = mul-le-mul-right (unit - 1) few in
