@@ -1,4 +1,4 @@
--- A set of numbers below 512, a bit each, in eight words, "64 a word, the lowest bit first" (document 02, ticket 5).
+-- A set of numbers below 512, a bit each, in eight words, "64 lines a word, the lowest bit first" (document 02, ticket 5).
 use Prim.Native.Nat.{ℕ, zero, suc, _+_, _-_, _*_, _/_, _%_, _^_}
 use mathlib.Core.Bool.{Bool, cond, _||_}
 use mathlib.Core.List.{List}
@@ -42,7 +42,7 @@ size words =
     bitsIn 64 (getD words 0 0) + bitsIn 64 (getD words 1 0) + bitsIn 64 (getD words 2 0) + bitsIn 64 (getD words 3 0)
     + bitsIn 64 (getD words 4 0) + bitsIn 64 (getD words 5 0) + bitsIn 64 (getD words 6 0) + bitsIn 64 (getD words 7 0)
 
--- Its p-th number, from 0, rising, "by search from 0 up".
+-- Its p-th number, from 0, rising: by search from 0 up.
 unfoldable pub nth : List ℕ → ℕ → ℕ
 nth words p = nthUnder capacity (contains words) p
 

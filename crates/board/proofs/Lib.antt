@@ -11,9 +11,11 @@ pub mod Keeps
 pub mod Stores
 pub mod Spare
 pub mod Updates
+pub mod Answers
 pub mod Steps
 pub mod Foretold
 pub mod Locks
+pub mod Changes
 pub mod Theorems
 pub mod PlayedReads
 pub mod Example

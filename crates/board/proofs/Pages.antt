@@ -10,8 +10,8 @@ use Rattle.board.specs.Causes.{badRecord, firstStanding}
 use Rattle.board.specs.Page.{lineText, before, inserted, ordered, pageText, pageCauses, pageCause, pageLeft}
 use Rattle.predicate.specs.Passing.{numbersUnder}
 use Rattle.board.specs.Bench.{same}
-use Rattle.board.specs.Pages.{pageTable, pageGives, allPages, PagesHold}
+use Rattle.board.specs.Pages.{pageTable, pageGives, allPages, noneWritten, PagesHold}
 
 pub pages-hold : PagesHold
-unfolding flatten same spelled lineText before inserted ordered numbersUnder pageText pageCauses pageCause pageLeft firstStanding badRecord anyUnder fieldIndex fieldOf pageTable pageGives allPages countUnder nthFrom nthUnder bitsIn bitOf withBit contains added size nth strays digitOf unheld held holdsAny heldFrom withDigit
-pages-hold = record { worked = refl; past = refl; refused = refl; table = refl }
+unfolding flatten same spelled lineText before inserted ordered numbersUnder pageText pageCauses pageCause pageLeft firstStanding badRecord anyUnder fieldIndex fieldOf pageTable pageGives allPages noneWritten countUnder nthFrom nthUnder bitsIn bitOf withBit contains added size nth strays digitOf unheld held holdsAny heldFrom withDigit
+pages-hold = record { worked = refl; past = refl; refused = refl; unwritten = refl; high = refl; table = refl }

@@ -15,7 +15,6 @@ use Rattle.board.specs.declared.UndoStep.the-variants.{Restore, Unmark, 
 use Rattle.board.specs.declared.Phase.{Phase}
 use Rattle.board.specs.declared.Phase.the-variants.{Off, Formatting, Recovering, Running}
 use Rattle.board.specs.declared.Call.{Call}
-use Rattle.board.specs.declared.Call.the-variants.{FormatStart, RecoveryStart, Step, Update, RestartPoint, Advance, Request, WriteBack, Read, GoAway, ComeBack, Count, TakeLock, GiveBackLock}
 use Rattle.board.specs.Board.{Board, epochOf}
 use Rattle.board.specs.State.{placed, conditionOf, isFormatting}
 use Rattle.board.specs.Next.{kind}
@@ -24,7 +23,7 @@ use Rattle.board.specs.Effects.{cached, stated, stopOf, pastStop, recove
 use Rattle.board.specs.Checkpoint.{Act, writeLine, storeEpoch, writeHeader, release, acts}
 use Rattle.board.specs.Statements.{OneStore, noStore, oneWord, oneLine, several, SingleStores}
 use Rattle.predicate.proofs.Bools.{on}
-use Rattle.board.proofs.Laws.Taken.{taken-next}
+use Rattle.board.proofs.Laws.Taken.{taken-next, ByEffect, quiet, theFormat, theRecovery, theStep, theUpdate, theRestart, theAdvance, theRequest, theWriteBack, theGoing, theComing, theTaking, theGiving, by-effect}
 
 -- A field's store is one word of the cache.
 field-stored : (c : ℕ) (f : Field) (v : ℕ) (b b′ : Board) → b′ .memory ≡ b .memory → b′ .cache ≡ withField (b .cache) c f v → OneStore b b′
@@ -79,23 +78,22 @@ worker-stores Away w s b = noStore refl refl
 worker-stores (Updating n c v) w s b = advance-stores n w c v s b
 
 -- What any call but a format's step and a recovery's start does where it is taken.
-effect-stores : (k : Call) (b : Board) → several (kind k) (b .state .phase) ≡ false → OneStore b (effect k b)
+effect-stores : {k : Call} → ByEffect k → (b : Board) → several (kind k) (b .state .phase) ≡ false → OneStore b (effect k b)
 unfolding effect
-effect-stores (FormatStart l w) b e = noStore refl refl
-effect-stores RecoveryStart b e = absurd (true≢false e)
-effect-stores Step b e = step-stores (b .state .phase) (b .state) b e
-effect-stores (Update w c v) b e = noStore refl refl
-effect-stores (RestartPoint w v) b e = noStore refl refl
-effect-stores (Advance w) b e = worker-stores (conditionOf (b .state) w) w (b .state) b
-effect-stores Request b e = noStore refl refl
-effect-stores (WriteBack l) b e = oneLine l refl refl
-effect-stores (Read c) b e = noStore refl refl
-effect-stores (GoAway w) b e = noStore refl refl
-effect-stores (ComeBack w) b e = noStore refl refl
-effect-stores Count b e = noStore refl refl
-effect-stores (TakeLock w k) b e = noStore refl refl
-effect-stores (GiveBackLock w k) b e = noStore refl refl
+effect-stores (quiet q) b e = subst (λ (d : Board). OneStore b d) (sym (q .leaves b)) (noStore refl refl)
+effect-stores (theFormat l w) b e = noStore refl refl
+effect-stores theRecovery b e = absurd (true≢false e)
+effect-stores theStep b e = step-stores (b .state .phase) (b .state) b e
+effect-stores (theUpdate w c v) b e = noStore refl refl
+effect-stores (theRestart w v) b e = noStore refl refl
+effect-stores (theAdvance w) b e = worker-stores (conditionOf (b .state) w) w (b .state) b
+effect-stores theRequest b e = noStore refl refl
+effect-stores (theWriteBack l) b e = oneLine l refl refl
+effect-stores (theGoing w) b e = noStore refl refl
+effect-stores (theComing w) b e = noStore refl refl
+effect-stores (theTaking w k) b e = noStore refl refl
+effect-stores (theGiving w k) b e = noStore refl refl
 
 -- A taken call stores one word of the cache, writes one line back, or does neither.
 pub single-stores : SingleStores
-single-stores k b t e = subst (λ (d : Board). OneStore b d) (sym (taken-next k b t)) (effect-stores k b e)
+single-stores k b t e = subst (λ (d : Board). OneStore b d) (sym (taken-next k b t)) (effect-stores (by-effect k) b e)

@@ -12,10 +12,10 @@ use Rattle.board.specs.Board.{Board, Shape, shaped, shapeOf, cells, epoc
 use Rattle.board.specs.State.{isRunning, isFormatting, dirtyCount}
 use Rattle.board.specs.Causes.{causes}
 use Rattle.board.specs.Next.{Taken, next, valueOf}
-use Rattle.board.specs.Location.{Location, Has}
+use Rattle.board.specs.Location.{Location, cell, Has}
 use Rattle.board.specs.Machine.{Machine, beginning, formatSteps}
 use Rattle.board.specs.Sequence.{Begins, formatted, recoveryStarted, Run, cutRun, cuts, History, begun, further, rose, lastCheckpoint, recoverySteps}
-use Rattle.board.specs.Statements.{Reads, ReadsCheckpointed, Recovery, CutAndRecovered, ReadAlike, Demand3, LastCheckpoint, HeaderSizes, RecoveredSizes, Completes, formatStepIn, Completion, stepsFrom, FormatEnds, RecoveryEnds, CheckpointEnds, AwayHoldsUpNone, GoesAndComes, RecoveryStarts, OwnMemory, RequestAnswers, HistoryBegins, HasRecovery, UpdateEnds, SingleStores, SpareWords, FormatSpare}
+use Rattle.board.specs.Statements.{Reads, ReadsAll, ReadsCheckpointed, Recovery, CutAndRecovered, AlikeWhere, Demand3, Demand3ByCheckpoints, LastCheckpoint, HeaderSizes, RecoveredSizes, Completes, formatStepIn, Completion, stepsFrom, FormatEnds, RecoveryEnds, CheckpointEnds, AwayHoldsUpNone, GoesAndComes, RecoveryStarts, OwnMemory, RequestAnswers, WriteBackAnswers, ReadAnswers, HistoryBegins, HasRecovery, UpdateEnds, SingleStores, SpareWords, FormatSpare}
 use Rattle.predicate.proofs.Bools.{on, not-off}
 use Rattle.board.proofs.Invariant.{Inv}
 use Rattle.board.proofs.Laws.Taken.{standsAt, passed, performed-number, performed-value, performed-taken, performing, same-lines}
@@ -32,6 +32,7 @@ use Rattle.board.proofs.Format.Ends as FormatSteps
 use Rattle.board.proofs.Recovery.Ends as RecoverySteps
 use Rattle.board.proofs.Checkpoint.Ends as CheckpointSteps
 use Rattle.board.proofs.Updates
+use Rattle.board.proofs.Answers
 use Rattle.board.proofs.Stores
 use Rattle.board.proofs.Spare as SparePart
 
@@ -74,9 +75,9 @@ recovery r h b e = done-reads (r .machine) b (recovers r (history-inv r h) b e)
 cut-history : {r : Run} {b : Board} → History r → (e : CutAndRecovered r b) → History (cutRun (e .state) (e .cache) r)
 cut-history h e = further h (cuts (e .state) (e .cache) (e .sameLength))
 
--- Two boards read alike exactly when the checkpointed values are equal.
-alike : (m n : Machine) (b d : Board) → b .state .lines ≡ d .state .lines → ReadsCheckpointed m b → ReadsCheckpointed n d → ReadAlike m b n d
-alike m n b d same x y c h p q v u b′ d′ first second =
+-- Two boards read alike exactly when the values are equal that they read.
+alike : (values others : Location → ℕ) (b d : Board) → b .state .lines ≡ d .state .lines → ReadsAll values b → ReadsAll others d → AlikeWhere values b others d
+alike values others b d same x y c h p q v u b′ d′ first second =
     let e = x c h p v b′ first .1 in
     let f = y c (subst (λ (l : ℕ). c < cells (shaped l)) same h) q u d′ second .1 in
     (λ g. sym e ∙ g ∙ f, λ g. e ∙ g ∙ sym f)
@@ -86,7 +87,7 @@ pub demand3 : Demand3
 demand3 r s hr hs b d er es =
     let x : ReadsCheckpointed (r .machine) b = recovery _ (cut-history hr er) b (er .recovered) in
     let y : ReadsCheckpointed (s .machine) d = recovery _ (cut-history hs es) d (es .recovered) in
-    (x, y, λ same. alike (r .machine) (s .machine) b d same x y)
+    (x, y, λ same. alike (r .machine .checkpointed) (s .machine .checkpointed) b d same x y)
 
 -- The last checkpoint stays where memory's epoch does, and is the current one where it rises.
 last-stays : (format : Bool) (r r′ : Run) (xs : Location → ℕ) → Completes format r r′ → (c : Location) → Has (r′ .machine .shape) c →
@@ -124,6 +125,20 @@ unfolding lastCheckpoint
 last-checkpoint r (begun {b = b} {m = m} h) c p = begins-equal b m h c
 last-checkpoint r (further {r = q} h e) c p =
     last-stays (formatStepIn e) q r (lastCheckpoint h) (carried (history-inv q h) e .completion) c p (λ i. last-checkpoint q h c i)
+
+-- What a recovered board reads is the last checkpoint of its history.
+reads-last : (r : Run) (h : History r) (b : Board) → CutAndRecovered r b → ReadsAll (lastCheckpoint h) b
+reads-last r h b e c low number value b′ p =
+    let done = recovers _ (history-inv _ (cut-history h e)) b (e .recovered) in
+    let x = recovery _ (cut-history h e) b (e .recovered) c low number value b′ p in
+    (x .0, x .1 ∙ sym (last-checkpoint r h (cell c) (subst (λ (τ : Shape). c < cells τ) (done .shape) low)))
+
+-- DEMAND 3 by the histories alone.
+pub demand3-by-checkpoints : Demand3ByCheckpoints
+demand3-by-checkpoints r s h k b d e f =
+    let x = reads-last r h b e in
+    let y = reads-last s k d f in
+    (x, y, λ same. alike (lastCheckpoint h) (lastCheckpoint k) b d same x y)
 
 -- L and W are the header's.
 pub header-sizes : HeaderSizes
@@ -182,6 +197,12 @@ own-memory r h number value b p = performed-number RecoveryStart (r .board) p �
 
 pub request-answers : RequestAnswers
 request-answers r h d e off number value b p = performed-number Request (r .board) p ∙ Requests.request-answer r (history-inv r h) d e off
+
+pub write-back-answers : WriteBackAnswers
+write-back-answers r h = Answers.write-back-answers r (history-inv r h)
+
+pub read-answers : ReadAnswers
+read-answers r h = Answers.read-answers r (history-inv r h)
 
 pub update-ends : UpdateEnds
 update-ends r h = Updates.update-ends r (history-inv r h)

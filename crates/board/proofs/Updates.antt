@@ -1,7 +1,8 @@
 -- An update that is started ends: its advances are taken, undisturbed, and then a read gives its value.
 use Prim.Native.Nat.{ℕ, suc, _-_, _<_}
 use mathlib.Core.Path.{_≡_, refl, sym, ap, subst, _∙_}
-use mathlib.Core.Bool.{Bool, true, false, cond, _&&_, _||_}
+use mathlib.Core.Logic.{_⊎_, inl, inr}
+use mathlib.Core.Bool.{Bool, true, false, cond, _&&_}
 use lib.Dec.{ltb}
 use lib.ListN.{length}
 use borrow.Author.Tests.{lt-leb}
@@ -13,7 +14,7 @@ use Rattle.board.specs.declared.Phase.the-variants.{Running}
 use Rattle.board.specs.declared.Call.{Call}
 use Rattle.board.specs.declared.Call.the-variants.{Update, RestartPoint, Advance, Read}
 use Rattle.board.specs.Board.{Board, Shape, cells}
-use Rattle.board.specs.State.{conditionOf, isFree, isWaiting, isUpdating, isRunning}
+use Rattle.board.specs.State.{conditionOf, isFree, isUpdating, isRunning}
 use Rattle.board.specs.Causes.{causes, badRows}
 use Rattle.board.specs.Location.{cell, logged}
 use Rattle.board.specs.Effects.{firstStore, noted, afterLast, advance, advanceOf, effect}
@@ -110,7 +111,7 @@ module _ {r : Run} {w c v : ℕ} {next : Store} (u : Before r w c v next) where
 -- What an update ends in.
 abbrev UpdateEnded : ℕ → ℕ → ℕ → ℕ → Board → Type 0
 UpdateEnded w c v n b =
-    (b′ : Board) × (Advances w n b b′ × (isFree (conditionOf (b′ .state) w) || isWaiting (conditionOf (b′ .state) w) ≡ true) × Performed (Read c) b′ 0 v b′)
+    (b′ : Board) × (Advances w n b b′ × ((conditionOf (b′ .state) w ≡ Free) ⊎ (conditionOf (b′ .state) w ≡ Waiting)) × Performed (Read c) b′ 0 v b′)
 
 -- One advance more.
 ends-more : (w c v n : ℕ) (b : Board) {value : ℕ} {d : Board} → Performed (Advance w) b 0 value d → UpdateEnded w c v n d → UpdateEnded w c v (suc n) b
@@ -132,8 +133,8 @@ last-store {r} {w} {c} {v} u =
       b′,
       (
         advances (advance-performed u) over,
-        subst (λ (k : Condition). isFree k || isWaiting k ≡ true) (sym (ap (λ (b : Board). conditionOf (b .state) w) same ∙ condition-at s w (afterLast s c) (seat u)))
-            (on (λ (k : Condition). isFree k || isWaiting k ≡ true) (ltb c (s .workers) && s .requested) Waiting Free (λ e. refl) (λ e. refl)),
+        subst (λ (k : Condition). (k ≡ Free) ⊎ (k ≡ Waiting)) (sym (ap (λ (b : Board). conditionOf (b .state) w) same ∙ condition-at s w (afterLast s c) (seat u)))
+            (on (λ (k : Condition). (k ≡ Free) ⊎ (k ≡ Waiting)) (ltb c (s .workers) && s .requested) Waiting Free (λ e. inr refl) (λ e. inl refl)),
         performing (Read c) b′ t (sym read) (sym (taken-next (Read c) b′ t)),
       ),
     )

@@ -9,14 +9,13 @@ use Rattle.predicate.specs.Passing.{countUnder, numbersUnder, passing}
 use Rattle.bitset.specs.Words.{capacity, contains, size, strays}
 use Rattle.board.specs.declared.State.{State}
 use Rattle.board.specs.declared.Call.{Call}
-use Rattle.board.specs.declared.Call.the-variants.{FormatStart, RecoveryStart, Step, Update, RestartPoint, Advance, Request, WriteBack, Read, GoAway, ComeBack, Count, TakeLock, GiveBackLock}
+use Rattle.board.specs.declared.Call.the-variants.{Step, Advance, Count}
 use Rattle.board.specs.declared.Condition.the-variants.{Updating}
 use Rattle.board.specs.declared.Store.{Store}
 use Rattle.board.specs.Board.{Board}
-use Rattle.board.specs.State.{conditionOf, isRunning, dirtyCount}
-use Rattle.board.specs.Causes.{badRecord}
+use Rattle.board.specs.State.{conditionOf, isRunning}
 use Rattle.board.specs.Effects.{writtenBack}
-use Rattle.board.specs.Next.{Taken, next, Performed, kind, isStart, isStep}
+use Rattle.board.specs.Next.{Taken, next, Performed, profile, kind, isStart, isStep}
 use Rattle.board.specs.Page.{PagePerformed}
 use Rattle.board.specs.Machine.{markedLine}
 use Rattle.board.specs.Sequence.{Run, History}
@@ -28,6 +27,7 @@ use Rattle.board.specs.Statements.{AllWaitOrAway}
 pub record LineSet (c : ℕ) (b b′ : Board) : Type 0 where
   pub set : contains (b′ .state .dirty) (1 + c / 2) ≡ true
   pub others : (l : ℕ) → (l ≡ 1 + c / 2 → ⊥) → contains (b′ .state .dirty) l ≡ contains (b .state .dirty) l
+  pub size : length (b′ .state .dirty) ≡ length (b .state .dirty)
 
 -- "Marking a cell now promises its line's bit too": the mark's store, on a record of eight words.
 abbrev pub MarkSets : Type 0
@@ -53,9 +53,9 @@ StrayBits =
 abbrev pub CountsBits : Type 0
 CountsBits = (words : List ℕ) → size words ≡ countUnder capacity (contains words)
 
--- "the count of set bits plus 3, never over L+3": on every record that cause 3 lets pass.
+-- "the count of set bits plus 3, never over L+3": what a taken count gives back, on any board.
 abbrev pub CountWithin : Type 0
-CountWithin = (s : State) → badRecord s ≡ false → (3 ≤ dirtyCount s + 3) × (dirtyCount s + 3 ≤ s .lines + 3)
+CountWithin = (b b′ : Board) (value : ℕ) → Performed Count b 0 value b′ → (3 ≤ value) × (value ≤ b .state .lines + 3)
 
 -- The count, taken or refused, leaves state and rows.
 abbrev pub CountLeaves : Type 0
@@ -63,22 +63,9 @@ CountLeaves = (b : Board) → next Count b ≡ b
 
 -- ---- 3. the count foretells the steps
 
--- A call that comes back.
+-- A call that brings a worker back.
 abbrev pub comesBack : Call → Bool
-comesBack (FormatStart l w) = false
-comesBack RecoveryStart = false
-comesBack Step = false
-comesBack (Update w c v) = false
-comesBack (RestartPoint w v) = false
-comesBack (Advance w) = false
-comesBack Request = false
-comesBack (WriteBack l) = false
-comesBack (Read c) = false
-comesBack (GoAway w) = false
-comesBack (ComeBack w) = true
-comesBack Count = false
-comesBack (TakeLock w k) = false
-comesBack (GiveBackLock w k) = false
+comesBack k = profile k .comesBack
 
 -- `ToRelease n b b′`: calls and pages lead from board `b` to board `b′`. `n` steps among them returned 0, the last call being the last of them and a release: it alone leaves no request. No start and no coming back returned 0.
 pub data ToRelease : ℕ → Board → Board → Type 0 where

@@ -13,6 +13,7 @@ pub mod Statements
 pub mod Steps
 pub mod Foretold
 pub mod Locks
+pub mod Changes
 pub mod LaterMark
 pub mod Bench
 pub mod Refusals

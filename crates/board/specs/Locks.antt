@@ -3,25 +3,26 @@ use Prim.Native.Nat.{ℕ, _*_, _%_, _≤_, _<_}
 use mathlib.Core.Path.{_≡_}
 use mathlib.Core.Logic.{_⊎_, _↔_}
 use mathlib.Core.List.{List}
-use mathlib.Core.Bool.{true, false}
+use mathlib.Core.Bool.{Bool, true, false, not, _||_}
 use Rattle.locks.specs.Holders.{unheld, holds}
 use Rattle.board.specs.declared.State.{State}
 use Rattle.board.specs.declared.Call.{Call}
 use Rattle.board.specs.declared.Call.the-variants.{Update, RestartPoint, TakeLock, GiveBackLock}
 use Rattle.board.specs.declared.Condition.the-variants.{Free, Waiting, Updating, Away}
 use Rattle.board.specs.declared.Store.{Store}
-use Rattle.board.specs.declared.Phase.the-variants.{Running}
+use Rattle.board.specs.declared.Phase.{Phase}
 use Rattle.board.specs.Board.{Board}
-use Rattle.board.specs.State.{conditionOf, isRunning}
+use Rattle.board.specs.State.{conditionOf, isOff, isRecovering, isRunning}
 use Rattle.board.specs.Causes.{cause}
-use Rattle.board.specs.Next.{Taken, next, Performed, kind, isStart}
+use Rattle.board.specs.Next.{Taken, next, Performed, Kind, startsFormat, startsRecovery, stepping, writing, counting, other, reading, kind, isStart}
 use Rattle.board.specs.Page.{PagePerformed, pageCause}
 use Rattle.board.specs.Sequence.{Run, History}
 use Rattle.board.specs.Statements.{HoldsNone}
 
 -- ---- 1. no conflict
 
--- `FromStart b`: a start of format or recovery returned 0, on any board whatever its record and rows were; from there calls and pages, taken or refused, led to board `b`, with no cut between.
+-- `FromStart b`: a start of format or recovery returned 0, on any board whatever its record and rows were; from there calls and pages, taken or refused, led
+-- to board `b`, with no cut between.
 pub data FromStart : Board → Type 0 where
   starts : (k : Call) {value : ℕ} (b : Board) {b′ : Board} → isStart (kind k) ≡ true → Performed k b 0 value b′ → FromStart b′
   performs : (k : Call) {number value : ℕ} {b b′ : Board} → FromStart b → Performed k b number value b′ → FromStart b′
@@ -33,7 +34,8 @@ NoConflict = (b : Board) → FromStart b → (k : Call) (number value : ℕ) (b�
 
 -- ---- 2. who holds a lock
 
--- A worker with an unfinished update of a data cell, one not under W, holds that cell's lock, its number mod 16. A restart point is of the worker's own cell, and there, waiting or away, a worker holds no lock. A lock's holder is under W.
+-- A worker with an unfinished update of a data cell, one not under W, holds that cell's lock, its number mod 16. A restart point is of the worker's own
+-- cell, and there, waiting or away, a worker holds no lock. A lock's holder is under W.
 pub record Held (s : State) : Type 0 where
   pub own : (w c v : ℕ) (store : Store) → conditionOf s w ≡ Updating store c v → s .workers ≤ c → holds (s .holders) w (c % 16) ≡ true
   pub restart : (w c v : ℕ) (store : Store) → conditionOf s w ≡ Updating store c v → c < s .workers → (c ≡ w) × HoldsNone s w
@@ -60,11 +62,24 @@ pub record StrayHolder (s : State) : Type 0 where
   pub past : s .workers ≤ worker
   pub held : holds (s .holders) worker lock ≡ true
 
--- "a worker under W or none, else cause 3": on a running board such a holder turns down every call but the two starts, and every page.
+-- A phase lets a call pass, by its kind: "the step call needs a phase other than off, write-back recovering or running, .. All else needs running"; the
+-- starts are let pass by each.
+abbrev pub allows : Phase → Kind → Bool
+allows p startsFormat = true
+allows p startsRecovery = true
+allows p stepping = not (isOff p)
+allows p writing = isRecovering p || isRunning p
+allows p counting = isRunning p
+allows p other = isRunning p
+allows p (reading c) = isRunning p
+
+-- "a worker under W or none, else cause 3": in every phase such a holder turns down every call that the phase lets pass, but the two starts; and every page
+-- of a running board.
 abbrev pub StrayHolders : Type 0
 StrayHolders =
-    (b : Board) → b .state .phase ≡ Running → StrayHolder (b .state) →
-    ((k : Call) → isStart (kind k) ≡ false → cause k b ≡ 3) × ((text : List ℕ) → pageCause b text ≡ 3)
+    (b : Board) → StrayHolder (b .state) →
+    ((k : Call) → isStart (kind k) ≡ false → allows (b .state .phase) (kind k) ≡ true → cause k b ≡ 3)
+    × ((text : List ℕ) → isRunning (b .state .phase) ≡ true → pageCause b text ≡ 3)
 
 -- ---- 3. when a call is taken
 
@@ -77,8 +92,10 @@ pub record FreeWorker (s : State) (w : ℕ) : Type 0 where
 abbrev pub NoneUnder : State → ℕ → ℕ → Type 0
 NoneUnder s w k = (c v : ℕ) (store : Store) → conditionOf s w ≡ Updating store c v → s .workers ≤ c → c % 16 ≡ k → ⊥
 
--- A running board gives worker `w` lock `k` exactly where the worker is free and the lock is one of 16 that nobody holds. It takes it back exactly where this worker holds it and no unfinished update of its is under it.
--- It takes an update exactly where the worker is free and holds the data cell's lock, and a restart point exactly where it is free and holds none: what the other workers do turns neither down.
+-- A running board gives worker `w` lock `k` exactly where the worker is free and the lock is one of 16 that nobody holds. It takes it back exactly where
+-- this worker holds it and no unfinished update of its is under it.
+-- It takes an update exactly where the worker is free and holds the data cell's lock, and a restart point exactly where it is free and holds none: what the
+-- other workers do turns neither down.
 pub record LocksDecide (s : State) (b : Board) : Type 0 where
   pub takes : (w k : ℕ) → Taken (TakeLock w k) b ↔ (FreeWorker s w × (k < 16) × (unheld (s .holders) k ≡ true))
   pub givesBack : (w k : ℕ) → Taken (GiveBackLock w k) b ↔ ((w < s .workers) × (k < 16) × NoneUnder s w k × (holds (s .holders) w k ≡ true))

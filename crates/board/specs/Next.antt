@@ -43,22 +43,42 @@ pub data Kind : Type 0 where
   startsFormat startsRecovery stepping writing counting other : Kind
   reading : ℕ → Kind
 
+-- What sequences and statements ask of a call, whatever its other arguments: its place in the list of calls, its kind, whether it names a worker, whether it
+-- brings one back.
+pub record Profile : Type 0 where
+  pub index : ℕ
+  pub kind : Kind
+  pub names : ℕ → Bool
+  pub comesBack : Bool
+
+-- A call that names no worker.
+abbrev pub ofNobody : ℕ → Kind → Profile
+ofNobody index kind = record { index = index; kind = kind; names = λ i. false; comesBack = false }
+
+-- A call of worker `w`.
+abbrev pub ofWorker : ℕ → ℕ → Bool → Profile
+ofWorker index w back = record { index = index; kind = other; names = λ i. eqb i w; comesBack = back }
+
+-- The one table of calls.
+abbrev pub profile : Call → Profile
+profile (FormatStart l w) = ofNobody 0 startsFormat
+profile RecoveryStart = ofNobody 1 startsRecovery
+profile Step = ofNobody 2 stepping
+profile (Update w c v) = ofWorker 3 w false
+profile (RestartPoint w v) = ofWorker 4 w false
+profile (Advance w) = ofWorker 5 w false
+profile Request = ofNobody 6 other
+profile (WriteBack l) = ofNobody 7 writing
+profile (Read c) = ofNobody 8 (reading c)
+profile (GoAway w) = ofWorker 9 w false
+profile (ComeBack w) = ofWorker 10 w true
+profile Count = ofNobody 11 counting
+profile (TakeLock w k) = ofWorker 12 w false
+profile (GiveBackLock w k) = ofWorker 13 w false
+
 -- The kind of a call.
 abbrev pub kind : Call → Kind
-kind (FormatStart l w) = startsFormat
-kind RecoveryStart = startsRecovery
-kind Step = stepping
-kind (Update w c v) = other
-kind (RestartPoint w v) = other
-kind (Advance w) = other
-kind Request = other
-kind (WriteBack l) = writing
-kind (Read c) = reading c
-kind (GoAway w) = other
-kind (ComeBack w) = other
-kind Count = counting
-kind (TakeLock w k) = other
-kind (GiveBackLock w k) = other
+kind k = profile k .kind
 
 -- A start of format or recovery.
 abbrev pub isStart : Kind → Bool

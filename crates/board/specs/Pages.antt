@@ -4,22 +4,23 @@ use mathlib.Core.Path.{_≡_}
 use mathlib.Core.List.{List, [], _∷_, _++_, map, flatten}
 use mathlib.Core.Bool.{Bool, true, _&&_}
 use lib.Dec.{eqb}
-use lib.ListN.{replicate}
+use lib.ListN.{replicate, set}
 use Rattle.text.specs.Ascii.{blank, feed}
 use Rattle.board.specs.declared.Phase.the-variants.{Running}
 use Rattle.board.specs.Board.{Board, shaped, headerWords}
 use Rattle.board.specs.State.{started}
-use Rattle.board.specs.Page.{pageText, pageCause, pageLeft}
+use Rattle.board.specs.Effects.{cached}
+use Rattle.board.specs.Page.{cellOrder, pageText, pageCause, pageLeft}
 use Rattle.board.specs.Bench.{same}
-use Rattle.board.specs.Refusals.Boards.{sound, shortCache, straying, misfits, badRecords, quietEdges, requestedEdges, notRunningOf}
+use Rattle.board.specs.Refusals.Boards.{rowFor, sound, shortCache, straying, misfits, badRecords, quietEdges, requestedEdges, notRunningOf}
 
 -- ---- a page worked out
 
--- L = 2, W = 1, in epoch 2: cells 0 and 2 are marked with epoch 1, cells 1 and 3 with epoch 2.
+-- L = 2, W = 1, in epoch 2: cells 0 and 2 are marked with epoch 1, cells 1 and 3 with epoch 2. Memory has none of it yet.
 abbrev pub workedBoard : Board
 workedBoard =
     let cache = headerWords 2 (shaped 2) 1 ++ (10 ∷ 0 ∷ 1 ∷ 99 ∷ 0 ∷ 2 ∷ 0 ∷ 0 ∷ []) ++ (100 ∷ 0 ∷ 1 ∷ 7 ∷ (2 ^ 64 - 1) ∷ 2 ∷ 0 ∷ 0 ∷ []) in
-    record { state = started Running (shaped 2) 1; memory = cache; cache = cache }
+    record { state = started Running (shaped 2) 1; memory = rowFor 2 1; cache = cache }
 
 -- Its page, as the second program prints it.
 abbrev pub workedLines : List (List ℕ)
@@ -35,6 +36,10 @@ workedLines =
     -- "   2                  100                    0                    1"
     (replicate 3 blank ++ (50 ∷ []) ++ replicate 18 blank ++ (49 ∷ 48 ∷ 48 ∷ []) ++ replicate 20 blank ++ (48 ∷ []) ++ replicate 20 blank ++ (49 ∷ feed ∷ [])) ∷ []
 
+-- Marks on both sides of 2^63: they compare as numbers of 64 bits, so the cells stand in the order 2, 0, 3, 1.
+abbrev pub highMarks : List ℕ
+highMarks = headerWords 2 (shaped 2) 1 ++ (0 ∷ 0 ∷ 2 ^ 63 ∷ 0 ∷ 0 ∷ 1 ∷ 0 ∷ 0 ∷ []) ++ (0 ∷ 0 ∷ (2 ^ 63 + 1) ∷ 0 ∷ 0 ∷ (2 ^ 63 - 1) ∷ 0 ∷ 0 ∷ [])
+
 -- ---- a table of pages
 
 -- A page asked of a board with a text row of so many bytes, each 170: the number that it returns.
@@ -47,6 +52,14 @@ pub record PageCase : Type 0 where
 abbrev pub pages : ℕ → ℕ → Board → PageCase
 pages number room b = record { board = b; room = room; number = number }
 
+-- A running board (1, 1) whose cache has another L in its header: the page goes by the record's.
+abbrev pub misheaded : ℕ → Board
+misheaded l = cached (set (rowFor 1 1) 1 l) (sound Running 1 1 .state) (sound Running 1 1)
+
+-- Boards on which a page is refused by 2, by 3 and by 4, the text row being long enough.
+abbrev pub refusedBoards : List Board
+refusedBoards = notRunningOf (sound Running 1 1) ++ badRecords ++ misfits (sound Running 1 1)
+
 -- Cause 2 while 3, 4 and 12 stand; 3 while 4 and 12 stand; 4 while 12 stands; 12 of rows one byte short and of none; and pages that are just taken.
 unfoldable pub pageTable : List PageCase
 pageTable =
@@ -57,6 +70,7 @@ pageTable =
     ++ map (pages 0 204) quietEdges
     ++ map (pages 0 204) requestedEdges
     ++ (pages 0 205 (sound Running 1 1) ∷ pages 0 340 (sound Running 2 3) ∷ pages 0 1020 (sound Running 7 8) ∷ [])
+    ++ (pages 12 203 (misheaded 0) ∷ pages 0 204 (misheaded 2) ∷ [])
 
 -- The page returns the number.
 unfoldable pub pageGives : PageCase → Bool
@@ -67,9 +81,17 @@ unfoldable pub allPages : List PageCase → Bool
 allPages [] = true
 allPages (k ∷ ks) = pageGives k && allPages ks
 
--- The worked page is the second program's, bytes past it stay, a refused page writes nothing, and the table holds.
+-- A page of each of the boards leaves a text row of 400 bytes as it was.
+unfoldable pub noneWritten : List Board → Bool
+noneWritten [] = true
+noneWritten (b ∷ bs) = same (pageLeft b (replicate 400 170)) (replicate 400 170) && noneWritten bs
+
+-- The worked page is the second program's, bytes past it stay, a page refused by 12 and by 2, 3 or 4 writes nothing, marks are compared whole, and the table
+-- holds.
 pub record PagesHold : Type 0 where
   pub worked : same (pageText (workedBoard .cache) 4) (flatten workedLines) ≡ true
   pub past : same (pageLeft workedBoard (replicate 343 170)) (flatten workedLines ++ (170 ∷ 170 ∷ 170 ∷ [])) ≡ true
   pub refused : same (pageLeft workedBoard (replicate 339 170)) (replicate 339 170) ≡ true
+  pub unwritten : noneWritten refusedBoards ≡ true
+  pub high : same (cellOrder highMarks 4) (2 ∷ 0 ∷ 3 ∷ 1 ∷ []) ≡ true
   pub table : allPages pageTable ≡ true

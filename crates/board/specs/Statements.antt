@@ -1,5 +1,5 @@
 -- What is claimed of the board over whole histories, each claim as a type. `proofs/Theorems.antt` proves every one. DEMAND 3 is `Demand3`.
-use Prim.Native.Nat.{ℕ, zero, suc, _+_, _/_, _≤_, _<_}
+use Prim.Native.Nat.{ℕ, zero, suc, _+_, _*_, _/_, _≤_, _<_}
 use mathlib.Core.Path.{_≡_}
 use mathlib.Core.Logic.{_⊎_, _↔_}
 use mathlib.Core.List.{List}
@@ -10,11 +10,11 @@ use Rattle.line.specs.Line.{lineStart}
 use Rattle.board.specs.declared.State.{State}
 use Rattle.board.specs.declared.Call.{Call}
 use Rattle.board.specs.declared.Condition.the-variants.{Free, Waiting, Away}
-use Rattle.board.specs.declared.Call.the-variants.{FormatStart, RecoveryStart, Step, Update, RestartPoint, Advance, Request, Read, GoAway, ComeBack}
+use Rattle.board.specs.declared.Call.the-variants.{FormatStart, RecoveryStart, Step, Update, RestartPoint, Advance, Request, WriteBack, Read, GoAway, ComeBack}
 use Rattle.board.specs.declared.Phase.{Phase}
 use Rattle.board.specs.Board.{Board, Shape, shaped, shapeOf, shapeIn, cellLines, cells, epochOf, linesOf, workersOf, lastEpoch}
 use Rattle.locks.specs.Holders.{holds}
-use Rattle.board.specs.State.{conditionOf, isFree, isWaiting, isFormatting, isRunning, dirtyCount}
+use Rattle.board.specs.State.{conditionOf, isFormatting, isRecovering, isRunning, dirtyCount}
 use Rattle.board.specs.Location.{Location, cell, Has, undo}
 use Rattle.board.specs.Effects.{writtenBack}
 use Rattle.board.specs.Next.{Taken, next, Kind, startsFormat, startsRecovery, stepping, writing, counting, other, reading, kind, isStep, Performed}
@@ -23,7 +23,8 @@ use Rattle.board.specs.Sequence.{Takes, Begins, Run, cutRun, KeepsLength
 
 -- ---- 1. reads
 
--- DEMAND 2: "from a finished format on, a read agrees with the simple machine", and (02, ticket 4) from a recovery's start that took the memory: a read that returns 0, with no cut since the last taken start, gives the machine's current value.
+-- DEMAND 2: "from a finished format on, a read agrees with the simple machine", and (02, ticket 4) from a recovery's start that took the memory: a read that
+-- returns 0, with no cut since the last taken start, gives the machine's current value.
 abbrev pub Reads : Type 0
 Reads =
     (r : Run) → History r → r .crashed ≡ false →
@@ -31,20 +32,26 @@ Reads =
 
 -- ---- 2. recovery
 
+-- Every cell's read on board `b` returns 0 and gives the cell's value among those given.
+abbrev pub ReadsAll : (Location → ℕ) → Board → Type 0
+ReadsAll values b =
+    (c : ℕ) → c < cells (shapeOf (b .state)) →
+    (number value : ℕ) (b′ : Board) → Performed (Read c) b number value b′ → (number ≡ 0) × (value ≡ values (cell c))
+
 -- Every cell's read on board `b` returns 0 and gives the value checkpointed in machine `m`.
 abbrev pub ReadsCheckpointed : Machine → Board → Type 0
-ReadsCheckpointed m b =
-    (c : ℕ) → c < cells (shapeOf (b .state)) →
-    (number value : ℕ) (b′ : Board) → Performed (Read c) b number value b′ → (number ≡ 0) × (value ≡ m .checkpointed (cell c))
+ReadsCheckpointed m b = ReadsAll (m .checkpointed) b
 
--- The board `b` is what a finished recovery left that was started in run `r`: its start returned 0, and so did all steps that memory called for, other calls among them.
+-- The board `b` is what a finished recovery left that was started in run `r`: its start returned 0, and so did all steps that memory called for, other calls
+-- among them.
 pub record Recovered (r : Run) (b : Board) : Type 0 where
   pub value : ℕ
   pub start : Board
   pub begun : Performed RecoveryStart (r .board) 0 value start
   pub ended : Takes (recoverySteps (r .board .memory)) start b
 
--- After any history, a cut at its end or none ("a recovery start in mid-work is a cut"), a finished recovery reads the values of the last completed checkpoint.
+-- After any history, a cut at its end or none ("a recovery start in mid-work is a cut"), a finished recovery reads the values of the last completed
+-- checkpoint.
 abbrev pub Recovery : Type 0
 Recovery = (r : Run) → History r → (b : Board) → Recovered r b → ReadsCheckpointed (r .machine) b
 
@@ -55,13 +62,18 @@ pub record CutAndRecovered (r : Run) (b : Board) : Type 0 where
   pub sameLength : KeepsLength cache (r .board)
   pub recovered : Recovered (cutRun state cache r) b
 
+-- A cell reads alike on two boards exactly when its values among those given are equal.
+abbrev pub AlikeWhere : (Location → ℕ) → Board → (Location → ℕ) → Board → Type 0
+AlikeWhere values b others d =
+    (c : ℕ) → c < cells (shapeOf (b .state)) →
+    (p q v u : ℕ) (b′ d′ : Board) → Performed (Read c) b p v b′ → Performed (Read c) d q u d′ → (v ≡ u) ↔ (values (cell c) ≡ others (cell c))
+
 -- A cell reads alike on two boards exactly when the values checkpointed in their machines are equal.
 abbrev pub ReadAlike : Machine → Board → Machine → Board → Type 0
-ReadAlike m b n d =
-    (c : ℕ) → c < cells (shapeOf (b .state)) →
-    (p q v u : ℕ) (b′ d′ : Board) → Performed (Read c) b p v b′ → Performed (Read c) d q u d′ → (v ≡ u) ↔ (m .checkpointed (cell c) ≡ n .checkpointed (cell c))
+ReadAlike m b n d = AlikeWhere (m .checkpointed) b (n .checkpointed) d
 
--- DEMAND 3: two boards, each begun by a finished format or by a recovery's start that took its memory, with any history of calls and cuts, one more cut and a finished recovery. Then every cell reads what
+-- DEMAND 3: two boards, each begun by a finished format or by a recovery's start that took its memory, with any history of calls and cuts, one more cut and
+-- a finished recovery. Then every cell reads what
 -- the simple machine held at the last completed checkpoint; and where the boards are of one size, a cell reads alike exactly when those values are equal.
 abbrev pub Demand3 : Type 0
 Demand3 =
@@ -73,7 +85,16 @@ Demand3 =
 abbrev pub LastCheckpoint : Type 0
 LastCheckpoint = (r : Run) (h : History r) (u : Location) → Has (r .machine .shape) u → lastCheckpoint h u ≡ r .machine .checkpointed u
 
--- The L of board and machine is the header's, and so are the state record's L and W, from a start on and up to the next cut, unless a format has begun to erase.
+-- DEMAND 3 once more, with nothing left to compose: every cell reads its current value where memory's epoch last rose in that board's history, and boards of
+-- one size read alike exactly where those are equal.
+abbrev pub Demand3ByCheckpoints : Type 0
+Demand3ByCheckpoints =
+    (r s : Run) (h : History r) (k : History s) →
+    (b d : Board) → CutAndRecovered r b → CutAndRecovered s d →
+    ReadsAll (lastCheckpoint h) b × ReadsAll (lastCheckpoint k) d × (b .state .lines ≡ d .state .lines → AlikeWhere (lastCheckpoint h) b (lastCheckpoint k) d)
+
+-- The L of board and machine is the header's, and so are the state record's L and W, from a start on and up to the next cut, unless a format has begun to
+-- erase.
 pub record OwnSizes (r : Run) : Type 0 where
   pub header : linesOf (r .board .memory) ≡ r .machine .shape .lines
   pub lines : r .crashed ≡ false → isFormatting (r .board .state .phase) ≡ false → r .board .state .lines ≡ linesOf (r .board .memory)
@@ -189,7 +210,8 @@ CheckpointEnds =
 abbrev pub KeepsAway : State → State → Type 0
 KeepsAway s s′ = (w : ℕ) → w < 8 → (conditionOf s w ≡ Away → conditionOf s′ w ≡ Away) × ((conditionOf s w ≡ Away → ⊥) → conditionOf s′ w ≡ Free)
 
--- 02, ticket 2: a worker that is away holds up no checkpoint. With a request standing and every worker under W waiting or away the checkpoint ends in n+3 steps, those taken already
+-- 02, ticket 2: a worker that is away holds up no checkpoint. With a request standing and every worker under W waiting or away the checkpoint ends in n+3
+-- steps, those taken already
 -- among them; those that were away are away after it.
 abbrev pub AwayHoldsUpNone : Type 0
 AwayHoldsUpNone =
@@ -202,7 +224,8 @@ AwayHoldsUpNone =
 abbrev pub HoldsNone : State → ℕ → Type 0
 HoldsNone s w = (k : ℕ) → k < 16 → holds (s .holders) w k ≡ false
 
--- 02, ticket 2: a running board lets worker `w` go away exactly where it is free and (ticket 6) holds no lock, and come back exactly where it is away and no step of a requested checkpoint was taken; nothing else turns them down.
+-- 02, ticket 2: a running board lets worker `w` go away exactly where it is free and (ticket 6) holds no lock, and come back exactly where it is away and no
+-- step of a requested checkpoint was taken; nothing else turns them down.
 abbrev pub GoesAndComes : Type 0
 GoesAndComes =
     (r : Run) → History r → r .crashed ≡ false → isRunning (r .board .state .phase) ≡ true → (w : ℕ) →
@@ -213,15 +236,29 @@ GoesAndComes =
 abbrev pub RecoveryStarts : Type 0
 RecoveryStarts = (r : Run) → History r → r .erased ≡ false → Taken RecoveryStart (r .board)
 
--- 02, ticket 4: a board's own memory is never turned down by 14: after any history a recovery's start returns 0, or 5 where a format took its first step and none has finished since.
+-- 02, ticket 4: a board's own memory is never turned down by 14: after any history a recovery's start returns 0, or 5 where a format took its first step and
+-- none has finished since.
 abbrev pub OwnMemory : Type 0
 OwnMemory = (r : Run) → History r → (number value : ℕ) (b : Board) → Performed RecoveryStart (r .board) number value b → number ≡ cond (r .erased) 5 0
 
--- A history may begin in epoch 2^64 − 1, and a checkpoint may lead to it: while no request stands, a running board takes a request, but turns it down by 11 where memory's epoch is that one.
+-- A history may begin in epoch 2^64 − 1, and a checkpoint may lead to it: while no request stands, a running board takes a request, but turns it down by 11
+-- where memory's epoch is that one.
 abbrev pub RequestAnswers : Type 0
 RequestAnswers =
     (r : Run) → History r → r .crashed ≡ false → isRunning (r .board .state .phase) ≡ true → r .board .state .requested ≡ false →
     (number value : ℕ) (b : Board) → Performed Request (r .board) number value b → number ≡ cond (eqb (epochOf (r .board .memory)) lastEpoch) 11 0
+
+-- "Write-back needs recovering or running": such a board takes it exactly of lines 0 to L, and nothing else turns it down.
+abbrev pub WriteBackAnswers : Type 0
+WriteBackAnswers =
+    (r : Run) → History r → r .crashed ≡ false → isRecovering (r .board .state .phase) || isRunning (r .board .state .phase) ≡ true →
+    (l : ℕ) → Taken (WriteBack l) (r .board) ↔ (l ≤ r .board .state .lines)
+
+-- A running board reads exactly the cells that it has: nothing else turns a read down.
+abbrev pub ReadAnswers : Type 0
+ReadAnswers =
+    (r : Run) → History r → r .crashed ≡ false → isRunning (r .board .state .phase) ≡ true →
+    (c : ℕ) → Taken (Read c) (r .board) ↔ (c < 2 * r .board .state .lines)
 
 -- There are both beginnings: where a format's start is taken there is a finished format, and where a recovery's is taken a history begins at once.
 abbrev pub HistoryBegins : Type 0
@@ -248,7 +285,7 @@ abbrev pub UpdateEnds : Type 0
 UpdateEnds =
     (r : Run) → History r → r .crashed ≡ false →
     (w c v : ℕ) (k : Call) → Starts w c v k → (value : ℕ) (b : Board) → Performed k (r .board) 0 value b →
-    (b′ : Board) × (Advances w (cond (r .machine .marked (cell c)) 1 3) b b′ × (isFree (conditionOf (b′ .state) w) || isWaiting (conditionOf (b′ .state) w) ≡ true) × Performed (Read c) b′ 0 v b′)
+    (b′ : Board) × (Advances w (cond (r .machine .marked (cell c)) 1 3) b b′ × ((conditionOf (b′ .state) w ≡ Free) ⊎ (conditionOf (b′ .state) w ≡ Waiting)) × Performed (Read c) b′ 0 v b′)
 
 -- ---- 5. single stores
 

@@ -4,11 +4,11 @@ use mathlib.Core.Path.{_≡_}
 use mathlib.Core.Logic.{_⊎_, _↔_}
 use mathlib.Core.List.{List, _∷_, _++_, List·Memᴰ}
 use mathlib.Core.Bool.{Bool, true, false}
-use lib.Dec.{eqb}
 use lib.ListN.{length, getD, replicate}
 use Rattle.line.specs.declared.Field.{Field}
 use Rattle.line.specs.Line.{lineStart}
 use Rattle.line.specs.Cell.{cellLine, fieldIndex}
+use Rattle.board.specs.declared.State.{State}
 use Rattle.board.specs.declared.Condition.{Condition}
 use Rattle.board.specs.declared.Condition.the-variants.{Free, Waiting, Updating, Away}
 use Rattle.board.specs.declared.Store.{Store}
@@ -16,11 +16,11 @@ use Rattle.board.specs.declared.Phase.{Phase}
 use Rattle.board.specs.declared.Phase.the-variants.{Formatting, Recovering, Running}
 use Rattle.board.specs.declared.UndoStep.the-variants.{Restore}
 use Rattle.board.specs.declared.Call.{Call}
-use Rattle.board.specs.declared.Call.the-variants.{FormatStart, RecoveryStart, Step, Update, RestartPoint, Advance, Request, WriteBack, Read, GoAway, ComeBack, Count, TakeLock, GiveBackLock}
+use Rattle.board.specs.declared.Call.the-variants.{FormatStart, RecoveryStart, Step, Advance, Request, GoAway, ComeBack}
 use Rattle.board.specs.Board.{Board}
 use Rattle.board.specs.State.{conditionOf, dirtyCount}
 use Rattle.board.specs.Causes.{Cause, causes, cause}
-use Rattle.board.specs.Next.{next, Taken, kind, isStart}
+use Rattle.board.specs.Next.{next, Taken, profile, kind, isStart}
 use Rattle.board.specs.Statements.{stepsFrom, KeepsAway}
 
 -- ---- 1. format
@@ -123,11 +123,16 @@ pub record ReadBothWays (k : Call) (b : Board) : Type 0 where
 abbrev pub TableBothWays : Type 0
 TableBothWays = (k : Call) (b : Board) → ReadBothWays k b
 
--- "L, the cell lines, is 1 to 511", "W, the workers, is 1 to 8, and W < 2L", "8×(L+1) words": with these a format starts on any board.
+-- "L, the cell lines, is 1 to 511", "W, the workers, is 1 to 8, and W < 2L", "8×(L+1) words".
+pub record Formattable (l w : ℕ) (b : Board) : Type 0 where
+  pub linesWithin : (1 ≤ l) × (l ≤ 511)
+  pub workersWithin : (1 ≤ w) × (w ≤ 8) × (w < 2 * l)
+  pub memory : length (b .memory) ≡ 8 * (l + 1)
+  pub cache : length (b .cache) ≡ 8 * (l + 1)
+
+-- With these a format starts on any board, and with no other.
 abbrev pub FormatStarts : Type 0
-FormatStarts =
-    (l w : ℕ) (b : Board) → 1 ≤ l → l ≤ 511 → 1 ≤ w → w ≤ 8 → w < 2 * l →
-    length (b .memory) ≡ 8 * (l + 1) → length (b .cache) ≡ 8 * (l + 1) → Taken (FormatStart l w) b
+FormatStarts = (l w : ℕ) (b : Board) → Taken (FormatStart l w) b ↔ Formattable l w b
 
 -- ---- 6. the two starts
 
@@ -155,9 +160,17 @@ abbrev pub RecoveryBegins : Type 0
 RecoveryBegins =
     (b : Board) → Taken RecoveryStart b → Begun Recovering (getD (b .memory) 1 0) (getD (b .memory) 2 0) (b .memory) b (next RecoveryStart b)
 
--- Where cell `c` has its mark: "Cell c .. stands in line 1 + (c div 2), from word 3×(c mod 2): record, backup, mark".
+-- Where cell `c` has its record: "Cell c .. stands in line 1 + (c div 2), from word 3×(c mod 2): record, backup, mark".
+abbrev pub recordWord : ℕ → ℕ
+recordWord c = 8 * (1 + c / 2) + 3 * (c % 2)
+
+-- Where it has its backup.
+abbrev pub backupWord : ℕ → ℕ
+backupWord c = recordWord c + 1
+
+-- Where it has its mark.
 abbrev pub markWord : ℕ → ℕ
-markWord c = 8 * (1 + c / 2) + 3 * (c % 2) + 2
+markWord c = recordWord c + 2
 
 -- A board of `l` lines and `w` workers that can be recovered: rows of 8×(L+1) words, epoch, L and W in the header and zeros after them; 02, ticket 4:
 -- no cell's mark in memory greater than memory's epoch. Nothing is asked of the state record, of what the cache holds, or of the other words of the cell lines.
@@ -220,19 +233,23 @@ RecoveryOpens =
 
 -- ---- 8. going away and coming back
 
+-- Worker `w` is in the given condition; every other worker, and every other field but the dirty lines, is as it was.
+pub record OnlyCondition (w : ℕ) (condition : Condition) (s s′ : State) : Type 0 where
+  pub worker : conditionOf s′ w ≡ condition
+  pub others : (i : ℕ) → (i ≡ w → ⊥) → conditionOf s′ i ≡ conditionOf s i
+  pub eight : length (s′ .worker) ≡ length (s .worker)
+  pub phase : s′ .phase ≡ s .phase
+  pub lines : s′ .lines ≡ s .lines
+  pub workers : s′ .workers ≡ s .workers
+  pub holders : s′ .holders ≡ s .holders
+  pub place : s′ .place ≡ s .place
+  pub undo : s′ .undo ≡ s .undo
+  pub request : s′ .requested ≡ s .requested
+
 -- Worker `w` is in the given condition; every other worker, every other field and the rows are as they were.
 pub record OnlyWorker (w : ℕ) (condition : Condition) (b b′ : Board) : Type 0 where
-  pub worker : conditionOf (b′ .state) w ≡ condition
-  pub others : (i : ℕ) → (i ≡ w → ⊥) → conditionOf (b′ .state) i ≡ conditionOf (b .state) i
-  pub eight : length (b′ .state .worker) ≡ length (b .state .worker)
-  pub phase : b′ .state .phase ≡ b .state .phase
-  pub lines : b′ .state .lines ≡ b .state .lines
-  pub workers : b′ .state .workers ≡ b .state .workers
-  pub holders : b′ .state .holders ≡ b .state .holders
+  pub conditions : OnlyCondition w condition (b .state) (b′ .state)
   pub dirty : b′ .state .dirty ≡ b .state .dirty
-  pub place : b′ .state .place ≡ b .state .place
-  pub undo : b′ .state .undo ≡ b .state .undo
-  pub request : b′ .state .requested ≡ b .state .requested
   pub memory : b′ .memory ≡ b .memory
   pub cache : b′ .cache ≡ b .cache
 
@@ -246,20 +263,7 @@ ComesBack = (w : ℕ) (b : Board) → Taken (ComeBack w) b → OnlyWorker w Free
 
 -- The call names worker `i`.
 abbrev pub names : Call → ℕ → Bool
-names (FormatStart l w) i = false
-names RecoveryStart i = false
-names Step i = false
-names (Update w c v) i = eqb i w
-names (RestartPoint w v) i = eqb i w
-names (Advance w) i = eqb i w
-names Request i = false
-names (WriteBack l) i = false
-names (Read c) i = false
-names (GoAway w) i = eqb i w
-names (ComeBack w) i = eqb i w
-names Count i = false
-names (TakeLock w k) i = eqb i w
-names (GiveBackLock w k) i = eqb i w
+names k i = profile k .names i
 
 -- A taken call of a running board leaves every worker that it does not name in its condition, so one that is away stays away until it comes back; but for the two starts (6) and the release (3).
 abbrev pub OthersStay : Type 0

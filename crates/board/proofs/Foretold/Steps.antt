@@ -13,7 +13,7 @@ use Rattle.board.specs.declared.Condition.{Condition}
 use Rattle.board.specs.declared.Condition.the-variants.{Free, Waiting, Updating, Away}
 use Rattle.board.specs.declared.Phase.the-variants.{Running}
 use Rattle.board.specs.declared.Call.{Call}
-use Rattle.board.specs.declared.Call.the-variants.{FormatStart, RecoveryStart, Step, Update, RestartPoint, Advance, Request, WriteBack, Read, GoAway, ComeBack, Count, TakeLock, GiveBackLock}
+use Rattle.board.specs.declared.Call.the-variants.{Step, Update, RestartPoint, Advance, Request, GoAway, TakeLock}
 use Rattle.board.specs.Board.{Board}
 use Rattle.board.specs.State.{conditionOf, isFree, isUpdating, quiescent, placed, locked}
 use Rattle.board.specs.Checkpoint.{Act, storeEpoch, writeHeader, release, planned, acts}
@@ -21,7 +21,7 @@ use Rattle.board.specs.Causes.{causes}
 use Rattle.board.specs.Effects.{performAct, performFirst, effect}
 use Rattle.board.specs.Next.{Taken, kind, isStart, isStep}
 use Rattle.board.specs.Foretold.{ToRelease, releases, steps, between, paged, comesBack, Wrote, StepsWrite}
-use Rattle.board.proofs.Laws.Taken.{standsAt, passed, performed-taken, performed-refused, page-board}
+use Rattle.board.proofs.Laws.Taken.{standsAt, passed, performed-taken, performed-refused, page-board, ByEffect, quiet, theFormat, theRecovery, theStep, theUpdate, theRestart, theAdvance, theRequest, theWriteBack, theGoing, theComing, theTaking, theGiving, by-effect}
 use Rattle.board.proofs.Invariant.{AllQuiescent}
 use Rattle.board.proofs.Checkpoint.Acts.{Remains, lineNext, epochNext, headerNext, releaseNext, acts-next, effect-acts, Stepping, step-ready}
 use Rattle.board.proofs.Foretold.Rising.{writes}
@@ -65,26 +65,25 @@ module _ (b : Board) (y : Waits b) where
   stays-same memory holders = record { waits = record { phase = y .phase; workers = y .workers }; left = refl }
 
   -- A taken call other than a start, a step or a coming back.
-  call-stays : (k : Call) → Taken k b → isStart (kind k) || isStep (kind k) || comesBack k ≡ false → Stays b (effect k b)
+  call-stays : {k : Call} → ByEffect k → Taken k b → isStart (kind k) || isStep (kind k) || comesBack k ≡ false → Stays b (effect k b)
   unfolding standsAt causes effect acts
-  call-stays (FormatStart l w) t o = absurd (true≢false o)
-  call-stays RecoveryStart t o = absurd (true≢false o)
-  call-stays Step t o = absurd (true≢false o)
-  call-stays (Update w c v) t o = absurd (not-free w (passed (Update w c v) b t 6) (passed (Update w c v) b t 8))
-  call-stays (RestartPoint w v) t o = absurd (not-free w (passed (RestartPoint w v) b t 6) (passed (RestartPoint w v) b t 8))
-  call-stays (Advance w) t o = absurd (not-updating w (passed (Advance w) b t 6) (passed (Advance w) b t 8))
-  call-stays Request t o =
+  call-stays (quiet q) t o = subst (Stays b) (sym (q .leaves b)) (stays-same (b .memory) (b .state .holders))
+  call-stays (theFormat l w) t o = absurd (true≢false o)
+  call-stays theRecovery t o = absurd (true≢false o)
+  call-stays theStep t o = absurd (true≢false o)
+  call-stays (theUpdate w c v) t o = absurd (not-free w (passed (Update w c v) b t 6) (passed (Update w c v) b t 8))
+  call-stays (theRestart w v) t o = absurd (not-free w (passed (RestartPoint w v) b t 6) (passed (RestartPoint w v) b t 8))
+  call-stays (theAdvance w) t o = absurd (not-updating w (passed (Advance w) b t 6) (passed (Advance w) b t 8))
+  call-stays theRequest t o =
       record {
         waits = record { phase = y .phase; workers = y .workers };
         left = ap (λ (k : ℕ). drop k (planned b)) (sym (passedOver (b .state .requested) (b .state .place) 0 (passed Request b t 10)));
       }
-  call-stays (WriteBack l) t o = stays-same _ (b .state .holders)
-  call-stays (Read c) t o = stays-same (b .memory) (b .state .holders)
-  call-stays (GoAway w) t o = absurd (not-free w (passed (GoAway w) b t 6) (passed (GoAway w) b t 8))
-  call-stays (ComeBack w) t o = absurd (true≢false o)
-  call-stays Count t o = stays-same (b .memory) (b .state .holders)
-  call-stays (TakeLock w k) t o = absurd (not-free w (passed (TakeLock w k) b t 6) (passed (TakeLock w k) b t 8))
-  call-stays (GiveBackLock w k) t o = stays-same (b .memory) (givenBack (b .state .holders) k)
+  call-stays (theWriteBack l) t o = stays-same _ (b .state .holders)
+  call-stays (theGoing w) t o = absurd (not-free w (passed (GoAway w) b t 6) (passed (GoAway w) b t 8))
+  call-stays (theComing w) t o = absurd (true≢false o)
+  call-stays (theTaking w k) t o = absurd (not-free w (passed (TakeLock w k) b t 6) (passed (TakeLock w k) b t 8))
+  call-stays (theGiving w k) t o = stays-same (b .memory) (givenBack (b .state .holders) k)
 
 -- ---- a step
 
@@ -172,7 +171,7 @@ follow (steps {n = n} {b = b} {d = d} p on rest) y =
         }
 follow (between {number = number} k {b = b} {d = d} p a rest) y =
     let stay : Stays b d = elim (ℕ-discrete number 0) [
-      | yes z ↦ let (t, e) = performed-taken k b p z in subst (Stays b) (sym e) (call-stays b y k t (a z))
+      | yes z ↦ let (t, e) = performed-taken k b p z in subst (Stays b) (sym e) (call-stays b y (by-effect k) t (a z))
       | no o ↦ stays-there b d y (performed-refused k b p o)
     ] in
     let both = after-stay rest stay (follow rest (stay .waits)) in

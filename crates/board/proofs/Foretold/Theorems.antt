@@ -1,15 +1,15 @@
 -- THE THEOREMS about document 02, ticket 5: every statement of `specs/Foretold.antt`, proved.
 use Prim.Native.Nat.{ℕ, _<_}
-use mathlib.Core.Path.{_≡_, ap, subst, _∙_}
+use mathlib.Core.Path.{_≡_, refl, ap, subst, _∙_}
 use mathlib.Core.List.{List, map}
 use mathlib.Core.Bool.{false}
 use native.Mathlib.Omega.{arith}
 use native.Mathlib.Decide.{decLt}
 use lib.Dec.{leb}
-use lib.ListN.{drop}
+use lib.ListN.{drop, length}
 use borrow.Author.Tests.{eq-eqb, leb-false}
 use Rattle.bitset.specs.Words.{capacity, contains, inserted}
-use Rattle.bitset.proofs.Words.{contains-inserted, contains-other, past-words, size-count}
+use Rattle.bitset.proofs.Words.{contains-inserted, contains-other, past-words, size-count, length-inserted}
 use Rattle.bitset.proofs.Members.{stray-none, none-strays, size-most}
 use Rattle.line.specs.Cell.{cellLine}
 use Rattle.board.specs.declared.Condition.{Condition}
@@ -47,6 +47,7 @@ mark-sets w c v b eight here t =
     record {
       set = ap (λ (words : List ℕ). contains words l) same ∙ contains-inserted (s .dirty) l (omega (arith, eight, limits-in (shapeOf s) (s .workers) (record-within s fine .limits) .lines));
       others = λ i o. ap (λ (words : List ℕ). contains words i) same ∙ contains-other (s .dirty) l i o;
+      size = ap length same ∙ length-inserted (s .dirty) l;
     }
 
 -- A running board's dirty lines are the lines with a marked cell.
@@ -68,12 +69,6 @@ stray-bits words l eight small = (
 pub counts-bits : CountsBits
 counts-bits = size-count
 
--- It is 3 at least and L + 3 at most.
-pub count-within : CountWithin
-count-within s e =
-    let fine = record-within s e in
-    (omega arith, omega (arith, size-most (s .dirty) (s .lines) (fine .bits) (omega (arith, limits-in (shapeOf s) (s .workers) (fine .limits) .lines))))
-
 -- It changes nothing.
 pub count-leaves : CountLeaves
 unfolding next effect
@@ -83,6 +78,16 @@ count-leaves b = split (taken Count b) (λ t. chosen (taken Count b) b b t) (λ 
 count-value : (b : Board) → Taken Count b → valueOf Count b ≡ stepsOf b
 unfolding valueOf valueCounted
 count-value b t = chosen (taken Count b) (stepsOf b) 0 (eq-eqb (cause Count b) 0 t)
+
+-- It is 3 at least and L + 3 at most.
+pub count-within : CountWithin
+unfolding standsAt causes
+count-within b b′ value p =
+    let s = b .state in
+    let t = performed-taken Count b p refl .0 in
+    let fine = record-within s (passed Count b t 3) in
+    let e = performed-value Count b p ∙ count-value b t in
+    (omega (arith, e), omega (arith, e, size-most (s .dirty) (s .lines) (fine .bits) (omega (arith, limits-in (shapeOf s) (s .workers) (fine .limits) .lines))))
 
 -- ---- 3. the count foretells the steps
 

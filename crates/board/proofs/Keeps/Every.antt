@@ -6,7 +6,7 @@ use borrow.Author.Tests.{eqb-true, eqb-false}
 use Rattle.board.specs.declared.Phase.{Phase}
 use Rattle.board.specs.declared.Phase.the-variants.{Off, Formatting, Recovering, Running}
 use Rattle.board.specs.declared.Call.{Call}
-use Rattle.board.specs.declared.Call.the-variants.{FormatStart, RecoveryStart, Step, Update, RestartPoint, Advance, Request, WriteBack, Read, GoAway, ComeBack, Count, TakeLock, GiveBackLock}
+use Rattle.board.specs.declared.Call.the-variants.{Step}
 use Rattle.board.specs.Board.{Board}
 use Rattle.board.specs.State.{isOff, isFormatting}
 use Rattle.board.specs.Effects.{effect}
@@ -17,7 +17,7 @@ use Rattle.board.specs.Sequence.{Run, takenCall, unfed, Happens, perform
 use Rattle.board.specs.Statements.{formatStepIn}
 use Rattle.predicate.proofs.Bools.{split, clash, decide}
 use Rattle.board.proofs.Invariant.{Inv}
-use Rattle.board.proofs.Laws.Taken.{standsAt, passed, performed-taken, performed-refused, page-board, afterTaken}
+use Rattle.board.proofs.Laws.Taken.{standsAt, passed, performed-taken, performed-refused, page-board, afterTaken, ByEffect, quiet, theFormat, theRecovery, theStep, theUpdate, theRestart, theAdvance, theRequest, theWriteBack, theGoing, theComing, theTaking, theGiving, by-effect}
 use Rattle.board.proofs.Format.Begins.{begins-inv}
 use Rattle.board.proofs.Checkpoint.Run.{Preserved, quietly}
 use Rattle.board.proofs.Keeps.FormatStart.{carried-format-start}
@@ -29,7 +29,7 @@ use Rattle.board.proofs.Keeps.Update.{keeps-update, keeps-restart}
 use Rattle.board.proofs.Keeps.Advance.{carried-advance}
 use Rattle.board.proofs.Keeps.Request.{keeps-request}
 use Rattle.board.proofs.Keeps.WriteBack.{carried-write-back}
-use Rattle.board.proofs.Keeps.Quiet.{carried-read, carried-count}
+use Rattle.board.proofs.Keeps.Quiet.{carried-quiet}
 use Rattle.board.proofs.Keeps.Away.{carried-go-away, carried-come-back}
 use Rattle.board.proofs.Keeps.Locks.{carried-take-lock, carried-give-back-lock}
 
@@ -55,23 +55,23 @@ carried-step r i d t = go (r .board .state .phase) refl
     go Running e = carried-checkpoint-step r i d e t
 
 -- A taken call, where after a cut it is a start.
-carried-call : (k : Call) (r : Run) → Inv r → (r .crashed ≡ true → isStart (kind k) ≡ true) → Taken k (r .board) →
+carried-call : {k : Call} → ByEffect k → (r : Run) → Inv r → (r .crashed ≡ true → isStart (kind k) ≡ true) → Taken k (r .board) →
     Preserved (isStep (kind k) && isFormatting (r .board .state .phase)) r (afterTaken k r)
 unfolding effect feed
-carried-call (FormatStart l w) r i a t = carried-format-start r l w i t
-carried-call RecoveryStart r i a t = quietly (keeps-recovery-start r i t) refl refl (λ c. refl)
-carried-call Step r i a t = carried-step r i (uncut r a) t
-carried-call (Update w c v) r i a t = quietly (keeps-update r w c v i (uncut r a) t) refl refl (λ c. refl)
-carried-call (RestartPoint w v) r i a t = quietly (keeps-restart r w v i (uncut r a) t) refl refl (λ c. refl)
-carried-call (Advance w) r i a t = carried-advance r w i (uncut r a) t
-carried-call Request r i a t = quietly (keeps-request r i (uncut r a) t) refl refl (λ c. refl)
-carried-call (WriteBack l) r i a t = carried-write-back r l i (uncut r a) t
-carried-call (Read c) r i a t = carried-read r c i (uncut r a) t
-carried-call (GoAway w) r i a t = carried-go-away r w i (uncut r a) t
-carried-call (ComeBack w) r i a t = carried-come-back r w i (uncut r a) t
-carried-call Count r i a t = carried-count r i (uncut r a) t
-carried-call (TakeLock w k) r i a t = carried-take-lock r w k i (uncut r a) t
-carried-call (GiveBackLock w k) r i a t = carried-give-back-lock r w k i (uncut r a) t
+carried-call {k} (quiet q) r i a t =
+    subst (λ (step : Bool). Preserved (step && isFormatting (r .board .state .phase)) r (afterTaken k r)) (sym (q .step)) (carried-quiet r q i (uncut r (λ c. sym (q .start) ∙ a c)) t)
+carried-call (theFormat l w) r i a t = carried-format-start r l w i t
+carried-call theRecovery r i a t = quietly (keeps-recovery-start r i t) refl refl (λ c. refl)
+carried-call theStep r i a t = carried-step r i (uncut r a) t
+carried-call (theUpdate w c v) r i a t = quietly (keeps-update r w c v i (uncut r a) t) refl refl (λ c. refl)
+carried-call (theRestart w v) r i a t = quietly (keeps-restart r w v i (uncut r a) t) refl refl (λ c. refl)
+carried-call (theAdvance w) r i a t = carried-advance r w i (uncut r a) t
+carried-call theRequest r i a t = quietly (keeps-request r i (uncut r a) t) refl refl (λ c. refl)
+carried-call (theWriteBack l) r i a t = carried-write-back r l i (uncut r a) t
+carried-call (theGoing w) r i a t = carried-go-away r w i (uncut r a) t
+carried-call (theComing w) r i a t = carried-come-back r w i (uncut r a) t
+carried-call (theTaking w k) r i a t = carried-take-lock r w k i (uncut r a) t
+carried-call (theGiving w k) r i a t = carried-give-back-lock r w k i (uncut r a) t
 
 -- Whatever happens.
 pub carried : {r r′ : Run} → Inv r → (e : Happens r r′) → Preserved (formatStepIn e) r r′
@@ -81,7 +81,7 @@ carried i (performs {r = r} k number value b p a) =
     (λ t.
     let z = eqb-true number 0 t in
     let done = performed-taken k (r .board) p z in
-    subst (λ (d : Board). Preserved (isStep (kind k) && isFormatting (r .board .state .phase)) r (takenCall k d r)) (sym (done .1)) (carried-call k r i (λ c. a c z) (done .0)))
+    subst (λ (d : Board). Preserved (isStep (kind k) && isFormatting (r .board .state .phase)) r (takenCall k d r)) (sym (done .1)) (carried-call (by-effect k) r i (λ c. a c z) (done .0)))
     (λ t. subst (λ (d : Board). Preserved false r (unfed d r)) (sym (performed-refused k (r .board) p (eqb-false number 0 t))) (quietly i refl refl (λ c. refl)))
 carried i (pages {r = r} text left number b p) =
     subst (λ (d : Board). Preserved false r (unfed d r)) (sym (page-board (r .board) text p)) (quietly i refl refl (λ c. refl))

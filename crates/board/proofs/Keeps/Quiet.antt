@@ -1,6 +1,6 @@
 -- A call that changes neither rows nor what the machine knows, and of the state record at most the workers' conditions and the locks' holders: one law for all of them.
 use Prim.Native.Nat.{ℕ, _≤_, _<_}
-use mathlib.Core.Path.{_≡_, refl, _∙_}
+use mathlib.Core.Path.{_≡_, refl, _∙_, subst, sym}
 use mathlib.Core.List.{List}
 use mathlib.Core.Bool.{Bool, false}
 use native.Mathlib.Omega.{arith}
@@ -8,16 +8,16 @@ use lib.ListN.{length, getD}
 use Rattle.board.specs.declared.State.{State}
 use Rattle.board.specs.declared.Worker.{Worker}
 use Rattle.board.specs.declared.Phase.the-variants.{Running}
-use Rattle.board.specs.declared.Call.the-variants.{Read, Count}
+use Rattle.board.specs.declared.Call.{Call}
 use Rattle.board.specs.Board.{Board, Shape}
 use Rattle.board.specs.State.{freeWorker, conditionOf, isRunning, locked}
-use Rattle.board.specs.Causes.{causes, notRunning}
-use Rattle.board.specs.Effects.{stated, effect}
+use Rattle.board.specs.Causes.{notRunning}
+use Rattle.board.specs.Effects.{stated}
 use Rattle.board.specs.Next.{Taken}
-use Rattle.board.specs.Machine.{Machine, Unfinished, feed}
+use Rattle.board.specs.Machine.{Machine, Unfinished}
 use Rattle.board.specs.Sequence.{Run}
 use Rattle.predicate.proofs.Bools.{not-off}
-use Rattle.board.proofs.Laws.Taken.{standsAt, passed, afterTaken}
+use Rattle.board.proofs.Laws.Taken.{afterTaken, Quiet, phase-passed}
 use Rattle.board.proofs.Invariant.{HeldUnder, AllQuiescent, WorkerInv, Touches, Stage, early, gap, late, RunningInv, Inv}
 use Rattle.board.specs.Checkpoint.{progress, acts}
 use Rattle.board.proofs.Checkpoint.Acts.{acts-length}
@@ -101,12 +101,7 @@ carried-same : (r : Run) (crashed : Bool) → Inv r → r .crashed ≡ false →
 carried-same r crashed inv d on =
     carried-holders r (r .board .state .holders) crashed inv d on (λ h. h)
 
--- A taken read.
-pub carried-read : (r : Run) (c : ℕ) → Inv r → r .crashed ≡ false → Taken (Read c) (r .board) → Preserved false r (afterTaken (Read c) r)
-unfolding standsAt causes effect feed
-carried-read r c inv d t = carried-same r _ inv d (passed (Read c) (r .board) t 2)
-
--- A taken count.
-pub carried-count : (r : Run) → Inv r → r .crashed ≡ false → Taken Count (r .board) → Preserved false r (afterTaken Count r)
-unfolding standsAt causes effect feed
-carried-count r inv d t = carried-same r _ inv d (passed Count (r .board) t 2)
+-- A taken call that is quiet.
+pub carried-quiet : {k : Call} (r : Run) → Quiet k → Inv r → r .crashed ≡ false → Taken k (r .board) → Preserved false r (afterTaken k r)
+carried-quiet {k} r q inv d t =
+    subst (Preserved false r) (sym (q .after r)) (carried-same r _ inv d (sym (q .barred (r .board)) ∙ phase-passed k (r .board) t))

@@ -1,7 +1,7 @@
 -- A taken call: no test of its rows of the cause table stands, each read by its number; and the other way round.
 use Prim.Native.Nat.{ℕ, _≤_, _<_}
 use mathlib.Core.Path.{_≡_, refl, sym, ap, subst, _∙_}
-use mathlib.Core.List.{List, [], _∷_}
+use mathlib.Core.List.{List, [], _∷_, flatten}
 use mathlib.Core.Bool.{Bool, true, false, cond, not, _&&_, _||_}
 use native.Mathlib.Omega.{arith}
 use lib.Dec.{leb, ltb, eqb}
@@ -13,15 +13,20 @@ use Rattle.line.specs.declared.Field.the-variants.{Mark}
 use Rattle.line.specs.Cell.{fieldOf}
 use Rattle.board.specs.declared.State.{State}
 use Rattle.board.specs.declared.Condition.{Condition}
+use Rattle.board.specs.declared.Phase.{Phase}
 use Rattle.board.specs.declared.Call.{Call}
 use Rattle.board.specs.declared.Call.the-variants.{FormatStart, RecoveryStart, Step, Update, RestartPoint, Advance, Request, WriteBack, Read, GoAway, ComeBack, Count, TakeLock, GiveBackLock}
 use Rattle.board.specs.Board.{Board, Shape, shapeOf, shapeIn, cells, rowWords, shapeOutside, workersOutside, outside}
-use Rattle.board.specs.State.{conditionOf, updates, anyWorker}
-use Rattle.board.specs.Causes.{Cause, causes, firstStanding, cause, badRecord, badRows, laterMark, placePast, notOn, notRecoveringOrRunning, notRunning}
+use Rattle.board.specs.State.{conditionOf, updates, anyWorker, isRunning}
+use Rattle.board.specs.Causes.{Cause, check, guarded, noCell, causes, firstStanding, cause, badRecord, badRows, laterMark, placePast, notOn, notRecoveringOrRunning, notRunning}
 use Rattle.board.specs.Effects.{effect}
 use Rattle.board.specs.Page.{PageOutcome, PagePerformed}
+use Rattle.board.specs.Machine.{feed}
 use Rattle.board.specs.Sequence.{Run, takenCall}
-use Rattle.board.specs.Next.{Taken, taken, next, Kind, startsFormat, startsRecovery, stepping, writing, counting, other, reading, kind, valueOf, Outcome, Performed}
+use Rattle.board.specs.Locks.{allows}
+use Rattle.board.specs.Changes.{Changes}
+use Rattle.board.specs.Refusals.{refusals, anyAsks, asked, allAsked}
+use Rattle.board.specs.Next.{Taken, taken, next, Kind, startsFormat, startsRecovery, stepping, writing, counting, other, reading, profile, kind, isStart, isStep, valueOf, Outcome, Performed}
 use Rattle.predicate.proofs.Bools.{split, chosen, passedOver, or-left, or-right, or-none, and-left, and-right, and-both, and-not, and-if, not-off, not-on}
 use Rattle.predicate.proofs.Passing.{none-under, under-none}
 use Rattle.board.proofs.Invariant.{RecordInv, Lengths}
@@ -92,30 +97,115 @@ OfKind other k = Unit {0}
 OfKind (reading c) k = k ≡ Read c
 
 -- What a call's rows of the table and its kind have in common with every other call's.
-record Entered (k : Call) : Type 0 where
+pub record Entered (k : Call) : Type 0 where
   -- every row has a number other than 0
-  numbers : (b : Board) → numbered (causes k b) ≡ true
+  pub numbers : (b : Board) → numbered (causes k b) ≡ true
   -- the row of cause 2 is that of the kind
-  phase : (b : Board) → standsAt 2 (causes k b) ≡ phaseBars (kind k) b
+  pub phase : (b : Board) → standsAt 2 (causes k b) ≡ phaseBars (kind k) b
   -- the kind tells the call
-  named : OfKind (kind k) k
+  pub named : OfKind (kind k) k
+
+-- The rows of a table from the first of number `n` on.
+unfoldable pub onward : ℕ → List Cause → List Cause
+onward n [] = []
+onward n (k ∷ ks) = cond (eqb (k .number) n) (k ∷ ks) (onward n ks)
+
+-- A call that looks at a running board and changes nothing, neither record nor rows nor what the machine knows. This is all that the proofs ask of it.
+pub record Quiet (k : Call) : Type 0 where
+  pub entry : Entered k
+  pub start : isStart (kind k) ≡ false
+  pub step : isStep (kind k) ≡ false
+  pub allowed : (p : Phase) → allows p (kind k) ≡ isRunning p
+  pub barred : (b : Board) → phaseBars (kind k) b ≡ notRunning b
+  pub own : Board → List Cause
+  pub table : (b : Board) → causes k b ≡ guarded (notRunning b) b (own b)
+  pub nine : (b : Board) → onward 9 (causes k b) ≡ []
+  pub leaves : (b : Board) → effect k b ≡ b
+  pub after : (r : Run) → takenCall k (effect k (r .board)) r ≡ record { board = r .board; machine = r .machine; crashed = r .crashed && true; erased = r .erased }
+  pub changes : (b : Board) → Changes k b b
+  pub rows : (b : Board) → asked (profile k .index) 0 refusals && allAsked (profile k .index) (causes k b) ≡ true
+
+-- A call by what it does: a quiet one, or one of those that change something. Proofs about every call go by it, so that a quiet call is one line here and
+-- none elsewhere.
+pub data ByEffect : Call → Type 0 where
+  quiet : {k : Call} → Quiet k → ByEffect k
+  theFormat : (l w : ℕ) → ByEffect (FormatStart l w)
+  theRecovery : ByEffect RecoveryStart
+  theStep : ByEffect Step
+  theUpdate : (w c v : ℕ) → ByEffect (Update w c v)
+  theRestart : (w v : ℕ) → ByEffect (RestartPoint w v)
+  theAdvance : (w : ℕ) → ByEffect (Advance w)
+  theRequest : ByEffect Request
+  theWriteBack : (l : ℕ) → ByEffect (WriteBack l)
+  theGoing : (w : ℕ) → ByEffect (GoAway w)
+  theComing : (w : ℕ) → ByEffect (ComeBack w)
+  theTaking : (w k : ℕ) → ByEffect (TakeLock w k)
+  theGiving : (w k : ℕ) → ByEffect (GiveBackLock w k)
+
+-- Every call is one of these.
+pub by-effect : (k : Call) → ByEffect k
+unfolding numbered standsAt causes onward effect feed flatten refusals anyAsks asked allAsked
+by-effect (FormatStart l w) = theFormat l w
+by-effect RecoveryStart = theRecovery
+by-effect Step = theStep
+by-effect (Update w c v) = theUpdate w c v
+by-effect (RestartPoint w v) = theRestart w v
+by-effect (Advance w) = theAdvance w
+by-effect Request = theRequest
+by-effect (WriteBack l) = theWriteBack l
+by-effect (Read c) =
+    quiet (record {
+      entry = record { numbers = λ b. refl; phase = λ b. refl; named = refl };
+      start = refl;
+      step = refl;
+      allowed = λ p. refl;
+      barred = λ b. refl;
+      own = λ b. check 7 (noCell (b .state) c) ∷ [];
+      table = λ b. refl;
+      nine = λ b. refl;
+      leaves = λ b. refl;
+      after = λ r. refl;
+      changes = λ b. refl;
+      rows = λ b. refl;
+    })
+by-effect (GoAway w) = theGoing w
+by-effect (ComeBack w) = theComing w
+by-effect Count =
+    quiet (record {
+      entry = record { numbers = λ b. refl; phase = λ b. refl; named = refl };
+      start = refl;
+      step = refl;
+      allowed = λ p. refl;
+      barred = λ b. refl;
+      own = λ b. [];
+      table = λ b. refl;
+      nine = λ b. refl;
+      leaves = λ b. refl;
+      after = λ r. refl;
+      changes = λ b. refl;
+      rows = λ b. refl;
+    })
+by-effect (TakeLock w k) = theTaking w k
+by-effect (GiveBackLock w k) = theGiving w k
+
+enters : {k : Call} → ByEffect k → Entered k
+unfolding numbered standsAt causes
+enters (quiet q) = q .entry
+enters (theFormat l w) = record { numbers = λ b. refl; phase = λ b. refl; named = (l, w, refl) }
+enters theRecovery = record { numbers = λ b. refl; phase = λ b. refl; named = refl }
+enters theStep = record { numbers = λ b. refl; phase = λ b. refl; named = refl }
+enters (theUpdate w c v) = record { numbers = λ b. refl; phase = λ b. refl; named = tt }
+enters (theRestart w v) = record { numbers = λ b. refl; phase = λ b. refl; named = tt }
+enters (theAdvance w) = record { numbers = λ b. refl; phase = λ b. refl; named = tt }
+enters theRequest = record { numbers = λ b. refl; phase = λ b. refl; named = tt }
+enters (theWriteBack l) = record { numbers = λ b. refl; phase = λ b. refl; named = (l, refl) }
+enters (theGoing w) = record { numbers = λ b. refl; phase = λ b. refl; named = tt }
+enters (theComing w) = record { numbers = λ b. refl; phase = λ b. refl; named = tt }
+enters (theTaking w k) = record { numbers = λ b. refl; phase = λ b. refl; named = tt }
+enters (theGiving w k) = record { numbers = λ b. refl; phase = λ b. refl; named = tt }
 
 entered : (k : Call) → Entered k
-unfolding numbered standsAt causes
-entered (FormatStart l w) = record { numbers = λ b. refl; phase = λ b. refl; named = (l, w, refl) }
-entered RecoveryStart = record { numbers = λ b. refl; phase = λ b. refl; named = refl }
-entered Step = record { numbers = λ b. refl; phase = λ b. refl; named = refl }
-entered (Update w c v) = record { numbers = λ b. refl; phase = λ b. refl; named = tt }
-entered (RestartPoint w v) = record { numbers = λ b. refl; phase = λ b. refl; named = tt }
-entered (Advance w) = record { numbers = λ b. refl; phase = λ b. refl; named = tt }
-entered Request = record { numbers = λ b. refl; phase = λ b. refl; named = tt }
-entered (WriteBack l) = record { numbers = λ b. refl; phase = λ b. refl; named = (l, refl) }
-entered (Read c) = record { numbers = λ b. refl; phase = λ b. refl; named = refl }
-entered (GoAway w) = record { numbers = λ b. refl; phase = λ b. refl; named = tt }
-entered (ComeBack w) = record { numbers = λ b. refl; phase = λ b. refl; named = tt }
-entered Count = record { numbers = λ b. refl; phase = λ b. refl; named = refl }
-entered (TakeLock w k) = record { numbers = λ b. refl; phase = λ b. refl; named = tt }
-entered (GiveBackLock w k) = record { numbers = λ b. refl; phase = λ b. refl; named = tt }
+entered k = enters (by-effect k)
 
 -- Every row of every call has a number other than 0.
 pub table-numbered : (k : Call) (b : Board) → numbered (causes k b) ≡ true

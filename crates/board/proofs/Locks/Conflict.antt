@@ -1,6 +1,6 @@
 -- Where each data update has its lock held and each restart point is of the worker's own cell, no two unfinished updates meet: cause 9 does not stand.
 use Prim.Native.Nat.{ℕ, suc, _%_, _≤_, _<_}
-use mathlib.Core.Path.{_≡_, refl, sym, ap, _∙_}
+use mathlib.Core.Path.{_≡_, refl, sym, ap, _∙_, subst}
 use mathlib.Core.List.{List, [], _∷_}
 use mathlib.Core.Bool.{Bool, true, false, cond, not, _&&_, false≢true}
 use native.Mathlib.Omega.{arith}
@@ -13,13 +13,13 @@ use Rattle.board.specs.declared.State.{State}
 use Rattle.board.specs.declared.Condition.{Condition}
 use Rattle.board.specs.declared.Condition.the-variants.{Free, Waiting, Updating, Away}
 use Rattle.board.specs.declared.Call.{Call}
-use Rattle.board.specs.declared.Call.the-variants.{FormatStart, RecoveryStart, Step, Update, RestartPoint, Advance, Request, WriteBack, Read, GoAway, ComeBack, Count, TakeLock, GiveBackLock}
+use Rattle.board.specs.declared.Call.the-variants.{FormatStart, RecoveryStart, Step, Update, RestartPoint, Advance, Request, WriteBack, GoAway, ComeBack, TakeLock, GiveBackLock}
 use Rattle.board.specs.Board.{Board}
 use Rattle.board.specs.State.{conditionOf, updates, othersUpdate, lockOf}
 use Rattle.board.specs.Causes.{Cause, causes, firstStanding, cause}
 use Rattle.predicate.proofs.Bools.{decide, split, chosen, passedOver, or-left, and-right, and-if, not-off, not-of}
 use Rattle.predicate.proofs.Passing.{under-none}
-use Rattle.board.proofs.Laws.Taken.{Clear, standsAt, clear-at}
+use Rattle.board.proofs.Laws.Taken.{Clear, standsAt, clear-at, ByEffect, quiet, theFormat, theRecovery, theStep, theUpdate, theRestart, theAdvance, theRequest, theWriteBack, theGoing, theComing, theTaking, theGiving, onward}
 use Rattle.board.proofs.Locks.Held.{Holding, LockInv}
 
 -- ---- no other worker has an unfinished update of the cell
@@ -52,14 +52,10 @@ none-other s w c i own restart =
 
 -- ---- the answer
 
--- The rows of a table before the first of number `n`, and those from it on.
+-- The rows of a table before the first of number `n`.
 unfoldable pub until : ℕ → List Cause → List Cause
 until n [] = []
 until n (k ∷ ks) = cond (eqb (k .number) n) [] (k ∷ until n ks)
-
-unfoldable pub onward : ℕ → List Cause → List Cause
-onward n [] = []
-onward n (k ∷ ks) = cond (eqb (k .number) n) (k ∷ ks) (onward n ks)
 
 -- Where `n` is the answer, no row before the first of that number stands.
 parted : (n : ℕ) (ks : List Cause) → firstStanding ks ≡ suc n → Clear (until (suc n) ks) × (firstStanding (onward (suc n) ks) ≡ suc n)
@@ -102,19 +98,18 @@ restart-answer w v b i e =
     last-off _ 8 (none-other s w w i (λ l. absurd (omega arith)) (λ l. refl)) (rows .1)
 
 -- No call is answered by 9; of most there is no such row.
-pub never-nine : (k : Call) (b : Board) → LockInv (b .state) → cause k b ≡ 9 → ⊥
+pub never-nine : {k : Call} → ByEffect k → (b : Board) → LockInv (b .state) → cause k b ≡ 9 → ⊥
 unfolding cause causes onward
-never-nine (FormatStart l w) b i e = no-row 8 (parted 8 (causes (FormatStart l w) b) e .1)
-never-nine RecoveryStart b i e = no-row 8 (parted 8 (causes RecoveryStart b) e .1)
-never-nine Step b i e = no-row 8 (parted 8 (causes Step b) e .1)
-never-nine (Update w c v) b i e = update-answer w c v b i e
-never-nine (RestartPoint w v) b i e = restart-answer w v b i e
-never-nine (Advance w) b i e = no-row 8 (parted 8 (causes (Advance w) b) e .1)
-never-nine Request b i e = no-row 8 (parted 8 (causes Request b) e .1)
-never-nine (WriteBack l) b i e = no-row 8 (parted 8 (causes (WriteBack l) b) e .1)
-never-nine (Read c) b i e = no-row 8 (parted 8 (causes (Read c) b) e .1)
-never-nine (GoAway w) b i e = no-row 8 (parted 8 (causes (GoAway w) b) e .1)
-never-nine (ComeBack w) b i e = no-row 8 (parted 8 (causes (ComeBack w) b) e .1)
-never-nine Count b i e = no-row 8 (parted 8 (causes Count b) e .1)
-never-nine (TakeLock w k) b i e = no-row 8 (parted 8 (causes (TakeLock w k) b) e .1)
-never-nine (GiveBackLock w k) b i e = no-row 8 (parted 8 (causes (GiveBackLock w k) b) e .1)
+never-nine {k} (quiet q) b i e = no-row 8 (subst (λ (ks : List Cause). firstStanding ks ≡ 9) (q .nine b) (parted 8 (causes k b) e .1))
+never-nine (theFormat l w) b i e = no-row 8 (parted 8 (causes (FormatStart l w) b) e .1)
+never-nine theRecovery b i e = no-row 8 (parted 8 (causes RecoveryStart b) e .1)
+never-nine theStep b i e = no-row 8 (parted 8 (causes Step b) e .1)
+never-nine (theUpdate w c v) b i e = update-answer w c v b i e
+never-nine (theRestart w v) b i e = restart-answer w v b i e
+never-nine (theAdvance w) b i e = no-row 8 (parted 8 (causes (Advance w) b) e .1)
+never-nine theRequest b i e = no-row 8 (parted 8 (causes Request b) e .1)
+never-nine (theWriteBack l) b i e = no-row 8 (parted 8 (causes (WriteBack l) b) e .1)
+never-nine (theGoing w) b i e = no-row 8 (parted 8 (causes (GoAway w) b) e .1)
+never-nine (theComing w) b i e = no-row 8 (parted 8 (causes (ComeBack w) b) e .1)
+never-nine (theTaking w k) b i e = no-row 8 (parted 8 (causes (TakeLock w k) b) e .1)
+never-nine (theGiving w k) b i e = no-row 8 (parted 8 (causes (GiveBackLock w k) b) e .1)

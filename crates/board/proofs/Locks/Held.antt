@@ -15,7 +15,7 @@ use Rattle.board.specs.declared.Condition.the-variants.{Free, Waiting, U
 use Rattle.board.specs.declared.Store.{Store}
 use Rattle.board.specs.declared.Store.the-variants.{Backup, Mark, Record}
 use Rattle.board.specs.declared.Call.{Call}
-use Rattle.board.specs.declared.Call.the-variants.{FormatStart, RecoveryStart, Step, Update, RestartPoint, Advance, Request, WriteBack, Read, GoAway, ComeBack, Count, TakeLock, GiveBackLock}
+use Rattle.board.specs.declared.Call.the-variants.{FormatStart, RecoveryStart, Update, RestartPoint, Advance, GoAway, ComeBack, TakeLock, GiveBackLock}
 use Rattle.board.specs.Board.{Board, workersOf}
 use Rattle.board.specs.State.{allFree, conditionOf, conditioned, isFree, updates, updatesUnder, lockOf, afterRelease, released}
 use Rattle.board.specs.Causes.{causes, badRecord}
@@ -24,7 +24,7 @@ use Rattle.board.specs.Next.{Taken, Kind, startsFormat, startsRecovery, 
 use Rattle.board.specs.Locks.{FromStart, starts, performs, pages}
 use Rattle.predicate.proofs.Bools.{on, split, clash, or-left, and-left, and-both, not-off}
 use Rattle.board.proofs.Laws.Count.{at-each}
-use Rattle.board.proofs.Laws.Taken.{standsAt, passed, of-kind, performed-taken, performed-refused, page-board, eight-within}
+use Rattle.board.proofs.Laws.Taken.{standsAt, passed, of-kind, performed-taken, performed-refused, page-board, eight-within, ByEffect, quiet, theFormat, theRecovery, theStep, theUpdate, theRestart, theAdvance, theRequest, theWriteBack, theGoing, theComing, theTaking, theGiving, by-effect}
 use Rattle.board.proofs.Laws.Workers.{is-free, condition-at, condition-other, busy-within, free-condition, released-condition}
 use Rattle.board.proofs.Laws.Locks.{unheld-under, taken-under, given-back-under}
 use Rattle.board.proofs.Invariant.{HeldUnder}
@@ -180,33 +180,32 @@ start-locks k b e = go (kind k) refl e
     go (reading c) p q = absurd (false≢true q)
 
 -- Every taken call keeps it.
-pub keeps-locks : (k : Call) (b : Board) → LockInv (b .state) → Taken k b → LockInv (effect k b .state)
+pub keeps-locks : {k : Call} → ByEffect k → (b : Board) → LockInv (b .state) → Taken k b → LockInv (effect k b .state)
 unfolding standsAt causes effect
-keeps-locks (FormatStart l w) b i t = start-locks (FormatStart l w) b refl
-keeps-locks RecoveryStart b i t = start-locks RecoveryStart b refl
-keeps-locks Step b i t =
+keeps-locks (quiet q) b i t = subst (λ (d : Board). LockInv (d .state)) (sym (q .leaves b)) i
+keeps-locks (theFormat l w) b i t = start-locks (FormatStart l w) b refl
+keeps-locks theRecovery b i t = start-locks RecoveryStart b refl
+keeps-locks theStep b i t =
     step-record LockInv b i (λ place undo. record { eight = i .eight; under = i .under; holding = i .holding }) (λ dirty. freed _ refl (i .under)) (released-holding (b .state) i)
-keeps-locks (Update w c v) b i t =
+keeps-locks (theUpdate w c v) b i t =
     let s = b .state in
     let pass = passed (Update w c v) b t in
     let past = ltb-false c (s .workers) (or-left (ltb c (s .workers)) _ (pass 7)) in
     put s w (Updating (firstStore (b .cache) c) c v) i (within b w (pass 3) (pass 6)) (λ l. not-off (holds (s .holders) w (lockOf c)) (pass 16), λ l. absurd (omega arith))
-keeps-locks (RestartPoint w v) b i t =
+keeps-locks (theRestart w v) b i t =
     let s = b .state in
     let pass = passed (RestartPoint w v) b t in
     let there = leb-false (s .workers) w (pass 6) in
     put s w (Updating (firstStore (b .cache) w) w v) i (within b w (pass 3) (pass 6)) (λ l. absurd (omega arith), λ l. (refl, any-none (s .holders) w (pass 16)))
-keeps-locks (Advance w) b i t =
+keeps-locks (theAdvance w) b i t =
     advances-held (conditionOf (b .state) w) w b i (within b w (passed (Advance w) b t 3) (passed (Advance w) b t 6)) (i .holding w)
-keeps-locks Request b i t = record { eight = i .eight; under = i .under; holding = i .holding }
-keeps-locks (WriteBack l) b i t = i
-keeps-locks (Read c) b i t = i
-keeps-locks (GoAway w) b i t =
+keeps-locks theRequest b i t = record { eight = i .eight; under = i .under; holding = i .holding }
+keeps-locks (theWriteBack l) b i t = i
+keeps-locks (theGoing w) b i t =
     let pass = passed (GoAway w) b t in put (b .state) w Away i (within b w (pass 3) (pass 6)) (any-none (b .state .holders) w (pass 16))
-keeps-locks (ComeBack w) b i t =
+keeps-locks (theComing w) b i t =
     let pass = passed (ComeBack w) b t in put (b .state) w Free i (within b w (pass 3) (pass 6)) tt
-keeps-locks Count b i t = i
-keeps-locks (TakeLock w k) b i t =
+keeps-locks (theTaking w k) b i t =
     let s = b .state in
     let pass = passed (TakeLock w k) b t in
     let most = eight-within s (pass 3) in
@@ -220,7 +219,7 @@ keeps-locks (TakeLock w k) b i t =
           (subst (Holding (s .workers) (heldBy (s .holders) k w) w) (sym free) tt)
           (λ u o. take-fits s w k u (omega arith) (not-off (unheld (s .holders) k) (pass 16)) o (i .holding u));
     }
-keeps-locks (GiveBackLock w k) b i t =
+keeps-locks (theGiving w k) b i t =
     let s = b .state in
     let pass = passed (GiveBackLock w k) b t in
     record {
@@ -236,6 +235,6 @@ pub locks-inv : {b : Board} → FromStart b → LockInv (b .state)
 locks-inv (starts k b e p) = subst (λ (d : Board). LockInv (d .state)) (sym (performed-taken k b p refl .1)) (start-locks k b e)
 locks-inv (performs k {number = number} {b = b} f p) =
     split (eqb number 0)
-    (λ t. let done = performed-taken k b p (eqb-true number 0 t) in subst (λ (d : Board). LockInv (d .state)) (sym (done .1)) (keeps-locks k b (locks-inv f) (done .0)))
+    (λ t. let done = performed-taken k b p (eqb-true number 0 t) in subst (λ (d : Board). LockInv (d .state)) (sym (done .1)) (keeps-locks (by-effect k) b (locks-inv f) (done .0)))
     (λ t. subst (λ (d : Board). LockInv (d .state)) (sym (performed-refused k b p (eqb-false number 0 t))) (locks-inv f))
 locks-inv (pages text left {b = b} f p) = subst (λ (d : Board). LockInv (d .state)) (sym (page-board b text p)) (locks-inv f)

@@ -1,6 +1,6 @@
 -- What a step leaves of the state record, and that no call but four changes a lock's holder.
 use Prim.Native.Nat.{ℕ, _+_}
-use mathlib.Core.Path.{_≡_, refl, sym, subst}
+use mathlib.Core.Path.{_≡_, refl, sym, subst, ap}
 use mathlib.Core.List.{List, [], _∷_}
 use mathlib.Core.Bool.{false, true≢false}
 use lib.Dec.{leb}
@@ -13,7 +13,7 @@ use Rattle.board.specs.declared.UndoStep.{UndoStep}
 use Rattle.board.specs.declared.Phase.{Phase}
 use Rattle.board.specs.declared.Phase.the-variants.{Off, Formatting, Recovering, Running}
 use Rattle.board.specs.declared.Call.{Call}
-use Rattle.board.specs.declared.Call.the-variants.{FormatStart, RecoveryStart, Step, Update, RestartPoint, Advance, Request, WriteBack, Read, GoAway, ComeBack, Count, TakeLock, GiveBackLock}
+use Rattle.board.specs.declared.Call.the-variants.{Step, TakeLock, GiveBackLock}
 use Rattle.board.specs.Board.{Board}
 use Rattle.board.specs.State.{conditionOf, placed, opened, released}
 use Rattle.board.specs.Effects.{performAct, performFirst, pastStop, formatStep, step, advance, advanceOf, effect}
@@ -21,6 +21,7 @@ use Rattle.board.specs.Checkpoint.{Act, writeLine, storeEpoch, writeHead
 use Rattle.board.specs.Next.{next, taken, kind, isStart}
 use Rattle.board.specs.Locks.{HoldersStay}
 use Rattle.predicate.proofs.Bools.{on}
+use Rattle.board.proofs.Laws.Taken.{ByEffect, quiet, theFormat, theRecovery, theStep, theUpdate, theRestart, theAdvance, theRequest, theWriteBack, theGoing, theComing, theTaking, theGiving, by-effect}
 use Rattle.board.proofs.Recovery.Board.{recovery-cases, past-cases}
 use Rattle.board.proofs.Checkpoint.Acts.{effect-acts}
 
@@ -67,25 +68,24 @@ advances-holders (Updating n c v) w b = advance-holders n w c v b
 advances-holders Away w b = refl
 
 -- What a taken call does to the holders.
-effect-holders : (k : Call) (b : Board) → isStart (kind k) ≡ false → ((w j : ℕ) → k ≡ TakeLock w j → ⊥) → ((w j : ℕ) → k ≡ GiveBackLock w j → ⊥) →
+effect-holders : {k : Call} → ByEffect k → (b : Board) → isStart (kind k) ≡ false → ((w j : ℕ) → k ≡ TakeLock w j → ⊥) → ((w j : ℕ) → k ≡ GiveBackLock w j → ⊥) →
     effect k b .state .holders ≡ b .state .holders
 unfolding effect
-effect-holders (FormatStart l w) b s t g = absurd (true≢false s)
-effect-holders RecoveryStart b s t g = absurd (true≢false s)
-effect-holders Step b s t g = step-record (λ (x : State). x .holders ≡ b .state .holders) b refl (λ place undo. refl) (λ dirty. refl) refl
-effect-holders (Update w c v) b s t g = refl
-effect-holders (RestartPoint w v) b s t g = refl
-effect-holders (Advance w) b s t g = advances-holders (conditionOf (b .state) w) w b
-effect-holders Request b s t g = refl
-effect-holders (WriteBack l) b s t g = refl
-effect-holders (Read c) b s t g = refl
-effect-holders (GoAway w) b s t g = refl
-effect-holders (ComeBack w) b s t g = refl
-effect-holders Count b s t g = refl
-effect-holders (TakeLock w k) b s t g = absurd (t w k refl)
-effect-holders (GiveBackLock w k) b s t g = absurd (g w k refl)
+effect-holders (quiet q) b s t g = ap (λ (d : Board). d .state .holders) (q .leaves b)
+effect-holders (theFormat l w) b s t g = absurd (true≢false s)
+effect-holders theRecovery b s t g = absurd (true≢false s)
+effect-holders theStep b s t g = step-record (λ (x : State). x .holders ≡ b .state .holders) b refl (λ place undo. refl) (λ dirty. refl) refl
+effect-holders (theUpdate w c v) b s t g = refl
+effect-holders (theRestart w v) b s t g = refl
+effect-holders (theAdvance w) b s t g = advances-holders (conditionOf (b .state) w) w b
+effect-holders theRequest b s t g = refl
+effect-holders (theWriteBack l) b s t g = refl
+effect-holders (theGoing w) b s t g = refl
+effect-holders (theComing w) b s t g = refl
+effect-holders (theTaking w k) b s t g = absurd (t w k refl)
+effect-holders (theGiving w k) b s t g = absurd (g w k refl)
 
 -- Only the starts and the two calls change a lock's holder.
 pub holders-stay : HoldersStay
 unfolding next
-holders-stay k b s t g = on (λ (d : Board). d .state .holders ≡ b .state .holders) (taken k b) (effect k b) b (λ e. effect-holders k b s t g) (λ e. refl)
+holders-stay k b s t g = on (λ (d : Board). d .state .holders ≡ b .state .holders) (taken k b) (effect k b) b (λ e. effect-holders (by-effect k) b s t g) (λ e. refl)

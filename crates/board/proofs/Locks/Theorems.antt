@@ -3,7 +3,7 @@ use Prim.Native.Nat.{ℕ, _*_, _%_, _≤_, _<_}
 use mathlib.Core.Path.{_≡_, refl, sym, ap, subst, _∙_}
 use mathlib.Core.Logic.{_⊎_, inl, inr, _↔_}
 use mathlib.Core.List.{List, _∷_}
-use mathlib.Core.Bool.{Bool, true, false, cond, not, _&&_, _||_, true≢false}
+use mathlib.Core.Bool.{Bool, true, false, cond, not, _&&_, _||_, true≢false, false≢true}
 use native.Mathlib.Omega.{arith}
 use lib.Dec.{leb, ltb, eqb}
 use borrow.Author.Tests.{leb-false, ltb-false, lt-leb, le-ltb, le-leb, leb-true, eq-eqb, ne-eqb, eqb-true}
@@ -15,10 +15,10 @@ use Rattle.board.specs.declared.Condition.the-variants.{Free, Waiting, U
 use Rattle.board.specs.declared.Store.{Store}
 use Rattle.board.specs.declared.Call.{Call}
 use Rattle.board.specs.declared.Phase.{Phase}
-use Rattle.board.specs.declared.Phase.the-variants.{Running}
-use Rattle.board.specs.declared.Call.the-variants.{FormatStart, RecoveryStart, Step, Update, RestartPoint, Advance, Request, WriteBack, Read, GoAway, ComeBack, Count, TakeLock, GiveBackLock}
+use Rattle.board.specs.declared.Phase.the-variants.{Off, Formatting, Recovering, Running}
+use Rattle.board.specs.declared.Call.the-variants.{FormatStart, RecoveryStart, Update, RestartPoint, TakeLock, GiveBackLock}
 use Rattle.board.specs.Board.{Board, shapeOf, cells}
-use Rattle.board.specs.State.{conditionOf, isFree, updates, isOff, isFormatting, isRunning, updatesUnder, lockOf, locked}
+use Rattle.board.specs.State.{conditionOf, isFree, updates, isOff, isFormatting, isRecovering, isRunning, updatesUnder, lockOf, locked}
 use Rattle.board.specs.Causes.{Cause, check, badRecord, causes, firstStanding, cause}
 use Rattle.board.specs.Effects.{stated, effect}
 use Rattle.board.specs.Next.{Taken, next, Performed, kind, isStart}
@@ -26,9 +26,9 @@ use Rattle.board.specs.Page.{pageCauses, pageCause}
 use Rattle.board.specs.Sequence as sequence
 use Rattle.board.specs.Machine.{Machine}
 use Rattle.board.specs.Sequence.{Run, Takes, Begins, History, called, takenCall, unfed}
-use Rattle.board.specs.Locks.{FromStart, starts, performs, pages, NoConflict, LocksHeld, OneHolder, HeldOrFree, StrayHolder, StrayHolders, FreeWorker, NoneUnder, LockAnswers, OnlyHolders, TakesLock, GivesLockBack}
+use Rattle.board.specs.Locks.{FromStart, starts, performs, pages, NoConflict, LocksHeld, OneHolder, HeldOrFree, StrayHolder, allows, StrayHolders, FreeWorker, NoneUnder, LockAnswers, OnlyHolders, TakesLock, GivesLockBack}
 use Rattle.predicate.proofs.Bools.{chosen, passedOver, decide, split, clash, or-left, or-right, or-none, and-both, and-if, not-off, not-on}
-use Rattle.board.proofs.Laws.Taken.{Clear, take, standsAt, passed, performed-number, taken-next, record-within, eight-within}
+use Rattle.board.proofs.Laws.Taken.{Clear, take, standsAt, passed, performed-number, taken-next, record-within, eight-within, ByEffect, quiet, theFormat, theRecovery, theStep, theUpdate, theRestart, theAdvance, theRequest, theWriteBack, theGoing, theComing, theTaking, theGiving, by-effect}
 use Rattle.board.proofs.Laws.Workers.{is-free}
 use Rattle.board.proofs.Laws.Reading.{Passes, running-passes}
 use Rattle.board.proofs.Checkpoint.Run.{is-running}
@@ -40,7 +40,7 @@ pub use Rattle.board.proofs.Locks.Record.{holders-stay}
 -- ---- no conflict
 
 pub no-conflict : NoConflict
-no-conflict b f k number value b′ p e = never-nine k b (locks-inv f) (sym (performed-number k b p) ∙ e)
+no-conflict b f k number value b′ p e = never-nine (by-effect k) b (locks-inv f) (sym (performed-number k b p) ∙ e)
 
 -- ---- who holds a lock
 
@@ -73,32 +73,40 @@ third : (phase bad : Bool) (ks : List Cause) → phase ≡ false → bad ≡ tru
 unfolding firstStanding
 third phase bad ks off on = passedOver phase 2 _ off ∙ chosen bad 3 (firstStanding ks) on
 
-module _ (b : Board) (running : b .state .phase ≡ Running) (bad : badRecord (b .state) ≡ true) where
-  runs : not (isRunning (b .state .phase)) ≡ false
-  runs = ap (λ (p : Phase). not (isRunning p)) running
+-- A phase that is not off.
+not-off-off : (off : Bool) → not off ≡ true → off ≡ false
+not-off-off false e = refl
+not-off-off true e = absurd (false≢true e)
 
-  -- Cause 3 bars every call of a running board but the starts.
-  bars : (k : Call) → isStart (kind k) ≡ false → cause k b ≡ 3
+-- A recovering or running board may be written back.
+writable : (p : Phase) → isRecovering p || isRunning p ≡ true → isOff p || isFormatting p ≡ false
+writable Off e = absurd (false≢true e)
+writable Formatting e = absurd (false≢true e)
+writable Recovering e = refl
+writable Running e = refl
+
+module _ (b : Board) (bad : badRecord (b .state) ≡ true) where
+  -- Cause 3 bars every call that the phase lets pass but the starts.
+  bars : {k : Call} → ByEffect k → isStart (kind k) ≡ false → allows (b .state .phase) (kind k) ≡ true → cause k b ≡ 3
   unfolding cause causes
-  bars (FormatStart l w) s = absurd (true≢false s)
-  bars RecoveryStart s = absurd (true≢false s)
-  bars Step s = third _ _ _ (ap isOff running) bad
-  bars (Update w c v) s = third _ _ _ runs bad
-  bars (RestartPoint w v) s = third _ _ _ runs bad
-  bars (Advance w) s = third _ _ _ runs bad
-  bars Request s = third _ _ _ runs bad
-  bars (WriteBack l) s = third _ _ _ (ap (λ (p : Phase). isOff p || isFormatting p) running) bad
-  bars (Read c) s = third _ _ _ runs bad
-  bars (GoAway w) s = third _ _ _ runs bad
-  bars (ComeBack w) s = third _ _ _ runs bad
-  bars Count s = third _ _ _ runs bad
-  bars (TakeLock w k) s = third _ _ _ runs bad
-  bars (GiveBackLock w k) s = third _ _ _ runs bad
+  bars (quiet q) s on = ap firstStanding (q .table b) ∙ third _ _ _ (not-on (isRunning (b .state .phase)) (sym (q .allowed (b .state .phase)) ∙ on)) bad
+  bars (theFormat l w) s on = absurd (true≢false s)
+  bars theRecovery s on = absurd (true≢false s)
+  bars theStep s on = third _ _ _ (not-off-off (isOff (b .state .phase)) on) bad
+  bars (theUpdate w c v) s on = third _ _ _ (not-on _ on) bad
+  bars (theRestart w v) s on = third _ _ _ (not-on _ on) bad
+  bars (theAdvance w) s on = third _ _ _ (not-on _ on) bad
+  bars theRequest s on = third _ _ _ (not-on _ on) bad
+  bars (theWriteBack l) s on = third _ _ _ (writable (b .state .phase) on) bad
+  bars (theGoing w) s on = third _ _ _ (not-on _ on) bad
+  bars (theComing w) s on = third _ _ _ (not-on _ on) bad
+  bars (theTaking w k) s on = third _ _ _ (not-on _ on) bad
+  bars (theGiving w k) s on = third _ _ _ (not-on _ on) bad
 
-  -- And every page.
-  bars-page : (text : List ℕ) → pageCause b text ≡ 3
+  -- And every page of a running board.
+  bars-page : (text : List ℕ) → isRunning (b .state .phase) ≡ true → pageCause b text ≡ 3
   unfolding pageCause pageCauses
-  bars-page text = third _ _ _ runs bad
+  bars-page text on = third _ _ _ (not-on _ on) bad
 
 -- A lock's holder that is not there is cause 3.
 stray-bad : (s : State) → StrayHolder s → badRecord s ≡ true
@@ -107,7 +115,7 @@ stray-bad s x =
     (λ f. let under = from-under (s .holders) (s .workers) (record-within s f .holders) (x .worker) (x .lock) (x .one) (x .held) in absurd (omega (arith, x .past)))
 
 pub stray-holders : StrayHolders
-stray-holders b e x = let bad = stray-bad (b .state) x in (bars b e bad, bars-page b e bad)
+stray-holders b x = let bad = stray-bad (b .state) x in (λ k. bars b bad (by-effect k), bars-page b bad)
 
 -- ---- a history leads from a taken start
 

@@ -28,7 +28,7 @@ use Rattle.board.proofs.Keeps.RecoveryStart.{recovery-begins}
 use Rattle.board.proofs.Keeps.RecoveryStep.{carried-recovery-step}
 
 -- A recovery's step is taken.
-step-taken : (r : Run) → Inv r → r .crashed ≡ false → r .board .state .phase ≡ Recovering → Taken Step (r .board)
+pub step-taken : (r : Run) → Inv r → r .crashed ≡ false → r .board .state .phase ≡ Recovering → Taken Step (r .board)
 step-taken r i d p =
     let b = r .board in
     let u = in-phase r i d Recovering p .0 .underway in

@@ -71,7 +71,7 @@ module _ (l w : ℕ) (b : Board) (t : Taken (FormatStart l w) b) where
 -- ---- one line stored
 
 -- A stored line differs alone.
-only-line : {σ : Shape} (row : List ℕ) (i : ℕ) (words : List ℕ) → Sized σ row → i ≤ σ .lines → length words ≡ 8 → OnlyLine i words row (withLine row i words)
+pub only-line : {σ : Shape} (row : List ℕ) (i : ℕ) (words : List ℕ) → Sized σ row → i ≤ σ .lines → length words ≡ 8 → OnlyLine i words row (withLine row i words)
 only-line row i words z h n =
     let inside = line-in row i z h in
     record {

@@ -29,7 +29,7 @@ requests b t =
     (record { request = refl; place = refl; undo = refl; phase = refl; lines = refl; workers = refl; holders = refl; dirty = refl; worker = refl; memory = refl; cache = refl })
 
 -- A board with an opened record.
-opens : (dirty : List ℕ) (b b′ : Board) → b′ .state ≡ opened (b .state) dirty → Opened dirty b b′
+pub opens : (dirty : List ℕ) (b b′ : Board) → b′ .state ≡ opened (b .state) dirty → Opened dirty b b′
 opens dirty b b′ e =
     record {
       phase = ap (λ (s : State). s .phase) e;

@@ -13,7 +13,7 @@ use Rattle.board.specs.declared.Store.{Store}
 use Rattle.board.specs.declared.Store.the-variants.{Backup, Mark, Record}
 use Rattle.board.specs.declared.Phase.the-variants.{Running}
 use Rattle.board.specs.declared.Call.{Call}
-use Rattle.board.specs.declared.Call.the-variants.{FormatStart, RecoveryStart, Step, Update, RestartPoint, Advance, Request, WriteBack, Read, GoAway, ComeBack, Count, TakeLock, GiveBackLock}
+use Rattle.board.specs.declared.Call.the-variants.{Step}
 use Rattle.board.specs.Board.{Board}
 use Rattle.board.specs.State.{conditionOf, dirtyCount}
 use Rattle.board.specs.Effects.{performAct, performFirst, firstStore, afterLast, advance, advanceOf, effect}
@@ -21,7 +21,7 @@ use Rattle.board.specs.Checkpoint.{Act, acts}
 use Rattle.board.specs.Next.{Taken, kind, isStart}
 use Rattle.board.specs.Steps.{names, OthersStay}
 use Rattle.predicate.proofs.Bools.{chosen}
-use Rattle.board.proofs.Laws.Taken.{taken-next}
+use Rattle.board.proofs.Laws.Taken.{taken-next, ByEffect, quiet, theFormat, theRecovery, theStep, theUpdate, theRestart, theAdvance, theRequest, theWriteBack, theGoing, theComing, theTaking, theGiving, by-effect}
 use Rattle.board.proofs.Laws.Workers.{condition-other}
 use Rattle.board.proofs.Checkpoint.Acts.{Remains, lineNext, epochNext, headerNext, releaseNext, acts-length, effect-acts, Stepping, step-ready}
 
@@ -70,25 +70,24 @@ unnamed : (i w : ℕ) → eqb i w ≡ false → w ≡ i → ⊥
 unnamed i w e p = eqb-false i w e (sym p)
 
 -- What a taken call does to a worker that it does not name.
-effect-keeps : (k : Call) (b : Board) → b .state .phase ≡ Running → Taken k b → isStart (kind k) ≡ false →
+effect-keeps : {k : Call} → ByEffect k → (b : Board) → b .state .phase ≡ Running → Taken k b → isStart (kind k) ≡ false →
     (k ≡ Step → b .state .place ≡ dirtyCount (b .state) + 2 → ⊥) → (i : ℕ) → names k i ≡ false →
     conditionOf (effect k b .state) i ≡ conditionOf (b .state) i
 unfolding effect
-effect-keeps (FormatStart l w) b e t s o i n = absurd (true≢false s)
-effect-keeps RecoveryStart b e t s o i n = absurd (true≢false s)
-effect-keeps Step b e t s o i n = step-keeps b e t (o refl) i
-effect-keeps (Update w c v) b e t s o i n = condition-other (b .state) w (Updating (firstStore (b .cache) c) c v) i (unnamed i w n)
-effect-keeps (RestartPoint w v) b e t s o i n = condition-other (b .state) w (Updating (firstStore (b .cache) w) w v) i (unnamed i w n)
-effect-keeps (Advance w) b e t s o i n = advances-keep (conditionOf (b .state) w) w b i (unnamed i w n)
-effect-keeps Request b e t s o i n = refl
-effect-keeps (WriteBack l) b e t s o i n = refl
-effect-keeps (Read c) b e t s o i n = refl
-effect-keeps (GoAway w) b e t s o i n = condition-other (b .state) w Away i (unnamed i w n)
-effect-keeps (ComeBack w) b e t s o i n = condition-other (b .state) w Free i (unnamed i w n)
-effect-keeps Count b e t s o i n = refl
-effect-keeps (TakeLock w k) b e t s o i n = refl
-effect-keeps (GiveBackLock w k) b e t s o i n = refl
+effect-keeps (quiet q) b e t s o i n = ap (λ (d : Board). conditionOf (d .state) i) (q .leaves b)
+effect-keeps (theFormat l w) b e t s o i n = absurd (true≢false s)
+effect-keeps theRecovery b e t s o i n = absurd (true≢false s)
+effect-keeps theStep b e t s o i n = step-keeps b e t (o refl) i
+effect-keeps (theUpdate w c v) b e t s o i n = condition-other (b .state) w (Updating (firstStore (b .cache) c) c v) i (unnamed i w n)
+effect-keeps (theRestart w v) b e t s o i n = condition-other (b .state) w (Updating (firstStore (b .cache) w) w v) i (unnamed i w n)
+effect-keeps (theAdvance w) b e t s o i n = advances-keep (conditionOf (b .state) w) w b i (unnamed i w n)
+effect-keeps theRequest b e t s o i n = refl
+effect-keeps (theWriteBack l) b e t s o i n = refl
+effect-keeps (theGoing w) b e t s o i n = condition-other (b .state) w Away i (unnamed i w n)
+effect-keeps (theComing w) b e t s o i n = condition-other (b .state) w Free i (unnamed i w n)
+effect-keeps (theTaking w k) b e t s o i n = refl
+effect-keeps (theGiving w k) b e t s o i n = refl
 
 -- A call leaves the others in their conditions.
 pub others-stay : OthersStay
-others-stay k b e t s o i n = ap (λ (d : Board). conditionOf (d .state) i) (taken-next k b t) ∙ effect-keeps k b e t s o i n
+others-stay k b e t s o i n = ap (λ (d : Board). conditionOf (d .state) i) (taken-next k b t) ∙ effect-keeps (by-effect k) b e t s o i n

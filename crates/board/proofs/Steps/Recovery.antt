@@ -28,13 +28,13 @@ use Rattle.board.specs.Next.{Taken}
 -- ---- what a taken step finds
 
 -- A taken step finds rows of the lengths that the record's L asks.
-step-sizes : (b : Board) → Taken Step b → Lengths (shapeOf (b .state)) (b .memory) (b .cache)
+pub step-sizes : (b : Board) → Taken Step b → Lengths (shapeOf (b .state)) (b .memory) (b .cache)
 unfolding standsAt causes
 step-sizes b t =
     rows-sized (shapeOf (b .state)) b (limits-in (shapeOf (b .state)) (b .state .workers) (record-within (b .state) (passed Step b t 3) .limits) .shape) (passed Step b t 4)
 
 -- A taken step of a recovery is at a cell of the board.
-step-cell : (b : Board) → b .state .phase ≡ Recovering → Taken Step b → b .state .place < cells (shapeOf (b .state))
+pub step-cell : (b : Board) → b .state .phase ≡ Recovering → Taken Step b → b .state .place < cells (shapeOf (b .state))
 unfolding standsAt causes
 step-cell b e t =
     leb-false (cells (shapeOf (b .state))) (b .state .place)

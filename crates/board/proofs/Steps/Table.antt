@@ -1,15 +1,18 @@
 -- The cause table read both ways, and a format's start in plain numbers.
+use Prim.Native.Nat.{ℕ}
 use mathlib.Core.Path.{_≡_, refl, sym, ap, _∙_}
 use mathlib.Core.Logic.{_⊎_, inl, inr, ⊎-elim}
 use mathlib.Core.List.{List, [], _∷_, List·Memᴰ·head, List·Memᴰ·tail, List·Memᴰ·cases-cons, List·Memᴰ·not-nil}
 use mathlib.Core.Bool.{false, cond}
 use Rattle.board.specs.declared.Call.the-variants.{FormatStart}
-use Rattle.board.specs.Board.{shaped}
+use Rattle.board.specs.Board.{Board, shaped}
 use Rattle.board.specs.Causes.{Cause, causes, firstStanding, cause}
-use Rattle.board.specs.Steps.{NoneStands, StandsFirst, TableBothWays, FormatStarts}
+use Rattle.board.specs.Next.{Taken}
+use Rattle.board.specs.Steps.{NoneStands, StandsFirst, TableBothWays, Formattable, FormatStarts}
 use Rattle.predicate.proofs.Bools.{split, chosen, passedOver}
 use Rattle.board.proofs.Invariant.{Lengths}
-use Rattle.board.proofs.Laws.Taken.{Clear, first-clear, table-numbered, take, refused-next, in-shape, in-limits, rows-fine}
+use Rattle.board.proofs.Laws.Taken.{Clear, standsAt, passed, first-clear, table-numbered, take, refused-next, shape-in, in-shape, limits-in, in-limits, rows-fine}
+use Rattle.board.proofs.Format.Board.{start-sizes}
 
 -- ---- no line stands
 
@@ -63,9 +66,26 @@ table-both-ways k b =
 -- ---- format's start
 
 -- Within 01's limits and with rows that fit, a format starts on any board.
-pub format-starts : FormatStarts
+formattable-taken : (l w : ℕ) (b : Board) → Formattable l w b → Taken (FormatStart l w) b
 unfolding Clear causes
-format-starts l w b l1 l511 w1 w8 less memory cache =
-    let shape = in-shape (shaped l) (l1, l511) in
-    let lengths : Lengths (shaped l) (b .memory) (b .cache) = record { limits = shape; memory = record { size = memory }; cache = record { size = cache } } in
-    take (FormatStart l w) b (in-limits (shaped l) w shape w1 w8 less, (rows-fine (shaped l) b lengths, tt))
+formattable-taken l w b f =
+    let shape = in-shape (shaped l) (f .linesWithin) in
+    let workers = f .workersWithin in
+    let lengths : Lengths (shaped l) (b .memory) (b .cache) = record { limits = shape; memory = record { size = f .memory }; cache = record { size = f .cache } } in
+    take (FormatStart l w) b (in-limits (shaped l) w shape (workers .0) (workers .1) (workers .2), (rows-fine (shaped l) b lengths, tt))
+
+-- A format that starts has them.
+taken-formattable : (l w : ℕ) (b : Board) → Taken (FormatStart l w) b → Formattable l w b
+unfolding standsAt causes
+taken-formattable l w b t =
+    let limits = limits-in (shaped l) w (passed (FormatStart l w) b t 1) in
+    let z = start-sizes l w b t in
+    record {
+      linesWithin = shape-in (shaped l) (limits .shape);
+      workersWithin = (limits .some, limits .eight, limits .fewer);
+      memory = z .memory .size;
+      cache = z .cache .size;
+    }
+
+pub format-starts : FormatStarts
+format-starts l w b = (taken-formattable l w b, formattable-taken l w b)

@@ -24,7 +24,7 @@ releases = Workers.releases
 pub last-store : LastStore
 last-store = Workers.last-store
 
--- 5. A call is taken exactly when no row of its table stands, and refused by the first that does; a format within the limits starts.
+-- 5. A call is taken exactly when no line of its table stands, and refused by the first that does; a format within the limits starts.
 pub table-both-ways : TableBothWays
 table-both-ways = Table.table-both-ways
 

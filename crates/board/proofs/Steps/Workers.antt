@@ -8,6 +8,7 @@ use native.Mathlib.Omega.{arith}
 use lib.Dec.{ltb}
 use lib.ListN.{length, length-set}
 use borrow.Author.Tests.{ltb-true, leb-false, lt-ltb}
+use Rattle.board.specs.declared.State.{State}
 use Rattle.board.specs.declared.Condition.{Condition}
 use Rattle.board.specs.declared.Condition.the-variants.{Free, Waiting, Updating, Away}
 use Rattle.board.specs.declared.Store.{Store}
@@ -19,7 +20,7 @@ use Rattle.board.specs.Causes.{causes}
 use Rattle.board.specs.Effects.{performAct, performFirst, stated, afterLast, advance, advanceOf, effect}
 use Rattle.board.specs.Checkpoint.{Act, acts}
 use Rattle.board.specs.Next.{next, Taken}
-use Rattle.board.specs.Steps.{Released, Releases, MustWait, LastStore, OnlyWorker, GoesAway, ComesBack}
+use Rattle.board.specs.Steps.{Released, Releases, MustWait, LastStore, OnlyCondition, OnlyWorker, GoesAway, ComesBack}
 use Rattle.predicate.proofs.Bools.{split, chosen, passedOver, and-left, and-right, and-both, not-off, clash}
 use Rattle.board.proofs.Laws.Taken.{standsAt, passed, taken-next, eight-within}
 use Rattle.board.proofs.Laws.Workers.{condition-at, condition-other, is-away, busy-within, released-away}
@@ -76,11 +77,11 @@ last-condition w c v b e t =
 
 module _ (b : Board) (c : ℕ) where
   -- Where the test of the last store holds, the worker must wait.
-  must : ltb c (b .state .workers) && b .state .requested ≡ true → MustWait c b
+  pub must : ltb c (b .state .workers) && b .state .requested ≡ true → MustWait c b
   must t = (ltb-true c (b .state .workers) (and-left (ltb c (b .state .workers)) (b .state .requested) t), and-right (ltb c (b .state .workers)) (b .state .requested) t)
 
   -- Where the worker must wait, the test holds.
-  must-test : MustWait c b → ltb c (b .state .workers) && b .state .requested ≡ true
+  pub must-test : MustWait c b → ltb c (b .state .workers) && b .state .requested ≡ true
   must-test m = and-both (ltb c (b .state .workers)) (b .state .requested) (lt-ltb c (b .state .workers) (m .0)) (m .1)
 
   -- The condition after the last store, by that test.
@@ -99,25 +100,26 @@ last-store w c v b e t =
 
 -- ---- going away and coming back
 
--- A worker put in another condition, and nothing else.
-only-worker : (w : ℕ) (condition : Condition) (b : Board) → w < length (b .state .worker) →
-    OnlyWorker w condition b (stated (conditioned (b .state) w condition) b)
-only-worker w condition b h =
+-- A worker put in another condition, and nothing else of the record but the dirty lines.
+pub only-condition : (w : ℕ) (condition : Condition) (s : State) → w < length (s .worker) → OnlyCondition w condition s (conditioned s w condition)
+only-condition w condition s h =
     record {
-      worker = condition-at (b .state) w condition h;
-      others = λ i o. condition-other (b .state) w condition i (λ e. o (sym e));
-      eight = length-set (b .state .worker) w (record { condition = condition });
+      worker = condition-at s w condition h;
+      others = λ i o. condition-other s w condition i (λ e. o (sym e));
+      eight = length-set (s .worker) w (record { condition = condition });
       phase = refl;
       lines = refl;
       workers = refl;
       holders = refl;
-      dirty = refl;
       place = refl;
       undo = refl;
       request = refl;
-      memory = refl;
-      cache = refl;
     }
+
+-- A worker put in another condition, and nothing else.
+pub only-worker : (w : ℕ) (condition : Condition) (b : Board) → w < length (b .state .worker) →
+    OnlyWorker w condition b (stated (conditioned (b .state) w condition) b)
+only-worker w condition b h = record { conditions = only-condition w condition (b .state) h; dirty = refl; memory = refl; cache = refl }
 
 -- A worker that goes away is away, and nothing else has changed.
 pub goes-away : GoesAway

@@ -130,13 +130,15 @@ misfits b =
 abbrev pub outsides : Board → List Board
 outsides b = limits 0 1 b ∷ limits 512 1 b ∷ limits 1 0 b ∷ limits 5 9 b ∷ limits 1 2 b ∷ []
 
--- Every fault of a running record (1, 1), cause 4 standing too: a bit of line 0; of line L + 1; place n+3 with a request, n being 0 and 1; cell 2L in an update of a worker under W; locks 0 and 15 held by worker W; the limits.
+-- Every fault of a running record (1, 1), cause 4 standing too: a bit of line 0; of line L + 1; place n+3 with a request, n being 0 and 1; cell 2L in an
+-- update of a worker under W, worker 0 of one and worker 1 of two; locks 0 and 15 held by worker W; the limits.
 abbrev pub badRecords : List Board
 badRecords =
     let b = shortCache (sound Running 1 1) in
-    setting 0 b ∷ setting 2 b ∷ placedAt 3 (requested b) ∷ setting 1 (placedAt 4 (requested b)) ∷ updating 0 2 b ∷ locking 0 1 b ∷ locking 15 1 b ∷ outsides b
+    setting 0 b ∷ setting 2 b ∷ placedAt 3 (requested b) ∷ setting 1 (placedAt 4 (requested b)) ∷ updating 0 2 b ∷ updating 1 4 (shortCache (sound Running 2 2)) ∷ locking 0 1 b ∷ locking 15 1 b ∷ outsides b
 
--- Running boards (1, 1) with a record just within and no request: W = 2L − 1; the bit of line L; a place past everything; worker 1, from W on, with an update of cell 2L.
+-- Running boards (1, 1) with a record just within and no request: W = 2L − 1; the bit of line L; a place past everything; worker 1, from W on, with an
+-- update of cell 2L.
 abbrev pub quietEdges : List Board
 quietEdges =
     sound Running 1 1

@@ -189,9 +189,15 @@ backRecord =
 abbrev pub backRows : List Case
 backRows = givesOn 4 (WriteBack 2) (misfits (sound Running 1 1) ++ misfits (sound Recovering 1 1))
 
--- Cause 7, "line over L", in both phases, and the largest number.
+-- Cause 7, "line over L", in both phases, at L = 2 too, where L + 1 is not 2L; and the largest number.
 abbrev pub backLine : List Case
-backLine = gives 7 (WriteBack 2) (sound Running 1 1) ∷ gives 7 (WriteBack 2) (sound Recovering 1 1) ∷ gives 7 (WriteBack (2 ^ 64 - 1)) (sound Running 1 1) ∷ []
+backLine =
+    gives 7 (WriteBack 2) (sound Running 1 1)
+    ∷ gives 7 (WriteBack 2) (sound Recovering 1 1)
+    ∷ gives 7 (WriteBack 3) (sound Running 2 2)
+    ∷ gives 7 (WriteBack 3) (sound Recovering 2 2)
+    ∷ gives 7 (WriteBack (2 ^ 64 - 1)) (sound Running 1 1)
+    ∷ []
 
 -- Taken: line L in both phases, and at cell 2L − 1 of a recovery; line 511; a line with a cell in an update; line 0 in a recovery and on the records just within.
 abbrev pub backTaken : List Case
@@ -209,9 +215,10 @@ backTaken =
 abbrev pub readFirst : List Case
 readFirst = firstThree (Read 2) (sound Running 1 1)
 
--- Cause 7: "read of 2L or more".
+-- Cause 7: "read of 2L or more", at L = 1 and 2.
 abbrev pub readCell : List Case
-readCell = gives 7 (Read 2) (sound Running 1 1) ∷ gives 7 (Read (2 ^ 64 - 1)) (sound Running 1 1) ∷ []
+readCell =
+    gives 7 (Read 2) (sound Running 1 1) ∷ gives 7 (Read 4) (sound Running 2 2) ∷ gives 7 (Read (2 ^ 64 - 1)) (sound Running 1 1) ∷ []
 
 -- "read value 0": a cell whose record is 9 in the cache, the read turned down by 2, 3 and 4; taken, it gives 9.
 abbrev pub readValue : List Case

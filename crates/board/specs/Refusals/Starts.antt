@@ -129,17 +129,19 @@ stepPhase = gives 2 Step (straying (shortCache (sound Off 1 1))) ∷ gives 2 Ste
 abbrev pub stepRecord : List Case
 stepRecord = givesOn 3 Step (placedAt 3 (spent (ready 1 1)) ∷ badRecords)
 
--- Cause 3 in a format, while 4 stands: place L + 2, a bit of line L + 1, cell 2L in an update, the limits.
+-- Cause 3 in a format, while 4 stands: place L + 2, at L = 1 and 2, a bit of line L + 1, cell 2L in an update, of worker 1 too, the limits.
 abbrev pub stepRecordInFormat : List Case
 stepRecordInFormat =
     let b = shortCache (sound Formatting 1 1) in
-    givesOn 3 Step (placedAt 3 b ∷ setting 2 b ∷ updating 0 2 b ∷ outsides b)
+    let c = shortCache (sound Formatting 2 2) in
+    givesOn 3 Step (placedAt 3 b ∷ placedAt 4 c ∷ setting 2 b ∷ setting 3 c ∷ updating 0 2 b ∷ updating 1 4 c ∷ outsides b)
 
--- Cause 3 in a recovery, while 4 stands: cell 2L, a bit of line L + 1, cell 2L in an update, the limits.
+-- Cause 3 in a recovery, while 4 stands: cell 2L, at L = 1 and 2, a bit of line L + 1, cell 2L in an update, of worker 1 too, the limits.
 abbrev pub stepRecordInRecovery : List Case
 stepRecordInRecovery =
     let b = shortCache (sound Recovering 1 1) in
-    givesOn 3 Step (placedAt 2 b ∷ setting 2 b ∷ updating 0 2 b ∷ outsides b)
+    let c = shortCache (sound Recovering 2 2) in
+    givesOn 3 Step (placedAt 2 b ∷ placedAt 4 c ∷ setting 2 b ∷ setting 3 c ∷ updating 0 2 b ∷ updating 1 4 c ∷ outsides b)
 
 -- Taken: place L + 1 in a format, cell 2L − 1 in a recovery, place n+2 when running with a request (n 0 and 1); the bit of line L; cell 2L − 1 in an update.
 abbrev pub stepRecordTaken : List Case
@@ -197,7 +199,8 @@ stepReadyTaken =
 abbrev pub stepEpoch : List Case
 stepEpoch = gives 11 Step (spent (ready 1 1)) ∷ gives 11 Step (setting 1 (placedAt 1 (spent (ready 1 1)))) ∷ []
 
--- Taken: epoch 2^64 − 2 there; that epoch in memory alone; at a line, at places n+1 and n+2, and in a format or recovery, though the place is n and a request stands.
+-- Taken: epoch 2^64 − 2 there; that epoch in memory alone; at a line, at places n+1 and n+2, and in a format or recovery, though the place is n and a
+-- request stands.
 abbrev pub stepEpochTaken : List Case
 stepEpochTaken =
     gives 0 Step (epoch (2 ^ 64 - 2) (ready 1 1))

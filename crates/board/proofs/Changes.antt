@@ -1,0 +1,5 @@
+-- The proofs of `specs/Changes.antt`: exactly what every taken call changes, on any board. Start at `Theorems`.
+pub mod Rows
+pub mod Workers
+pub mod Steps
+pub mod Theorems
