@@ -1,14 +1,14 @@
 //! Why a call is turned down: the table of 01, tested in rising order of number, and what 02 adds to it: 14 directly
 //! after 5, 15 after 7, and after 8 first 13, then 16.
 
-use crate::bits;
 use crate::board::{Condition, Lent, Phase, State};
 use crate::call::Call;
 use crate::effects::writes;
-use crate::line::{cells, row_words, sizes_allowed, LINE_WORDS};
-use crate::locks::{holder_astray, holds, holds_any, lock_of, LOCKS, NOBODY};
+use crate::line::{cells, sizes_allowed, LINE_WORDS};
+use crate::locks::{holds, holds_any, lock_of, LOCKS, NOBODY};
 use crate::mistake::Mistake;
-use crate::page::page_bytes;
+use crate::page::{page_bytes, page_lines};
+use crate::sound::{record_sound, rows_fit};
 
 /// The number of the first cause that holds, 0 for a call that is taken.
 pub fn cause(call: &Call, state: &State, rows: &Lent, mistake: Option<Mistake>) -> u8 {
@@ -251,10 +251,20 @@ fn write_back_cause(line: u64, state: &State, rows: &Lent, mistake: Option<Mista
     if common != 0 {
         return common;
     }
-    if line > state.lines as u64 {
+    if line > last_line(state, mistake) || (line == 3 && mistake == Some(Mistake::WriteBackNot3)) {
         return 7;
     }
     0
+}
+
+/// "line over L": the last line that a write-back takes.
+fn last_line(state: &State, mistake: Option<Mistake>) -> u64 {
+    let lines = state.lines as u64;
+    if mistake == Some(Mistake::WriteBackTo2L) {
+        lines.max(cells(lines) - 1)
+    } else {
+        lines
+    }
 }
 
 /// "read of 2L or more" is 7.
@@ -263,7 +273,9 @@ fn read_cause(cell: u64, state: &State, rows: &Lent, mistake: Option<Mistake>) -
     if common != 0 {
         return common;
     }
-    if cell >= cells(state.lines as u64) {
+    let lines = state.lines as u64;
+    let limit = if mistake == Some(Mistake::ReadTo2LSquared) { cells(lines * lines) } else { cells(lines) };
+    if cell >= limit {
         return 7;
     }
     0
@@ -271,7 +283,7 @@ fn read_cause(cell: u64, state: &State, rows: &Lent, mistake: Option<Mistake>) -
 
 /// "12 where the row is too short, checked last"
 fn page_cause(room: u64, state: &State, rows: &Lent, mistake: Option<Mistake>) -> u8 {
-    let short = room < page_bytes(state.lines as u64);
+    let short = room < page_bytes(page_lines(state, rows, mistake));
     match running_cause(state, rows, mistake) {
         0 if short => 12,
         4 if short && mistake == Some(Mistake::PageTextFirst) => 12,
@@ -348,47 +360,4 @@ fn record_and_rows_cause(state: &State, rows: &Lent, mistake: Option<Mistake>) -
         return 4;
     }
     0
-}
-
-/// Cause 3, turned round.
-fn record_sound(state: &State, mistake: Option<Mistake>) -> bool {
-    let lines = state.lines as u64;
-    if !sizes_allowed(lines, state.workers as u64) {
-        return false;
-    }
-    if bit_astray(state, mistake) {
-        return false;
-    }
-    if holder_astray(&state.holders, state.workers) && mistake != Some(Mistake::HolderW) {
-        return false;
-    }
-    let place = state.place as u64;
-    let placed = match state.phase {
-        Phase::Off => true,
-        Phase::Formatting => place <= lines + 1,
-        Phase::Recovering => place < cells(lines),
-        Phase::Running => !state.requested || place <= u64::from(writes(state, mistake)) + 2,
-    };
-    placed
-        && state.active_workers().iter().all(|condition| match condition {
-            Condition::Updating(update) => (update.cell as u64) < cells(lines),
-            _ => true,
-        })
-}
-
-/// "A bit set for line 0 or past L"
-fn bit_astray(state: &State, mistake: Option<Mistake>) -> bool {
-    let of_line_0 = state.line_bits[0] & 1 == 1;
-    let (last, lines) = (bits::last(&state.line_bits).unwrap_or(0), state.lines as usize);
-    match mistake {
-        Some(Mistake::BitOfLine0Passes) => last > lines,
-        Some(Mistake::BitsPastLPass) => of_line_0,
-        Some(Mistake::BitOfLastLineRefused) => of_line_0 || last >= lines,
-        _ => of_line_0 || last > lines,
-    }
-}
-
-/// "cache or memory not 8×(L+1) words", turned round
-fn rows_fit(lines: u64, rows: &Lent) -> bool {
-    rows.memory.len() as u64 == row_words(lines) && rows.cache.len() as u64 == row_words(lines)
 }

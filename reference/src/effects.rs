@@ -27,8 +27,8 @@ pub fn take(call: &Call, state: &mut State, rows: &mut Rows, mistake: Option<Mis
             state.requested = true;
             state.reset_place();
         }
-        Call::WriteBack { line } => write_back(line as usize, rows, mistake),
-        Call::Read { cell } => return rows.cache[record_at(cell as usize)],
+        Call::WriteBack { line } => write_back_call(line as usize, rows, mistake),
+        Call::Read { cell } => return rows.cache.get(record_at(cell as usize)).copied().unwrap_or(0),
         Call::Page { .. } => {}
         Call::GoAway { worker } => state.worker[worker as usize] = Condition::Away,
         Call::ComeBack { worker } => state.worker[worker as usize] = back(mistake),
@@ -45,6 +45,14 @@ fn back(mistake: Option<Mistake>) -> Condition {
         Condition::Waiting
     } else {
         Condition::Free
+    }
+}
+
+/// A write-back as a call of its own; the line is there on every board but a mistaken one.
+fn write_back_call(line: usize, rows: &mut Rows, mistake: Option<Mistake>) {
+    let there = line_words(line).end <= rows.memory.len();
+    if there && !(line > 1 && mistake == Some(Mistake::WriteBackPast1)) {
+        write_back(line, rows, mistake);
     }
 }
 
@@ -67,9 +75,22 @@ fn format_step(state: &mut State, rows: &mut Rows, mistake: Option<Mistake>) {
     }
     if place <= lines {
         state.place += 1;
+        spoil_undo(state, [Mistake::FormatSpoilsUndo, Mistake::FormatResetsUndo], mistake);
+        if mistake == Some(Mistake::FormatSetsBit) && place > 0 {
+            bits::set(&mut state.line_bits, place as usize);
+        }
     } else {
         state.line_bits = NO_LINES;
         run(state, true);
+    }
+}
+
+/// The other steps leave a recovery's step as it was: the first mistake spoils it, the second resets it.
+fn spoil_undo(state: &mut State, [spoils, resets]: [Mistake; 2], mistake: Option<Mistake>) {
+    match mistake {
+        Some(made) if made == spoils => state.undo = UndoStep::Mark,
+        Some(made) if made == resets => state.undo = UndoStep::Record,
+        _ => {}
     }
 }
 
@@ -123,7 +144,10 @@ fn recovery_step(state: &mut State, rows: &mut Rows, mistake: Option<Mistake>) {
     }
     let cell = state.place as usize;
     match state.undo {
-        UndoStep::Record if rows.cache[mark_at(cell)] != rows.cache[0] => pass_cell(state, mistake),
+        UndoStep::Record if rows.cache[mark_at(cell)] != rows.cache[0] => {
+            spoil_unlogged(cell, rows, mistake);
+            pass_cell(state, mistake);
+        }
         UndoStep::Record => {
             undo_store(cell, mistake == Some(Mistake::RecoveryMarkFirst), rows, mistake);
             state.undo = UndoStep::Mark;
@@ -141,10 +165,21 @@ fn recovery_step(state: &mut State, rows: &mut Rows, mistake: Option<Mistake>) {
     }
 }
 
+/// "one step that stores nothing", and what mistaken recoveries do in it.
+fn spoil_unlogged(cell: usize, rows: &mut Rows, mistake: Option<Mistake>) {
+    match mistake {
+        Some(Mistake::RecoveryDropsMarks) => rows.cache[mark_at(cell)] = 0,
+        Some(Mistake::RecoveryWritesAll) => write_back(line_of(cell), rows, mistake),
+        _ => {}
+    }
+}
+
 /// "record := backup; mark := 0": one of the two.
 fn undo_store(cell: usize, of_mark: bool, rows: &mut Rows, mistake: Option<Mistake>) {
     if !of_mark {
         rows.cache[record_at(cell)] = rows.cache[backup_at(cell)];
+    } else if mistake == Some(Mistake::RecoveryMarksEarlier) {
+        rows.cache[mark_at(cell)] = rows.cache[0].wrapping_sub(1);
     } else if mistake != Some(Mistake::RecoveryKeepsMarks) {
         rows.cache[mark_at(cell)] = 0;
     }
@@ -171,7 +206,11 @@ fn pass_cell(state: &mut State, mistake: Option<Mistake>) {
 /// The start of an update or restart point: one advance if the mark equals the cache's epoch, else three.
 fn begin(worker: u64, cell: u64, value: u64, state: &mut State, rows: &mut Rows, mistake: Option<Mistake>) {
     let first = if mistake == Some(Mistake::MarkFirst) { Store::Mark } else { Store::Backup };
-    let logged = rows.cache[mark_at(cell as usize)] == rows.cache[0];
+    let (mark, epoch) = (rows.cache[mark_at(cell as usize)], rows.cache[0]);
+    let logged = mark == epoch || (mark > epoch && mistake == Some(Mistake::LaterMarkLogged));
+    if !logged && mistake == Some(Mistake::BackupAtStart) {
+        rows.cache[backup_at(cell as usize)] = rows.cache[record_at(cell as usize)];
+    }
     let next = if logged { Store::Record } else { first };
     state.worker[worker as usize] = Condition::Updating(Update { cell: cell as u16, value, next });
 }
@@ -182,6 +221,9 @@ fn advance(worker: usize, state: &mut State, rows: &mut Rows, mistake: Option<Mi
         return;
     };
     let cell = update.cell as usize;
+    if mistake == Some(Mistake::Cause3Worker0) && mark_at(cell) >= rows.cache.len() {
+        return;
+    }
     let mark_first = mistake == Some(Mistake::MarkFirst);
     let next = match update.next {
         Store::Backup => {
@@ -203,6 +245,18 @@ fn advance(worker: usize, state: &mut State, rows: &mut Rows, mistake: Option<Mi
         None if state.requested && update.cell < state.workers as u16 => Condition::Waiting,
         None => Condition::Free,
     };
+    spoil_advance(update, state, mistake);
+}
+
+/// What mistaken advances change besides.
+fn spoil_advance(update: Update, state: &mut State, mistake: Option<Mistake>) {
+    let first_of_data = update.next == Store::Backup && update.cell >= state.workers as u16;
+    match mistake {
+        Some(Mistake::StoreDropsRequest) if first_of_data => state.requested = false,
+        Some(Mistake::AdvanceMovesPlace) if !state.requested => state.place = state.place.wrapping_add(1),
+        Some(Mistake::AdvanceSpoilsUndo) => state.undo = UndoStep::Mark,
+        _ => {}
+    }
 }
 
 /// "Marking a cell now promises its line's bit too."
@@ -265,10 +319,12 @@ fn act_at(place: u16, n: u16, mistake: Option<Mistake>) -> Act {
 fn checkpoint_step(state: &mut State, rows: &mut Rows, mistake: Option<Mistake>) {
     let act = act_at(state.place, writes(state, mistake), mistake);
     state.place += 1;
+    spoil_undo(state, [Mistake::CheckpointSpoilsUndo, Mistake::CheckpointResetsUndo], mistake);
     match act {
         Act::WriteSet(before) => write_set_line(before, state, rows, mistake),
         Act::StoreEpoch => {
-            rows.cache[0] = rows.cache[0].wrapping_add(1);
+            let epoch = if mistake == Some(Mistake::EpochOfMemory) { rows.memory[0] } else { rows.cache[0] };
+            rows.cache[0] = epoch.wrapping_add(1);
             if mistake == Some(Mistake::BitsClearedEarly) {
                 state.line_bits = NO_LINES;
             }

@@ -25,5 +25,6 @@ pub mod reached;
 pub mod record;
 pub mod say;
 pub mod script;
+mod sound;
 pub mod text;
 mod work;

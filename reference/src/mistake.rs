@@ -1,6 +1,7 @@
 //! Boards that are wrong on purpose, or begin beside a wrong machine, so that `explore` can show that it catches them.
 
-/// A mistake or a useless board of 01, or a mistake with a ticket of 02, by the name it has on the command line.
+/// A mistake or a useless board of 01, a mistake with a ticket of 02, or one in what a call takes and changes, by the
+/// name it has on the command line.
 #[derive(Clone, Copy, PartialEq, Eq, Debug)]
 pub enum Mistake {
     /// "Mark before backup"
@@ -131,10 +132,58 @@ pub enum Mistake {
     AwayUnderLock,
     /// A holder W or more is no cause.
     HolderW,
+    /// A page refused by 2, 3 or 4 is written where it has room.
+    PageRefusedWritten,
+    /// A page shows memory's cells.
+    PageOfMemory,
+    /// A page's marks are compared mod 2^63.
+    PageMarksMod63,
+    /// A write-back of the lines L+1 to 2L-1 answers 0 and copies nothing.
+    WriteBackTo2L,
+    /// A write-back of a line past 1 copies nothing.
+    WriteBackPast1,
+    /// Every write-back of line 3 is refused by 7.
+    WriteBackNot3,
+    /// Recovery sets a mark to the epoch before in place of 0.
+    RecoveryMarksEarlier,
+    /// Recovery sets the mark of a cell that is not logged to 0.
+    RecoveryDropsMarks,
+    /// An update's start stores the backup of a cell that is not logged.
+    BackupAtStart,
+    /// The backup's store of a data cell's update drops a standing request.
+    StoreDropsRequest,
+    /// An advance moves the place while no request stands.
+    AdvanceMovesPlace,
+    /// A format's step leaves garbage in recovery's step.
+    FormatSpoilsUndo,
+    /// A checkpoint's step leaves garbage in recovery's step.
+    CheckpointSpoilsUndo,
+    /// An advance leaves garbage in recovery's step.
+    AdvanceSpoilsUndo,
+    /// In the middle of a format a step sets its line's bit.
+    FormatSetsBit,
+    /// A read's limit is 2L^2, which at L = 1 is the same.
+    ReadTo2LSquared,
+    /// A format's place up to 2L is no cause.
+    FormatPlaceTo2L,
+    /// Cause 3 looks at worker 0's update alone.
+    Cause3Worker0,
+    /// An update takes a mark past the epoch for a logged cell's.
+    LaterMarkLogged,
+    /// The epoch's store takes memory's epoch plus 1.
+    EpochOfMemory,
+    /// Recovery writes back the line of a cell that is not logged.
+    RecoveryWritesAll,
+    /// A format's step resets recovery's step.
+    FormatResetsUndo,
+    /// A checkpoint's step resets recovery's step.
+    CheckpointResetsUndo,
+    /// A page is sized by the L of the cache's header.
+    PageByHeader,
 }
 
 /// Every mistake with its name and a few words.
-pub const MISTAKES: [(&str, Mistake, &str); 64] = [
+pub const MISTAKES: [(&str, Mistake, &str); 88] = [
     ("mark-first", Mistake::MarkFirst, "an update stores the mark before the backup"),
     ("recovery-mark-first", Mistake::RecoveryMarkFirst, "recovery clears a mark before it restores the record"),
     ("recovery-cache-only", Mistake::RecoveryCacheOnly, "recovered lines are not written back"),
@@ -199,6 +248,30 @@ pub const MISTAKES: [(&str, Mistake, &str); 64] = [
     ("restart-under-lock", Mistake::RestartUnderLock, "a restart point is taken under a lock"),
     ("away-under-lock", Mistake::AwayUnderLock, "a worker goes away under a lock"),
     ("holder-w", Mistake::HolderW, "a holder W or more is no cause"),
+    ("page-refused-written", Mistake::PageRefusedWritten, "a page refused by 2, 3 or 4 is written"),
+    ("page-of-memory", Mistake::PageOfMemory, "a page shows memory, not the cache"),
+    ("page-marks-mod-63", Mistake::PageMarksMod63, "a page orders marks mod 2^63"),
+    ("write-back-to-2l", Mistake::WriteBackTo2L, "a write-back of the lines L+1 to 2L-1 answers 0"),
+    ("write-back-past-1", Mistake::WriteBackPast1, "a write-back of a line past 1 copies nothing"),
+    ("write-back-not-3", Mistake::WriteBackNot3, "every write-back of line 3 is refused by 7"),
+    ("recovery-marks-earlier", Mistake::RecoveryMarksEarlier, "recovery sets a mark to epoch - 1 in place of 0"),
+    ("recovery-drops-marks", Mistake::RecoveryDropsMarks, "recovery drops the marks of cells that are not logged"),
+    ("backup-at-start", Mistake::BackupAtStart, "an update's start stores the backup"),
+    ("store-drops-request", Mistake::StoreDropsRequest, "the first of a data update's three stores drops a request"),
+    ("advance-moves-place", Mistake::AdvanceMovesPlace, "an advance moves the place while no request stands"),
+    ("format-spoils-undo", Mistake::FormatSpoilsUndo, "a format's step leaves garbage in recovery's step"),
+    ("checkpoint-spoils-undo", Mistake::CheckpointSpoilsUndo, "a checkpoint's step leaves garbage in recovery's step"),
+    ("advance-spoils-undo", Mistake::AdvanceSpoilsUndo, "an advance leaves garbage in recovery's step"),
+    ("format-sets-bit", Mistake::FormatSetsBit, "in the middle of a format a line's bit is set"),
+    ("read-to-2l-squared", Mistake::ReadTo2LSquared, "a read's limit is 2L^2"),
+    ("format-place-to-2l", Mistake::FormatPlaceTo2L, "a format's place up to 2L is no cause"),
+    ("cause-3-worker-0", Mistake::Cause3Worker0, "cause 3 looks only at worker 0's update"),
+    ("later-mark-logged", Mistake::LaterMarkLogged, "an update takes a mark past the epoch for logged"),
+    ("epoch-of-memory", Mistake::EpochOfMemory, "the epoch's store takes memory's epoch"),
+    ("recovery-writes-all", Mistake::RecoveryWritesAll, "recovery writes back the lines of cells that are not logged"),
+    ("format-resets-undo", Mistake::FormatResetsUndo, "a format's step resets recovery's step"),
+    ("checkpoint-resets-undo", Mistake::CheckpointResetsUndo, "a checkpoint's step resets recovery's step"),
+    ("page-by-header", Mistake::PageByHeader, "a page is sized by the cache's header"),
 ];
 
 impl Mistake {

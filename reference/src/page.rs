@@ -8,7 +8,7 @@ use crate::board::{Board, Lent, State};
 use crate::call::Call;
 use crate::causes::cause;
 use crate::drill::Drill;
-use crate::line::{backup_at, cells, mark_at, record_at, MOST_LINES};
+use crate::line::{backup_at, cells, mark_at, record_at, row_words, MOST_LINES};
 use crate::mistake::Mistake;
 use crate::program::answer;
 use crate::text::{next_line, MOST_BYTES};
@@ -30,12 +30,34 @@ pub fn page_bytes(lines: u64) -> u64 {
 /// A page at the start of a lent text row: refused with its cause and every byte left as it was, or taken.
 pub fn page(state: &State, rows: &Lent, text: &mut [u8], mistake: Option<Mistake>) -> u8 {
     let number = cause(&Call::Page { room: text.len() as u64 }, state, rows, mistake);
+    let lines = page_lines(state, rows, mistake).min(state.lines.into());
     if number == 0 {
-        write_page(cells(state.lines.into()) as usize, rows.cache, text, mistake);
-    } else if mistake == Some(Mistake::PageRefusedWrites) {
-        text.iter_mut().take(1).for_each(|byte| *byte = b' ');
+        let shown = if mistake == Some(Mistake::PageOfMemory) { rows.memory } else { rows.cache };
+        write_page(cells(lines) as usize, shown, text, mistake);
+    } else {
+        write_refused(number, lines, rows.cache, text, mistake);
     }
     number
+}
+
+/// What a mistaken board leaves in the text row of a refused page.
+fn write_refused(number: u8, lines: u64, cache: &[u64], text: &mut [u8], mistake: Option<Mistake>) {
+    let fits = text.len() as u64 >= page_bytes(lines) && cache.len() as u64 >= row_words(lines);
+    match mistake {
+        Some(Mistake::PageRefusedWrites) => text.iter_mut().take(1).for_each(|byte| *byte = b' '),
+        Some(Mistake::PageRefusedWritten) if (2..=4).contains(&number) && fits => {
+            write_page(cells(lines) as usize, cache, text, mistake);
+        }
+        _ => {}
+    }
+}
+
+/// The L that a page is sized by: the state record's.
+pub fn page_lines(state: &State, rows: &Lent, mistake: Option<Mistake>) -> u64 {
+    match mistake {
+        Some(Mistake::PageByHeader) => rows.cache.get(1).map_or(0, |lines| (*lines).min(MOST_LINES)),
+        _ => state.lines.into(),
+    }
 }
 
 impl Board {
@@ -68,10 +90,10 @@ fn newest_first(cells: usize, cache: &[u64], mistake: Option<Mistake>) -> Vec<(u
     if mistake == Some(Mistake::PageFallingCells) {
         marks.reverse();
     }
-    if mistake == Some(Mistake::PageOlderFirst) {
-        marks.sort_by_key(|(mark, _)| *mark);
-    } else {
-        marks.sort_by_key(|(mark, _)| Reverse(*mark));
+    match mistake {
+        Some(Mistake::PageOlderFirst) => marks.sort_by_key(|(mark, _)| *mark),
+        Some(Mistake::PageMarksMod63) => marks.sort_by_key(|(mark, _)| Reverse(*mark << 1)),
+        _ => marks.sort_by_key(|(mark, _)| Reverse(*mark)),
     }
     marks
 }

@@ -10,40 +10,40 @@ use reference::explore::{exhaustive, explore, Options};
 use reference::mistake::{Mistake, MISTAKES};
 
 /// Each mistake with the checks that must each catch it when made alone.
-const CATCHERS: [(Mistake, &[Check]); 64] = [
-    (Mistake::MarkFirst, &[Outcome, Recovery, TwoBoards, Invariant]),
-    (Mistake::RecoveryMarkFirst, &[Outcome, Recovery, TwoBoards, Invariant]),
-    (Mistake::RecoveryCacheOnly, &[Outcome, Recovery, TwoBoards, Invariant]),
-    (Mistake::RecoveryKeepsMarks, &[Outcome, Reads, Recovery, Invariant]),
-    (Mistake::EarlyRelease, &[Causes, Outcome, Recovery, Completion, Invariant, Foretold, Lines, Bits]),
-    (Mistake::RecoveryZeros, &[Outcome, Reads, Recovery, TwoBoards, Stores, Invariant]),
-    (Mistake::FormatAtOnce, &[Outcome, Stores, Invariant]),
-    (Mistake::RecoveryAtOnce, &[Outcome, Stores, Progress]),
-    (Mistake::CompleteEarly, &[Outcome, Recovery, Completion, Invariant, Lines]),
-    (Mistake::WriteBackNothing, &[Outcome, Recovery, Completion, Stores, Invariant, Lines]),
+const CATCHERS: [(Mistake, &[Check]); 88] = [
+    (Mistake::MarkFirst, &[Outcome, Recovery, TwoBoards, Invariant, Changes]),
+    (Mistake::RecoveryMarkFirst, &[Outcome, Recovery, TwoBoards, Invariant, Changes]),
+    (Mistake::RecoveryCacheOnly, &[Outcome, Recovery, TwoBoards, Invariant, Changes]),
+    (Mistake::RecoveryKeepsMarks, &[Outcome, Reads, Recovery, Invariant, Changes]),
+    (Mistake::EarlyRelease, &[Causes, Outcome, Recovery, Completion, Invariant, Foretold, Lines, Bits, Changes]),
+    (Mistake::RecoveryZeros, &[Outcome, Reads, Recovery, TwoBoards, Stores, Invariant, Changes]),
+    (Mistake::FormatAtOnce, &[Outcome, Stores, Invariant, Changes]),
+    (Mistake::RecoveryAtOnce, &[Outcome, Stores, Progress, Changes]),
+    (Mistake::CompleteEarly, &[Outcome, Recovery, Completion, Invariant, Lines, Changes]),
+    (Mistake::WriteBackNothing, &[Outcome, Recovery, Completion, Stores, Invariant, Lines, Changes]),
     (Mistake::RefuseAll, &[Causes, Progress]),
     (Mistake::NoCause9, &[Causes]),
-    (Mistake::MarkWithoutBit, &[Outcome, Reads, Recovery, Completion, TwoBoards, Invariant, Bits]),
-    (Mistake::PageFallingCells, &[Page]),
-    (Mistake::PageOlderFirst, &[Page]),
-    (Mistake::PageSwapped, &[Page]),
-    (Mistake::PageNarrow, &[Page]),
+    (Mistake::MarkWithoutBit, &[Outcome, Reads, Recovery, Completion, TwoBoards, Invariant, Bits, Changes]),
+    (Mistake::PageFallingCells, &[Page, Changes]),
+    (Mistake::PageOlderFirst, &[Page, Changes]),
+    (Mistake::PageSwapped, &[Page, Changes]),
+    (Mistake::PageNarrow, &[Page, Changes]),
     (Mistake::PageTextFirst, &[Causes, Page]),
-    (Mistake::PagePastEnd, &[Page]),
-    (Mistake::PageRefusedWrites, &[Page]),
-    (Mistake::PageLastCellMissing, &[Page]),
+    (Mistake::PagePastEnd, &[Page, Changes]),
+    (Mistake::PageRefusedWrites, &[Page, Changes]),
+    (Mistake::PageLastCellMissing, &[Page, Changes]),
     (Mistake::NoCause13, &[Causes, Reads, Recovery, Completion, TwoBoards, Progress, Invariant, Away, Bits]),
     (Mistake::Cause13Unrequested, &[Causes]),
     (Mistake::Cause13AtRequest, &[Causes]),
     (Mistake::Cause13First, &[Causes]),
-    (Mistake::ReleaseFreesAway, &[Outcome, Away]),
+    (Mistake::ReleaseFreesAway, &[Outcome, Away, Changes]),
     (Mistake::AwayNotWaiting, &[Causes, Progress]),
     (
         Mistake::AwayUpdates,
         &[Causes, Reads, Recovery, Completion, TwoBoards, Progress, Invariant, Away, Foretold, Lines, Bits],
     ),
-    (Mistake::BackWaits, &[Outcome, Invariant, Away]),
-    (Mistake::RecoveryLeavesAway, &[Outcome, Away]),
+    (Mistake::BackWaits, &[Outcome, Invariant, Away, Changes]),
+    (Mistake::RecoveryLeavesAway, &[Outcome, Away, Changes]),
     (Mistake::WaitingComesBack, &[Causes, Away]),
     (Mistake::WaitingGoesAway, &[Causes, Away]),
     (Mistake::NoCause14, &[Causes, Reads, Recovery, TwoBoards, Invariant, Bits]),
@@ -51,35 +51,41 @@ const CATCHERS: [(Mistake, &[Check]); 64] = [
     (Mistake::Cause14ByCache, &[Causes, Reads, Recovery, TwoBoards, Progress, Invariant, Bits]),
     (Mistake::Cause14LastCell, &[Causes, Reads, Recovery, TwoBoards, Invariant, Bits]),
     (Mistake::Cause14First, &[Causes, Progress]),
-    (Mistake::RecoveryClearsSpare, &[Outcome, Stores]),
+    (Mistake::RecoveryClearsSpare, &[Outcome, Stores, Changes]),
     (Mistake::BeginWithRecords, &[Reads, Recovery, TwoBoards, Invariant]),
-    (Mistake::BitsKept, &[Outcome, Reads, Recovery, Completion, TwoBoards, Invariant, Bits]),
-    (Mistake::RecoveryKeepsBits, &[Outcome, Recovery, Completion, TwoBoards, Progress, Invariant, Bits]),
+    (Mistake::BitsKept, &[Outcome, Reads, Recovery, Completion, TwoBoards, Invariant, Bits, Changes]),
+    (
+        Mistake::RecoveryKeepsBits,
+        &[Outcome, Recovery, Completion, TwoBoards, Progress, Invariant, Bits, Changes, Answers],
+    ),
     (
         Mistake::BitsClearedEarly,
-        &[Outcome, Reads, Recovery, Completion, TwoBoards, Progress, Invariant, Away, Foretold, Lines, Bits],
+        &[
+            Outcome, Reads, Recovery, Completion, TwoBoards, Progress, Invariant, Away, Foretold, Lines, Bits, Changes,
+            Answers,
+        ],
     ),
     (
         Mistake::LineTwice,
         &[
             Causes, Outcome, Reads, Recovery, Completion, TwoBoards, Progress, Invariant, Page, Away, Foretold, Lines,
-            Bits,
+            Bits, Changes,
         ],
     ),
     (
         Mistake::ReleaseWithHeader,
-        &[Outcome, Reads, Recovery, Completion, TwoBoards, Progress, Invariant, Away, Foretold, Bits],
+        &[Outcome, Reads, Recovery, Completion, TwoBoards, Progress, Invariant, Away, Foretold, Bits, Changes],
     ),
-    (Mistake::HighestFirst, &[Outcome, Invariant, Lines]),
-    (Mistake::BitOfCell, &[Outcome, Reads, Recovery, Completion, TwoBoards, Invariant, Bits]),
-    (Mistake::SevenWords, &[Causes, Outcome, Count, Lines]),
+    (Mistake::HighestFirst, &[Outcome, Invariant, Lines, Changes]),
+    (Mistake::BitOfCell, &[Outcome, Reads, Recovery, Completion, TwoBoards, Invariant, Bits, Changes, Answers]),
+    (Mistake::SevenWords, &[Causes, Outcome, Count, Lines, Changes]),
     (Mistake::CountShort, &[Count, Foretold]),
     (Mistake::CountRefused, &[Causes, Count]),
-    (Mistake::BitOfLastLineRefused, &[Causes, Page]),
+    (Mistake::BitOfLastLineRefused, &[Causes, Page, Answers]),
     (Mistake::BitOfLine0Passes, &[Causes, Page, Count]),
     (Mistake::BitsPastLPass, &[Causes, Page, Count]),
     (Mistake::NoLockAtUpdate, &[Causes, Recovery, TwoBoards, Invariant, Held]),
-    (Mistake::LocksKept, &[Outcome, Progress, Holders, Held]),
+    (Mistake::LocksKept, &[Outcome, Progress, Holders, Held, Changes, Answers]),
     (Mistake::LockMod8, &[Causes, Held]),
     (Mistake::AnyHolder, &[Causes, Held, Conflict]),
     (Mistake::GiveBackMidUpdate, &[Causes, Held, Conflict]),
@@ -90,6 +96,30 @@ const CATCHERS: [(Mistake, &[Check]); 64] = [
     (Mistake::RestartUnderLock, &[Causes, Held]),
     (Mistake::AwayUnderLock, &[Causes, Held]),
     (Mistake::HolderW, &[Causes, Page]),
+    (Mistake::PageRefusedWritten, &[Page, Changes]),
+    (Mistake::PageOfMemory, &[Page, Changes]),
+    (Mistake::PageMarksMod63, &[Page, Changes]),
+    (Mistake::WriteBackTo2L, &[Causes, Answers]),
+    (Mistake::WriteBackPast1, &[Outcome, Stores, Changes]),
+    (Mistake::WriteBackNot3, &[Causes, Answers]),
+    (Mistake::RecoveryMarksEarlier, &[Outcome, Changes]),
+    (Mistake::RecoveryDropsMarks, &[Outcome, Changes]),
+    (Mistake::BackupAtStart, &[Outcome, Changes]),
+    (Mistake::StoreDropsRequest, &[Outcome, Invariant, Changes]),
+    (Mistake::AdvanceMovesPlace, &[Outcome, Invariant, Changes]),
+    (Mistake::FormatSpoilsUndo, &[Outcome, Changes]),
+    (Mistake::CheckpointSpoilsUndo, &[Outcome, Changes]),
+    (Mistake::AdvanceSpoilsUndo, &[Outcome, Changes]),
+    (Mistake::FormatSetsBit, &[Outcome, Bits, Changes]),
+    (Mistake::ReadTo2LSquared, &[Causes, Reads, Answers]),
+    (Mistake::FormatPlaceTo2L, &[Causes, Outcome, Changes]),
+    (Mistake::Cause3Worker0, &[Causes, Page]),
+    (Mistake::LaterMarkLogged, &[Outcome, Changes]),
+    (Mistake::EpochOfMemory, &[Outcome, Changes]),
+    (Mistake::RecoveryWritesAll, &[Outcome, Changes]),
+    (Mistake::FormatResetsUndo, &[Outcome, Changes]),
+    (Mistake::CheckpointResetsUndo, &[Outcome, Changes]),
+    (Mistake::PageByHeader, &[Causes, Page, Changes]),
 ];
 
 /// The check that so many calls on a mistaken board violate.
@@ -138,9 +168,29 @@ const HIDDEN: [Mistake; 12] = [
     Mistake::HolderW,
 ];
 
+/// Mistakes that need more than the smallest board as well: a mark of 2^63 or more, a line past 1, a limit that is
+/// another one at L = 2, a second worker, or a record or rows that no call makes. That it shows none of them is not
+/// tried, for the time it takes.
+const LARGER: [Mistake; 13] = [
+    Mistake::PageMarksMod63,
+    Mistake::WriteBackTo2L,
+    Mistake::WriteBackPast1,
+    Mistake::WriteBackNot3,
+    Mistake::ReadTo2LSquared,
+    Mistake::FormatPlaceTo2L,
+    Mistake::Cause3Worker0,
+    Mistake::LaterMarkLogged,
+    Mistake::EpochOfMemory,
+    Mistake::RecoveryWritesAll,
+    Mistake::FormatResetsUndo,
+    Mistake::CheckpointResetsUndo,
+    Mistake::PageByHeader,
+];
+
 #[test]
 fn the_smallest_board_shows_every_other_mistake() {
-    for (name, mistake, _) in MISTAKES.iter().filter(|(_, mistake, _)| !HIDDEN.contains(mistake)) {
+    let hidden = |mistake: &Mistake| HIDDEN.contains(mistake) || LARGER.contains(mistake);
+    for (name, mistake, _) in MISTAKES.iter().filter(|(_, mistake, _)| !hidden(mistake)) {
         assert!(exhaustive::exhaust(Some(*mistake), None).is_err(), "{name}");
     }
 }

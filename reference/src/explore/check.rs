@@ -39,10 +39,14 @@ pub enum Check {
     Held,
     /// Ticket 6: from a taken start on no call is answered by 9.
     Conflict,
+    /// What each taken call changes on any board, each field and word, and nothing else; a page's text row.
+    Changes,
+    /// With no cut since the last taken start a write-back is taken exactly to line L, a read exactly below cell 2L.
+    Answers,
 }
 
 /// Every check with its name and a few words.
-pub const CHECKS: [(&str, Check, &str); 18] = [
+pub const CHECKS: [(&str, Check, &str); 20] = [
     ("causes", Check::Causes, "the table of causes; a refused call leaves all as it was"),
     ("outcome", Check::Outcome, "the complete outcome of a taken call"),
     ("reads", Check::Reads, "a taken read gives the machine's current value"),
@@ -65,6 +69,8 @@ pub const CHECKS: [(&str, Check, &str); 18] = [
         "who updates a data cell holds its lock; who waits, is away or at a restart point holds none",
     ),
     ("conflict", Check::Conflict, "from a taken start on no call is answered by 9"),
+    ("changes", Check::Changes, "what a taken call changes, each field and word, and nothing else; a page's text row"),
+    ("answers", Check::Answers, "a write-back is taken exactly to line L, a read exactly below cell 2L"),
 ];
 
 impl Check {

@@ -268,6 +268,26 @@ pub fn spoil_words(random: &Random, board: &mut Board) {
     }
 }
 
+/// Now and then more damage, and the call that meets it: another L or W in the cache's header, where no call looks for
+/// them, or a step of a format or recovery at a place about the limits of both.
+pub fn damage_more(random: &Random, board: &mut Board, call: Call) -> Call {
+    match random.below(16) {
+        0 => {
+            let sizes = board.cache.get_mut(1..3).unwrap_or(&mut []);
+            sizes.iter_mut().for_each(|size| *size = random.pick(&[0, 1, 2, 3, 8, 511, random.word()]));
+            call
+        }
+        1 => {
+            let lines = u64::from(board.state.lines);
+            board.state.phase = random.pick(&[Phase::Formatting, Phase::Recovering]);
+            board.state.place =
+                random.pick(&[lines, lines + 1, lines + 2, 2 * lines, random.below(2 * lines + 2)]) as u16;
+            Call::Step
+        }
+        _ => call,
+    }
+}
+
 /// Any call, its arguments about their limits.
 pub fn call(random: &Random, state: &State) -> Call {
     let (lines, workers) = (state.lines as u64, state.workers as u64);

@@ -1,10 +1,13 @@
 //! `explore`: random sequences of calls and cuts, the board beside the simple machine, every statement checked.
 
+mod answers;
 mod away;
 mod bits;
+mod changes;
 pub mod check;
 mod choose;
 mod count;
+mod differs;
 pub mod exhaustive;
 pub mod foreign;
 pub(crate) mod garbage;
@@ -64,6 +67,8 @@ const MOST_REFUSED: u64 = 50;
 /// An exploration under way.
 struct Explorer {
     random: Random,
+    /// Chooses what further damages made-up boards, and moves no sequence.
+    aside: Random,
     checks: Checks,
     mistake: Option<Mistake>,
     tally: Tally,
@@ -78,6 +83,7 @@ struct Explorer {
 pub fn explore(options: &Options) -> Result<Tally, Caught> {
     let mut explorer = Explorer {
         random: Random::new(options.seed),
+        aside: Random::new(!options.seed),
         checks: Checks { only: options.only },
         mistake: options.mistake,
         tally: Tally::default(),
@@ -245,6 +251,7 @@ impl Explorer {
     fn probe(&mut self) -> Result<(), Violation> {
         garbage::board(&self.random, &mut self.scratch);
         let call = garbage::call(&self.random, &self.scratch.state);
+        let call = garbage::damage_more(&self.aside, &mut self.scratch, call);
         self.probe_call(&call)
     }
 

@@ -103,7 +103,7 @@ impl Told<'_> {
         let (state, cache) = (&self.board.state, &self.board.cache);
         if let Some(Update { cell, value, next }) = self.advanced() {
             return Some(match next {
-                Store::Backup => (at(cell, 1), cache[at(cell, 0)]),
+                Store::Backup => (at(cell, 1), cache.get(at(cell, 0)).copied().unwrap_or(0)),
                 Store::Mark => (at(cell, 2), cache[0]),
                 Store::Record => (at(cell, 0), value),
             });

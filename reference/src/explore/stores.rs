@@ -20,7 +20,8 @@ pub fn rows_changed(call: &Call, before: &Board, after: &Board) -> Finding {
     match *call {
         Call::WriteBack { line } => {
             let words = line_words(line as usize);
-            ensure(after.memory[words.clone()] == after.cache[words], || format!("line {line} was not written back"))
+            let alike = after.memory.get(words.clone()) == after.cache.get(words);
+            ensure(alike, || format!("line {line} was not written back"))
         }
         _ => Ok(()),
     }

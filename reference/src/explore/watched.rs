@@ -3,7 +3,7 @@
 use super::check::{ensure, Check, Checks, Finding, Violation};
 use super::count::{self, Foretold};
 use super::promise::{Finished, Promise};
-use super::{away, bits, foreign, invariant, locks, outcome, page, stores, table};
+use super::{answers, away, bits, changes, differs, foreign, invariant, locks, outcome, page, stores, table};
 use crate::board::{Board, Phase};
 use crate::call::{Answer, Call};
 use crate::line::{cells, header, LINE_WORDS};
@@ -41,6 +41,8 @@ pub struct Watched {
     pub foretold: Option<Foretold>,
     before: Board,
     values_before: Vec<Value>,
+    /// How many taken events there were, by which lines and cells are chosen that are asked about.
+    turn: u64,
 }
 
 impl Watched {
@@ -61,7 +63,7 @@ impl Watched {
     fn new(board: Board, machine: Machine, cut: bool, checks: Checks) -> Watched {
         let (before, values_before, spare) = (board.clone(), machine.values.clone(), stores::spare(&board.memory));
         let promise = Promise::default();
-        Watched { board, machine, promise, cut, checks, spare, foretold: None, before, values_before }
+        Watched { board, machine, promise, cut, checks, spare, foretold: None, before, values_before, turn: 0 }
     }
 
     /// The board's L, which it keeps.
@@ -82,6 +84,7 @@ impl Watched {
         answered(self.checks, call, &self.before, &self.board, answer)?;
         if !self.cut {
             self.checks.run(Check::Conflict, || locks::no_conflict(call, answer.number))?;
+            self.checks.run(Check::Answers, || answers::of_call(call, &self.before, answer.number))?;
         }
         if answer.number != 0 {
             let owed = *call == Call::Step && !self.cut && self.promise.owes_step(&self.before);
@@ -100,6 +103,8 @@ impl Watched {
             self.erase_spare(self.before.state.place as usize);
         }
         self.after_event(format_step)?;
+        self.turn += 1;
+        self.checks.run(Check::Answers, || answers::of_board(&self.board, self.turn))?;
         Ok(Done { answer, finished, foretold })
     }
 
@@ -167,9 +172,9 @@ impl Watched {
     /// What holds after a taken call.
     fn after_taken(&mut self, call: &Call, answer: Answer, finished: Option<Finished>) -> Result<(), Violation> {
         if let Call::Read { cell } = *call {
-            let current = self.machine.values[cell as usize].current;
-            let text = || format!("cell {cell} reads {}, current is {current}", answer.value);
-            self.checks.run(Check::Reads, || ensure(answer.value == current, text))?;
+            let current = self.machine.values.get(cell as usize).map(|value| value.current);
+            let text = || format!("cell {cell} reads {}, current is {current:?}", answer.value);
+            self.checks.run(Check::Reads, || ensure(Some(answer.value) == current, text))?;
         }
         if *call == Call::Step {
             self.checks.run(Check::Progress, || self.promise.kept(&self.board))?;
@@ -240,6 +245,7 @@ pub fn answered(checks: Checks, call: &Call, before: &Board, after: &Board, answ
     })?;
     if let Call::Page { room } = *call {
         checks.run(Check::Page, || page::judged(before, room))?;
+        checks.run(Check::Changes, || differs::text_row(before, room))?;
     }
     if *call == Call::Count {
         checks.run(Check::Count, || count::judged(before, answer))?;
@@ -250,6 +256,7 @@ pub fn answered(checks: Checks, call: &Call, before: &Board, after: &Board, answ
     checks.run(Check::Stores, || stores::rows_changed(call, before, after))?;
     checks.run(Check::Away, || away::after_call(call, before, after))?;
     checks.run(Check::Holders, || locks::after_call(call, before, after))?;
+    checks.run(Check::Changes, || changes::named_alone(call, before, after))?;
     checks.run(Check::Outcome, || outcome::complete(call, before, after))
 }
 
