@@ -144,7 +144,7 @@ pub record StoreDone (i v w : ℕ) (condition : Condition) (b b′ : Board) : Ty
 abbrev pub SameDirty : Board → Board → Type 0
 SameDirty b b′ = b′ .state .dirty ≡ b .state .dirty
 
--- "backup := record; mark := epoch; record := value", 02: "Marking a cell now promises its line's bit too": the store that is next, and the worker's
+-- "backup := record; mark := epoch, .. record := value", 02: "Marking a cell now promises its line's bit too": the store that is next, and the worker's
 -- condition after it.
 abbrev pub StoreMade : Store → ℕ → ℕ → ℕ → Board → Board → Type 0
 StoreMade Backup w c v b b′ = StoreDone (backupWord c) (getD (b .cache) (recordWord c) 0) w (Updating Mark c v) b b′ × SameDirty b b′
@@ -190,7 +190,7 @@ pub record EightOfEach (s : State) : Type 0 where
   pub worker : length (s .worker) ≡ 8
   pub words : length (s .dirty) ≡ 8
 
--- "Each taken call changes state and lines store by store": on any board, whatever its record and rows, a taken call changes what is said above, and nothing
+-- Demand 2, store by store: on any board, whatever its record and rows, a taken call changes what is said above, and nothing
 -- else.
 abbrev pub EachCallChanges : Type 0
 EachCallChanges = (k : Call) (b : Board) → EightOfEach (b .state) → Taken k b → Changes k b (next k b)

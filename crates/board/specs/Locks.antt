@@ -62,8 +62,8 @@ pub record StrayHolder (s : State) : Type 0 where
   pub past : s .workers ≤ worker
   pub held : holds (s .holders) worker lock ≡ true
 
--- A phase lets a call pass, by its kind: "the step call needs a phase other than off, write-back recovering or running, .. All else needs running"; the
--- starts are let pass by each.
+-- A phase lets a call pass, by its kind: "Write-back needs recovering or running. The step call needs a phase other than off. All else needs running."
+-- "Starts of format and recovery are taken in each phase".
 abbrev pub allows : Phase → Kind → Bool
 allows p startsFormat = true
 allows p startsRecovery = true
@@ -125,7 +125,7 @@ pub record OnlyHolders (b b′ : Board) : Type 0 where
 abbrev pub OthersHeld : ℕ → Board → Board → Type 0
 OthersHeld k b b′ = (w j : ℕ) → j < 16 → (j ≡ k → ⊥) → holds (b′ .state .holders) w j ≡ holds (b .state .holders) w j
 
--- "A free worker takes a free lock": it was free, this worker holds it, and nothing else has changed.
+-- "A free worker, else 8, takes a free lock": it was free, this worker holds it, and nothing else has changed.
 abbrev pub TakesLock : Type 0
 TakesLock =
     (w k : ℕ) (b : Board) → Taken (TakeLock w k) b →

@@ -57,7 +57,7 @@ pub record OnlyCell (c : ℕ) (b b′ : Board) : Type 0 where
   pub memorySize : length (b′ .memory) ≡ length (b .memory)
   pub place : b′ .state .phase ≡ Recovering → (b′ .state .place ≡ c) ⊎ (b′ .state .place ≡ c + 1)
 
--- "cells from 0 up: a cell whose mark equals the epoch takes three steps (record := backup; mark := 0; its line written back), any other one step that stores nothing": no step goes beyond the cell at its place.
+-- "cells from 0 up: a cell whose mark equals the epoch takes three steps (record := backup; mark := 0; its line written back), any other, .., one step that stores nothing": no step goes beyond the cell at its place.
 abbrev pub RecoveryWrites : Type 0
 RecoveryWrites = (b : Board) → b .state .phase ≡ Recovering → Taken Step b → OnlyCell (b .state .place) b (next Step b)
 
