@@ -1,29 +1,47 @@
 -- A line's end: what is written for it, and that 80 bytes of it are enough.
 use Prim.Native.Nat.{ℕ, _+_, _≤_}
-use mathlib.Core.Path.{_≡_, sym, ap, subst, _∙_}
+use mathlib.Core.Path.{_≡_, refl, sym, ap, subst, _∙_}
+use mathlib.Core.Bool.{Bool, true}
 use mathlib.Core.List.{List, [], _++_}
 use native.Mathlib.Omega.{arith}
+use lib.Dec.{eqb}
 use lib.ListN.{length, take, getD}
 use lib.Seq.{getD-take}
+use Rattle.predicate.proofs.Bools.{on, chosen, passedOver}
 use Rattle.board.specs.Board.{Board}
 use Rattle.script.specs.declared.Line.{Line}
 use Rattle.script.specs.Grammar.{meaning}
+use Rattle.script.specs.declared.Reason.{Reason}
+use Rattle.script.specs.declared.Shown.{Shown}
+use Rattle.script.specs.declared.Shown.the-variants as shown
 use Rattle.script.specs.Answers.{answerText, letterOf}
+use Rattle.script.specs.Reasons.{reason, reasonNumber}
 use Rattle.text.specs.Writing.{Put}
 use Rattle.script.proofs.NumberLaws.{meaning-kept}
+use Rattle.script.proofs.ReasonLaws.{reason-kept}
 use Rattle.text.proofs.Writing.{put-front}
 use Rattle.script.specs.declared.Program.{Program}
 use Rattle.console.specs.declared.answers.LineAsked.{LineAsked}
+use Rattle.console.specs.declared.answers.Misread.{Misread}
 use Rattle.console.specs.declared.answers.Ongoing.{Ongoing}
 use Rattle.session.specs.declared.Session.{Session}
 use Rattle.session.specs.Session.{Within}
 use Rattle.session.specs.Lines.{Done, carriedOut}
-use Rattle.console.specs.Transcript.{following, lineText}
+use Rattle.console.specs.Transcript.{following, lineText, misread, noted}
 use Rattle.console.specs.Pieces.{Carried, carried, Fed, leaving, ended, afterLine, Ready, LineRead, LineEnds}
 
 -- ---- what is written
 
-module _ (program : Program) (b : Board) (n : ℕ) (text : List ℕ) (number letter : ℕ) (k : Line) (d : Done) (counts : number ≡ following n) (means : k ≡ meaning program text) (did : d ≡ carriedOut k b) where
+-- What is noted does not go by the reason where a line was noted before.
+noted-why : (m : Misread) (number : ℕ) (w v : ℕ) (a : Shown) → (eqb (m .lines) 0 ≡ true → w ≡ v) → noted m number w a ≡ noted m number v a
+noted-why m number w v shown.Unknown same =
+    on (λ (x : Misread). x ≡ noted m number v shown.Unknown) (eqb (m .lines) 0) (misread 1 number w) (misread (following (m .lines)) (m .first) (m .why))
+    (λ t. ap (misread 1 number) (same t) ∙ sym (chosen (eqb (m .lines) 0) _ _ t))
+    (λ t. sym (passedOver (eqb (m .lines) 0) _ _ t))
+noted-why m number w v shown.Nothing same = refl
+noted-why m number w v (shown.Number x) same = refl
+
+module _ (program : Program) (b : Board) (n : ℕ) (m : Misread) (text : List ℕ) (number letter : ℕ) (k : Line) (why : ℕ) (d : Done) (counts : number ≡ following n) (means : k ≡ meaning program text) (reasons : eqb (m .lines) 0 ≡ true → why ≡ reasonNumber (reason program text (meaning program text))) (did : d ≡ carriedOut k b) where
   -- The text of an answer whose parts are the line's.
   line-text : letter ≡ letterOf (getD text 0 0) (d .answer) → answerText number letter (d .answer) (d .value) ≡ lineText program (following n) b text
   line-text heads =
@@ -32,15 +50,18 @@ module _ (program : Program) (b : Board) (n : ℕ) (text : List ℕ) (number let
       ∙ ap (λ (x : Done). answerText (following n) (letterOf (getD text 0 0) (x .answer)) (x .answer) (x .value)) (did ∙ ap (λ (x : Line). carriedOut x b) means)
 
   -- What a line leaves.
-  line-leaves : carried (d .board) number [] ≡ ended program (carried b n text) .after
+  line-leaves : carried (d .board) number (noted m number why (d .answer)) [] ≡ ended program (carried b n m text) .after
   line-leaves =
-      ap (λ (x : Board). carried x number []) (ap (λ (x : Done). x .board) did ∙ ap (λ (x : Line). carriedOut x b .board) means)
-      ∙ ap (λ (x : ℕ). carried (carriedOut (meaning program text) b .board) x []) counts
+      let same : d ≡ carriedOut (meaning program text) b = did ∙ ap (λ (x : Line). carriedOut x b) means in
+      ap (λ (x : Done). carried (x .board) number (noted m number why (x .answer)) []) same
+      ∙ ap (λ (x : ℕ). carried (carriedOut (meaning program text) b .board) x (noted m x why (carriedOut (meaning program text) b .answer)) []) counts
+      ∙ ap (λ (x : Misread). carried (carriedOut (meaning program text) b .board) (following n) x [])
+      (noted-why m (following n) why (reasonNumber (reason program text (meaning program text))) (carriedOut (meaning program text) b .answer) reasons)
 
   -- A line's end, once its answer is written behind the others.
   pub line-ends : letter ≡ letterOf (getD text 0 0) (d .answer) → {out written : List ℕ} {at end : ℕ} →
       Put out at (answerText number letter (d .answer) (d .value)) written end → end ≤ at + 65 → at + 80 ≤ length out →
-      LineEnds (ended program (carried b n text)) (carried (d .board) number []) out at written end
+      LineEnds (ended program (carried b n m text)) (carried (d .board) number (noted m number why (d .answer)) []) out at written end
   line-ends heads {out} {written} {at} {end} puts short room =
       record {
         leaves = line-leaves;
@@ -50,18 +71,33 @@ module _ (program : Program) (b : Board) (n : ℕ) (text : List ℕ) (number let
 
 -- ---- 80 bytes of a line
 
+-- A line's reason by its first 80 bytes.
+reason-of-kept : (program : Program) (text : List ℕ) →
+    reasonNumber (reason program (take 80 text) (meaning program (take 80 text))) ≡ reasonNumber (reason program text (meaning program text))
+reason-of-kept program text =
+    ap (λ (r : Reason). reasonNumber r) (reason-kept program text (meaning program (take 80 text)) ∙ ap (λ (k : Line). reason program text k) (meaning-kept program text))
+
 -- A line is read by its first 80 bytes.
-pub reads-kept : {program : Program} {text : List ℕ} {asked : LineAsked} → LineRead program text asked → LineRead program (take 80 text) asked
-reads-kept {program} {text} {asked} r =
-    record { means = r .means ∙ sym (meaning-kept program text); begins = r .begins ∙ sym (getD-take 80 text 0 0 (omega arith)) }
+pub reads-kept : {program : Program} {wanted : Bool} {text : List ℕ} {asked : LineAsked} → LineRead program wanted text asked →
+    LineRead program wanted (take 80 text) asked
+reads-kept {program} {wanted} {text} {asked} r =
+    record {
+      means = r .means ∙ sym (meaning-kept program text);
+      begins = r .begins ∙ sym (getD-take 80 text 0 0 (omega arith));
+      reasons = λ t. r .reasons t ∙ sym (reason-of-kept program text);
+    }
 
 -- A line's end by its first 80 bytes.
-pub ended-kept : (program : Program) (b : Board) (n : ℕ) (text : List ℕ) → ended program (carried b n (take 80 text)) ≡ ended program (carried b n text)
-ended-kept program b n text =
-    let end : ℕ → Done → Fed = λ letter d. leaving (carried (d .board) (following n) []) (answerText (following n) letter (d .answer) (d .value)) in
+pub ended-kept : (program : Program) (b : Board) (n : ℕ) (m : Misread) (text : List ℕ) →
+    ended program (carried b n m (take 80 text)) ≡ ended program (carried b n m text)
+ended-kept program b n m text =
+    let end : ℕ → ℕ → Done → Fed =
+    λ letter why d. leaving (carried (d .board) (following n) (noted m (following n) why (d .answer)) []) (answerText (following n) letter (d .answer) (d .value)) in
     let d = carriedOut (meaning program text) b in
-    ap (λ (k : Line). end (letterOf (getD (take 80 text) 0 0) (carriedOut k b .answer)) (carriedOut k b)) (meaning-kept program text)
-    ∙ ap (λ (first : ℕ). end (letterOf first (d .answer)) d) (getD-take 80 text 0 0 (omega arith))
+    let why = reasonNumber (reason program text (meaning program text)) in
+    ap (λ (k : Line). end (letterOf (getD (take 80 text) 0 0) (carriedOut k b .answer)) (reasonNumber (reason program (take 80 text) (meaning program (take 80 text)))) (carriedOut k b)) (meaning-kept program text)
+    ∙ ap (λ (r : ℕ). end (letterOf (getD (take 80 text) 0 0) (d .answer)) r d) (reason-of-kept program text)
+    ∙ ap (λ (first : ℕ). end (letterOf first (d .answer)) why d) (getD-take 80 text 0 0 (omega arith))
 
 -- A line's end that leaves the same by another name.
 pub ends-as : {should : Fed} {after other : Carried} {out written : List ℕ} {at end : ℕ} → LineEnds should after out at written end → after ≡ other →
@@ -69,5 +105,5 @@ pub ends-as : {should : Fed} {after other : Carried} {out written : List ℕ} {a
 ends-as {should} {after} {other} {out} {written} {at} {end} e same = subst (λ (x : Carried). LineEnds should x out at written end) same e
 
 -- After a line the code is ready for the next.
-pub ready-after : {p : Ongoing} (s : Session) (n : ℕ) → p ≡ afterLine s n → Within s → Ready p
-ready-after s n e fits = subst Ready (sym e) (record { session-within = fits; line-within = omega arith })
+pub ready-after : {p : Ongoing} (s : Session) (n : ℕ) (m : Misread) → p ≡ afterLine s n m → Within s → Ready p
+ready-after s n m e fits = subst Ready (sym e) (record { session-within = fits; line-within = omega arith })

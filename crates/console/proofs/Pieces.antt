@@ -13,6 +13,7 @@ use Rattle.bytes.specs.Bytes.{indexOf, indexAfter}
 use Rattle.text.specs.Ascii.{feed}
 use Rattle.script.specs.declared.Program.{Program}
 use Rattle.session.specs.declared.Session.{Session}
+use Rattle.console.specs.declared.answers.Misread.{Misread}
 use Rattle.console.specs.declared.answers.Ongoing.{Ongoing}
 use Rattle.session.specs.Session.{boardOf}
 use Rattle.console.specs.Pieces.{Carried, carried, Fed, leaving, kept, ended, byteFed, andThen, fed, finished, carriedBy, Ready, LineEnds, Stops}
@@ -28,7 +29,7 @@ take-again (suc n) (a ∷ u) z = ap (λ (l : List ℕ). a ∷ l) (take-again n u
 -- Bytes kept one after the other.
 kept-kept : (p : Carried) (x y : List ℕ) → kept (kept p x) y ≡ kept p (x ++ y)
 kept-kept p x y =
-    ap (carried (p .board) (p .number)) (take-again 80 (p .begun ++ x) y ∙ ap (take 80) (append-assoc (p .begun) x y))
+    ap (carried (p .board) (p .number) (p .misread)) (take-again 80 (p .begun ++ x) y ∙ ap (take 80) (append-assoc (p .begun) x y))
 
 -- At most 80 bytes are kept of a line that goes on.
 kept-short : (p : Carried) (x : List ℕ) → length (kept p x .begun) ≤ 80
@@ -36,7 +37,7 @@ kept-short p x = omega (arith, length-take 80 (p .begun ++ x))
 
 -- No bytes more.
 pub kept-none : (p : Carried) → length (p .begun) ≤ 80 → kept p [] ≡ p
-kept-none p h = ap (carried (p .board) (p .number)) (ap (take 80) (append-nil (p .begun)) ∙ take-all 80 (p .begun) h)
+kept-none p h = ap (carried (p .board) (p .number) (p .misread)) (ap (take 80) (append-nil (p .begun)) ∙ take-all 80 (p .begun) h)
 
 -- ---- pieces
 
@@ -144,12 +145,13 @@ used-more program first reached after piece used more so-far fits e =
 
 -- What is carried once more bytes of a line are kept.
 pub kept-by : (k p : Ongoing) (m c line after rest : List ℕ) →
-    (k .session ≡ p .session) × (k .number ≡ p .number) × (take (k .begun) after ≡ take 80 (take (p .begun) line ++ rest)) →
+    (k .session ≡ p .session) × (k .number ≡ p .number) × (k .misread ≡ p .misread) × (take (k .begun) after ≡ take 80 (take (p .begun) line ++ rest)) →
     carriedBy k m c after ≡ kept (carriedBy p m c line) rest
 kept-by k p m c line after rest w =
-    ap (λ (s : Session). carried (boardOf s m c) (k .number) (take (k .begun) after)) (w .0)
-    ∙ ap (λ (n : ℕ). carried (boardOf (p .session) m c) n (take (k .begun) after)) (w .1)
-    ∙ ap (carried (boardOf (p .session) m c) (p .number)) (w .2)
+    ap (λ (s : Session). carried (boardOf s m c) (k .number) (k .misread) (take (k .begun) after)) (w .0)
+    ∙ ap (λ (n : ℕ). carried (boardOf (p .session) m c) n (k .misread) (take (k .begun) after)) (w .1)
+    ∙ ap (λ (x : Misread). carried (boardOf (p .session) m c) (p .number) x (take (k .begun) after)) (w .2)
+    ∙ ap (carried (boardOf (p .session) m c) (p .number) (p .misread)) (w .3)
 
 -- At most 80 bytes are kept.
 pub begun-short : {p : Ongoing} → Ready p → (line : List ℕ) → length (take (p .begun) line) ≤ 80

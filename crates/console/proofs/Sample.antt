@@ -1,4 +1,4 @@
--- Document 01's sample script, with the locks of document 02, ticket 6, and bench case K12, computed.
+-- Document 01's sample script, with the locks of document 02, ticket 6, bench case K12, and lines that are no calls, computed.
 use Prim.Native.Nat.{ℕ}
 use mathlib.Core.Path.{_≡_, refl}
 use mathlib.Core.List.{List, [], _∷_, _++_, flatten}
@@ -12,12 +12,15 @@ use Rattle.board.specs.Causes.{badRecord, causes, firstStanding, cause}
 use Rattle.board.specs.Effects.{formatStep, recoveryStep, performAct, performFirst, step, advance, advanceOf, effect}
 use Rattle.board.specs.Next.{next, valueRead, valueOf}
 use Rattle.board.specs.Statements.{stepsFrom}
-use Rattle.text.specs.Ascii.{tab, feed, '-', '0', 'A', 'E', 'F', 'G', 'H', 'R', 'S', 'U', 'V', 'X'}
+use Rattle.text.specs.Ascii.{tab, feed, blank, '-', '0', 'A', 'E', 'F', 'G', 'H', 'R', 'S', 'U', 'V', 'X', 'p'}
 use Rattle.text.specs.Numbers.{spelled, allDigits, valueAfter}
-use Rattle.script.specs.Grammar.{fields, isNumber, allNumbers, drilled, formed, meaning}
+use Rattle.script.specs.Grammar.{fields, isNumber, allNumbers, drilled, damaging, formed, meaning}
 use Rattle.script.specs.Answers.{answerText, headerText}
-use Rattle.script.specs.declared.Program.the-variants.{Drill}
-use Rattle.console.specs.Transcript.{linesOf, answers, transcript}
+use Rattle.script.specs.Fields.{first, later}
+use Rattle.script.specs.Reasons.{has, unlettered, fieldReason, fieldsReason, formReason, unknownReason, reasonNumber}
+use Rattle.script.specs.declared.Program.the-variants.{Drill, Fault, Page}
+use Rattle.script.specs.declared.Reason.the-variants.{Blanks, Letter, Unfit}
+use Rattle.console.specs.Transcript.{linesOf, answers, transcript, misread, noneMisread, misreadAfter, misreadIn}
 
 -- The digits beside '0' that the script and its answers have.
 abbrev '1' : ℕ
@@ -100,3 +103,15 @@ sample = refl
 pub k12 : transcript Drill (format ++ ('U' ∷ tab ∷ '0' ∷ tab ∷ '0' ∷ tab ∷ '7' ∷ feed ∷ []) ++ ('U' ∷ tab ∷ '0' ∷ tab ∷ '2' ∷ tab ∷ '7' ∷ feed ∷ [])) ≡ headerText ++ ('1' ∷ tab ∷ 'F' ∷ tab ∷ '0' ∷ tab ∷ '-' ∷ feed ∷ []) ++ ('2' ∷ tab ∷ 'U' ∷ tab ∷ '7' ∷ tab ∷ '-' ∷ feed ∷ []) ++ ('3' ∷ tab ∷ 'U' ∷ tab ∷ '7' ∷ tab ∷ '-' ∷ feed ∷ [])
 unfolding linesOf answers fields allDigits valueAfter isNumber allNumbers drilled formed meaning spelled answerText next valueOf valueRead stepsFrom cause causes firstStanding badRecord anyUnder bitOf withBit contains inserted strays digitOf unheld holds holdsAny heldFrom withDigit effect step formatStep recoveryStep acts numbersUnder performAct performFirst storesEpoch advance advanceOf lineOf withLine fieldIndex fieldOf withField
 k12 = refl
+
+-- "p 99999", with a tab for the blank: the fault program has no such room.
+abbrev roomy : List ℕ
+roomy = 'p' ∷ tab ∷ '9' ∷ '9' ∷ '9' ∷ '9' ∷ '9' ∷ []
+
+-- "S", then "A 0" with a blank and an empty line: what is told is of line 2. Then the line above, in the drill, which has no such letter, and in the fault program.
+abbrev wrong : List ℕ
+wrong = 'S' ∷ feed ∷ 'A' ∷ blank ∷ '0' ∷ feed ∷ feed ∷ roomy
+
+pub sample-misread : misreadIn Drill wrong ∷ misreadIn Drill roomy ∷ misreadIn Fault roomy ∷ misreadIn Page ('S' ∷ []) ∷ [] ≡ misread 3 2 (reasonNumber Blanks) ∷ misread 1 1 (reasonNumber Letter) ∷ misread 1 1 (reasonNumber Unfit) ∷ noneMisread ∷ []
+unfolding linesOf misreadAfter fields allDigits valueAfter isNumber allNumbers drilled damaging formed meaning first later has unlettered fieldReason fieldsReason formReason unknownReason next cause causes firstStanding
+sample-misread = refl

@@ -1,7 +1,7 @@
 -- An input that comes in pieces: what a piece leaves and what is written to it, and that pieces do not matter.
 use Prim.Native.Nat.{ℕ, _+_, _≤_, _<_}
 use mathlib.Core.Path.{_≡_}
-use mathlib.Core.Bool.{cond}
+use mathlib.Core.Bool.{Bool, true, cond}
 use mathlib.Core.List.{List, [], _∷_, _++_, flatten}
 use lib.Dec.{eqb}
 use lib.ListN.{length, take, drop, getD}
@@ -10,27 +10,30 @@ use Rattle.board.specs.Board.{Board}
 use Rattle.text.specs.Ascii.{feed}
 use Rattle.script.specs.Grammar.{meaning}
 use Rattle.script.specs.Answers.{headerText}
+use Rattle.script.specs.Reasons.{reason, reasonNumber}
 use Rattle.script.specs.declared.Program.{Program}
 use Rattle.console.specs.declared.answers.LineAsked.{LineAsked}
 use Rattle.console.specs.declared.answers.Ongoing.{Ongoing}
 use Rattle.session.specs.declared.Session.{Session}
 use Rattle.session.specs.Session.{boardOf, firstBoard, Within}
 use Rattle.session.specs.Lines.{carriedOut}
-use Rattle.console.specs.Transcript.{following, lineText, transcript, lastBoard}
+use Rattle.console.specs.declared.answers.Misread.{Misread}
+use Rattle.console.specs.Transcript.{following, lineText, transcript, lastBoard, noneMisread, lineNoted, misreadIn}
 
--- What is carried from piece to piece: the board, the lines answered, and the line begun.
+-- What is carried from piece to piece: the board, the lines answered and those answered `?`, and the line begun.
 pub record Carried : Type 0 where
   pub board : Board
   pub number : ℕ
+  pub misread : Misread
   pub begun : List ℕ
 
 -- What is carried, put together.
-abbrev pub carried : Board → ℕ → List ℕ → Carried
-carried board number begun = record { board = board; number = number; begun = begun }
+abbrev pub carried : Board → ℕ → Misread → List ℕ → Carried
+carried board number misread begun = record { board = board; number = number; misread = misread; begun = begun }
 
 -- Before the first line.
 abbrev pub first : Carried
-first = carried firstBoard 0 []
+first = carried firstBoard 0 noneMisread []
 
 -- What some input leaves, and what is written to it.
 pub record Fed : Type 0 where
@@ -43,12 +46,13 @@ leaving after text = record { after = after; text = text }
 
 -- Bytes of a line that goes on: 80 of a line are kept, so that it is known to be too long.
 abbrev pub kept : Carried → List ℕ → Carried
-kept p bytes = carried (p .board) (p .number) (take 80 (p .begun ++ bytes))
+kept p bytes = carried (p .board) (p .number) (p .misread) (take 80 (p .begun ++ bytes))
 
 -- The end of the line begun: it is answered.
 abbrev pub ended : Program → Carried → Fed
 ended program p =
-    leaving (carried (carriedOut (meaning program (p .begun)) (p .board) .board) (following (p .number)) [])
+    leaving
+    (carried (carriedOut (meaning program (p .begun)) (p .board) .board) (following (p .number)) (lineNoted program (p .number) (p .board) (p .misread) (p .begun)) [])
     (lineText program (following (p .number)) (p .board) (p .begun))
 
 -- One byte: the end of a line, or a byte of it.
@@ -83,16 +87,21 @@ abbrev pub AnyPiecesBoard : Type 0
 AnyPiecesBoard =
     (program : Program) (pieces : List (List ℕ)) → fedAll program first pieces .after .board ≡ lastBoard program (flatten pieces)
 
+-- However an input is cut into pieces, the lines noted as answered `?` are those of the whole input.
+abbrev pub AnyPiecesMisread : Type 0
+AnyPiecesMisread =
+    (program : Program) (pieces : List (List ℕ)) → fedAll program first pieces .after .misread ≡ misreadIn program (flatten pieces)
+
 -- ---- what contracts say
 
--- What the code carries: the board of its session, the lines answered, and the first bytes of the line kept.
+-- What the code carries: the board of its session, the lines answered and those answered `?`, and the first bytes of the line kept.
 abbrev pub carriedBy : Ongoing → List ℕ → List ℕ → List ℕ → Carried
 carriedBy p memory cache line =
-    carried (boardOf (p .session) memory cache) (p .number) (take (p .begun) line)
+    carried (boardOf (p .session) memory cache) (p .number) (p .misread) (take (p .begun) line)
 
 -- What the code carries on after a line: none is begun.
-abbrev pub afterLine : Session → ℕ → Ongoing
-afterLine session number = record { session = session; number = number; begun = 0 }
+abbrev pub afterLine : Session → ℕ → Misread → Ongoing
+afterLine session number misread = record { session = session; number = number; misread = misread; begun = 0 }
 
 -- What the code carries is within its arrays.
 pub record Ready (p : Ongoing) : Type 0 where
@@ -105,10 +114,11 @@ pub record LineGoesOn (text : List ℕ) (from i : ℕ) : Type 0 where
   pub inside : i ≤ length text
   pub same-end : i + indexOf feed (drop i text) ≡ from + indexOf feed (drop from text)
 
--- A line is read: what it means, and its first byte, by which its answer is headed.
-pub record LineRead (program : Program) (text : List ℕ) (asked : LineAsked) : Type 0 where
+-- A line is read: what it means, its first byte, by which its answer is headed, and, if that is wanted, why it would be answered `?`.
+pub record LineRead (program : Program) (wanted : Bool) (text : List ℕ) (asked : LineAsked) : Type 0 where
   pub means : asked .line ≡ meaning program text
   pub begins : asked .first ≡ getD text 0 0
+  pub reasons : wanted ≡ true → asked .why ≡ reasonNumber (reason program text (meaning program text))
 
 -- A line's end as it should be, by the code: what is carried on, and the answer written behind `at`, up to `end`.
 pub record LineEnds (should : Fed) (after : Carried) (out : List ℕ) (at : ℕ) (written : List ℕ) (end : ℕ) : Type 0 where

@@ -8,7 +8,11 @@ use Rattle.board.specs.Board.{Board}
 use Rattle.text.specs.Ascii.{feed}
 use Rattle.script.specs.Grammar.{joined, meaning}
 use Rattle.script.specs.Answers.{headerText, answerText, letterOf}
+use Rattle.script.specs.Reasons.{reason, reasonNumber}
 use Rattle.script.specs.declared.Program.{Program}
+use Rattle.script.specs.declared.Shown.{Shown}
+use Rattle.script.specs.declared.Shown.the-variants as shown
+use Rattle.console.specs.declared.answers.Misread.{Misread}
 use Rattle.session.specs.Session.{firstBoard}
 use Rattle.session.specs.Lines.{carriedOut}
 
@@ -44,3 +48,35 @@ lastBoard program input = boardAfter program firstBoard (linesOf input)
 -- "Output: a header, then for each line".
 abbrev pub transcript : Program → List ℕ → List ℕ
 transcript program input = headerText ++ answers program 0 firstBoard (linesOf input)
+
+-- ---- the lines that are no calls, of which standard error tells
+
+-- Lines answered `?`: how many, and the first one's number and the number of its reason, put together.
+abbrev pub misread : ℕ → ℕ → ℕ → Misread
+misread lines first why = record { lines = lines; first = first; why = why }
+
+-- None.
+abbrev pub noneMisread : Misread
+noneMisread = misread 0 0 0
+
+-- A line answered, noted where the answer is `?`; number and reason are the first one's.
+abbrev pub noted : Misread → ℕ → ℕ → Shown → Misread
+noted m number why shown.Unknown =
+    cond (eqb (m .lines) 0) (misread 1 number why) (misread (following (m .lines)) (m .first) (m .why))
+noted m number why shown.Nothing = m
+noted m number why (shown.Number n) = m
+
+-- A line after line `n`, noted where it is answered `?`.
+abbrev pub lineNoted : Program → ℕ → Board → Misread → List ℕ → Misread
+lineNoted program n b m line =
+    noted m (following n) (reasonNumber (reason program line (meaning program line))) (carriedOut (meaning program line) b .answer)
+
+-- The lines answered `?` after lines, each on the board that the one before it left.
+unfoldable pub misreadAfter : Program → ℕ → Board → Misread → List (List ℕ) → Misread
+misreadAfter program n b m [] = m
+misreadAfter program n b m (line ∷ more) =
+    misreadAfter program (following n) (carriedOut (meaning program line) b .board) (lineNoted program n b m line) more
+
+-- The lines of a whole input that are answered `?`.
+abbrev pub misreadIn : Program → List ℕ → Misread
+misreadIn program input = misreadAfter program 0 firstBoard noneMisread (linesOf input)

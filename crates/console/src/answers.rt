@@ -2,7 +2,10 @@
 ghost use mathlib.Core.Path.{_≡_};
 ghost use mathlib.Core.List.{List, _++_};
 ghost use Prim.Native.Nat.{ℕ, _+_, _≤_};
-ghost use lib.ListN.{length, take};
+ghost use mathlib.Core.Bool.{true};
+ghost use lib.ListN.{length, take, getD};
+ghost use Rattle.script.specs.Reasons.{reason, reasonNumber};
+ghost use Rattle.console.specs.Transcript.{noted};
 ghost use Rattle.console.specs.Pieces.{first, leaving, kept, ended, fed, finished, carriedBy, afterLine, Ready, LineRead, LineEnds, Stops};
 use crate::input::feed_at;
 use crate::input::keep;
@@ -11,17 +14,27 @@ use script::Program;
 use script::Shown;
 use session::Session;
 
-// What is carried from piece to piece: the session, the lines answered, and how many bytes of the line begun are kept.
+// The lines answered `?`: how many, and the first one's number and the number of its reason.
+pub struct Misread {
+    pub lines: u64,
+    pub first: u64,
+    pub why: u64,
+}
+
+// What is carried from piece to piece: the session, the lines answered and those answered `?`, and how many bytes of the
+// line begun are kept.
 pub struct Ongoing {
     pub session: Session,
     pub number: u64,
+    pub misread: Misread,
     pub begun: usize,
 }
 
-// What a line asks for, and its first byte, 0 for an empty one.
+// What a line asks for, its first byte, 0 for an empty one, and why it is answered `?`, if it is.
 pub struct LineAsked {
     pub line: Line,
     pub first: u8,
+    pub why: u64,
 }
 
 // After a line: what is carried on, and where its answer ends in the buffer.
@@ -45,45 +58,99 @@ pub fn start() -> Ongoing
     Ongoing {
         session: session::new(),
         number: 0,
+        misread: Misread {
+            lines: 0,
+            first: 0,
+            why: 0,
+        },
         begun: 0,
     }
 }
 
 // What is carried on after a line: none is begun.
-fn after_line(session: Session, number: u64) -> Ongoing
-    ensures { λ r. ⌜ r ≡ afterLine session number ⌝ }
+fn after_line(session: Session, number: u64, misread: Misread) -> Ongoing
+    ensures { λ r. ⌜ r ≡ afterLine session number misread ⌝ }
 {
     Ongoing {
         session,
         number,
+        misread,
         begun: 0,
     }
 }
 
-// A whole line, read.
-fn asked_by(program: Program, text: &[u8]) -> LineAsked
-    ensures { λ r. ⌜ LineRead program (now (text .entry)) r ⌝ }
+// One line more that is answered `?`.
+fn one_more(misread: Misread, number: u64, why: u64) -> Misread
+    ensures { λ r. ⌜ r ≡ noted misread number why Shown.Unknown ⌝ }
 {
-    let line = script::parse(program, text);
-    if text.len() == 0 {
-        return LineAsked { line, first: 0 };
+    if misread.lines == 0 {
+        return Misread {
+            lines: 1,
+            first: number,
+            why,
+        };
     }
-    LineAsked {
-        line,
-        first: text[0],
+    let lines = std::num::wrapping_add_u64(misread.lines, 1);
+    Misread { lines, ..misread }
+}
+
+// A line answered, noted where the answer is `?`.
+fn note(misread: Misread, number: u64, why: u64, answer: Shown) -> Misread
+    ensures { λ r. ⌜ r ≡ noted misread number why answer ⌝ }
+{
+    match answer {
+        Shown::Unknown => one_more(misread, number, why),
+        Shown::Nothing => misread,
+        Shown::Number(_) => misread,
     }
 }
 
+// A line's first byte, 0 for an empty one.
+fn first_byte(text: &[u8]) -> u8
+    ensures { λ r. ⌜ r ≡ getD (now (text .entry)) 0 0 ⌝ }
+{
+    if text.len() == 0 {
+        return 0;
+    }
+    text[0]
+}
+
+// The number of the reason why a line is answered `?`, if that is wanted.
+fn reason_if(wanted: bool, program: Program, text: &[u8], line: Line) -> u64
+    ensures { λ r. ⌜ (wanted ≡ true → r ≡ reasonNumber (reason program (now (text .entry)) line)) ⌝ }
+{
+    if wanted {
+        return script::reason_number(script::why(program, text, line));
+    }
+    0
+}
+
+// A whole line, read; why it is answered `?` is looked for only if that is `wanted`.
+fn asked_by(program: Program, wanted: bool, text: &[u8]) -> LineAsked
+    ensures { λ r. ⌜ LineRead program wanted (now (text .entry)) r ⌝ }
+{
+    let line = script::parse(program, text);
+    let first = first_byte(text);
+    let why = reason_if(wanted, program, text, line);
+    LineAsked { line, first, why }
+}
+
 // The line that ends with `rest`, of which `begun` bytes are kept, read.
-fn read_line(program: Program, line: &mut [u8], begun: usize, rest: &[u8]) -> LineAsked
+fn read_line(
+    program: Program,
+    wanted: bool,
+    line: &mut [u8],
+    begun: usize,
+    rest: &[u8],
+) -> LineAsked
     requires { ⌜ (begun ≤ 80) × (length (now line) ≡ 80) ⌝ }
-    ensures { λ r. ⌜ LineRead program (take 80 (take begun (now (line .entry)) ++ now (rest .entry))) r ⌝ }
+    ensures { λ r. ⌜ LineRead program wanted (take 80 (take begun (now (line .entry)) ++ now (rest .entry))) r ⌝ }
 {
     if begun == 0 {
-        return asked_by(program, rest);
+        return asked_by(program, wanted, rest);
     }
     let size = keep(line, begun, rest);
-    asked_by(program, &line[..size])
+    asked_by(program, wanted, &line[..size])
 }
 
 // The end of the line begun, of which `rest` are the last bytes: it is read, carried out, and answered behind the first
@@ -103,12 +170,14 @@ fn end_line(
     ensures ready { λ r. ⌜ Ready (r .progress) ⌝ }
 {
     let session = progress.session;
-    let asked = read_line(program, line, progress.begun, rest);
+    let misread = progress.misread;
+    let asked = read_line(program, misread.lines == 0, line, progress.begun, rest);
     let call = asked.line;
+    let why = asked.why;
     let number = std::num::wrapping_add_u64(progress.number, 1);
     if let Line::Unknown = call {
         return LineEnded {
-            progress: after_line(session, number),
+            progress: after_line(session, number, note(misread, number, why, Shown::Unknown)),
             end: script::put_answer(out, at, number, b'?', Shown::Unknown, Shown::Nothing),
         };
     }
@@ -119,7 +188,7 @@ fn end_line(
     let letter = script::letter(asked.first, answer);
     let end = script::put_answer(out, at, number, letter, answer, value);
     LineEnded {
-        progress: after_line(next, number),
+        progress: after_line(next, number, note(misread, number, why, answer)),
         end,
     }
 }
@@ -127,7 +196,7 @@ fn end_line(
 // What a piece has of a line that does not end in it, kept.
 fn keep_rest(progress: Ongoing, line: &mut [u8], rest: &[u8]) -> Ongoing
     requires { ⌜ Ready progress × (length (now line) ≡ 80) ⌝ }
-    ensures keeps { λ r. ⌜ (r .session ≡ progress .session) × (r .number ≡ progress .number) × (take (r .begun) (now (line .exit)) ≡ take 80 (take (progress .begun) (now (line .entry)) ++ now (rest .entry))) ⌝ }
+    ensures keeps { λ r. ⌜ (r .session ≡ progress .session) × (r .number ≡ progress .number) × (r .misread ≡ progress .misread) × (take (r .begun) (now (line .exit)) ≡ take 80 (take (progress .begun) (now (line .entry)) ++ now (rest .entry))) ⌝ }
     ensures ready { λ r. ⌜ Ready r ⌝ }
 {
     let begun = keep(line, progress.begun, rest);

@@ -6,6 +6,7 @@ ghost use Rattle.script.specs.declared.Program.{Program};
 ghost use Rattle.session.specs.Session.{boardOf, Fits};
 ghost use Rattle.console.specs.Pieces.{finished, carriedBy, Ready};
 ghost use Rattle.console.specs.Printing.{printing, printedOf};
+use crate::answers::Misread;
 use crate::answers::Ongoing;
 use crate::answers::answer_last;
 use script::Program;
@@ -15,6 +16,13 @@ use session::Session;
 pub struct Paged {
     pub number: u8,
     pub bytes: usize,
+}
+
+// The same at an input's end, with the lines that were answered `?`.
+pub struct LastPage {
+    pub number: u8,
+    pub bytes: usize,
+    pub misread: Misread,
 }
 
 // The page of the board, put at the front of a text row as long as the largest page.
@@ -35,7 +43,7 @@ fn print(session: Session, memory: &[u64], cache: &[u64], text: &mut [u8; 69564]
 }
 
 // After the input: a last line that lacks its line feed is carried out, and the page of the board left is put into the
-// text row.
+// text row; the lines answered `?` are given too.
 pub fn last_page(
     progress: Ongoing,
     memory: &mut [u64; 4104],
@@ -43,13 +51,20 @@ pub fn last_page(
     line: &mut [u8],
     out: &mut [u8; 65536],
     text: &mut [u8; 69564],
-) -> Paged
+) -> LastPage
     requires { ⌜ Ready progress × (length (now line) ≡ 80) ⌝ }
     ensures prints { λ r. ⌜ printing (r .number) (take (r .bytes) (now (text .exit))) ≡ printedOf (finished Program.Page (carriedBy progress (now (memory .entry)) (now (cache .entry)) (now (line .entry))) .after .board) ⌝ }
     ensures within { λ r. ⌜ r .bytes ≤ 69564 ⌝ }
+    ensures notes { λ r. ⌜ r .misread ≡ finished Program.Page (carriedBy progress (now (memory .entry)) (now (cache .entry)) (now (line .entry))) .after .misread ⌝ }
 {
     let last = answer_last(Program::Page, progress, memory, cache, line, out);
     let left = last.progress;
     let session = left.session;
-    print(session, memory, cache, text)
+    let misread = left.misread;
+    let page = print(session, memory, cache, text);
+    LastPage {
+        number: page.number,
+        bytes: page.bytes,
+        misread,
+    }
 }

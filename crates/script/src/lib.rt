@@ -4,6 +4,7 @@ mod answer;
 mod commands;
 mod damages;
 mod fields;
+mod reasons;
 
 pub use answer::header;
 pub use answer::letter;
@@ -11,6 +12,8 @@ pub use answer::put_answer;
 use board::Call;
 pub use commands::parse;
 pub use fields::number as decimal;
+pub use reasons::number_of as reason_number;
+pub use reasons::why;
 
 // The programs, each with its letters.
 pub enum Program {
@@ -67,6 +70,22 @@ pub enum Damage {
         holder: u64,
     },
     Checksum,
+}
+
+// Why a line is answered `?`: over 79 bytes, a byte-order mark at its start, a carriage return, blanks where tabs belong,
+// nothing in it, a letter that the program has not, a number past 2^64 − 1, a field that is no number, too few or too many
+// numbers; or, in the fault program, a number that cannot be put where it is to go.
+pub enum Reason {
+    Long,
+    ByteOrderMark,
+    CarriageReturn,
+    Blanks,
+    Empty,
+    Letter,
+    Past,
+    NoNumber,
+    Count,
+    Unfit,
 }
 
 // What stands in the column of the answer or the value: `?`, `-` or a number.

@@ -3,7 +3,9 @@
 // order, and the header stands before all and the answer to a last line without its line feed behind; or, in the page
 // program, none of that is written, and at the end the page is. That the outputs are then the transcript of the whole
 // input, or the page of the board that it leaves, however it was cut into pieces, is proved (`AnyPieces`,
-// `AnyPiecesPrinted`).
+// `AnyPiecesPrinted`); that what is carried of lines that were no calls is the whole input's, `AnyPiecesMisread`.
+mod messages;
+
 ghost use mathlib.Core.Path.{_≡_};
 ghost use mathlib.Core.Bool.{true};
 ghost use Prim.Native.Nat.{_≤_};
@@ -12,7 +14,6 @@ ghost use Rattle.console.specs.Pieces.{fed, carriedBy, Ready};
 use console::answers;
 use console::answers::Ongoing;
 use console::printing;
-use libc::STDERR_FILENO;
 use libc::STDIN_FILENO;
 use libc::STDOUT_FILENO;
 use script::Program;
@@ -23,22 +24,6 @@ struct Reached {
     more: bool,
 }
 
-// Why the program stops, on standard error.
-fn complain(program: Program, why: &[u8]) {
-    match program {
-        Program::Drill => {
-            io::write_all(STDERR_FILENO, b"drill: ");
-        }
-        Program::Fault => {
-            io::write_all(STDERR_FILENO, b"fault: ");
-        }
-        Program::Page => {
-            io::write_all(STDERR_FILENO, b"page: ");
-        }
-    }
-    io::write_all(STDERR_FILENO, why);
-}
-
 // The first `n` bytes of `out`, written; false where that fails, which is told.
 fn write(program: Program, out: &[u8], n: usize) -> bool
     requires { ⌜ n ≤ length (now out) ⌝ }
@@ -46,7 +31,7 @@ fn write(program: Program, out: &[u8], n: usize) -> bool
     if io::write_all(STDOUT_FILENO, &out[..n]) {
         return true;
     }
-    complain(program, b"writing failed\n");
+    messages::writing_failed(program);
     false
 }
 
@@ -89,21 +74,8 @@ fn converse(
     }
 }
 
-// Why there is no page.
-fn refuse(number: u8) {
-    match number {
-        2 => complain(
-            Program::Page,
-            b"refused by cause 2: phase doesn't allow the call\n",
-        ),
-        3 => complain(Program::Page, b"refused by cause 3: state record\n"),
-        4 => complain(Program::Page, b"refused by cause 4: rows\n"),
-        12 => complain(Program::Page, b"refused by cause 12: text row too short\n"),
-        _ => complain(Program::Page, b"refused\n"),
-    }
-}
-
-// The page of the board that the input leaves, put into the text row and written.
+// The page of the board that the input leaves, put into the text row and written, or why there is none; and which lines
+// were no calls.
 fn print_page(
     progress: Ongoing,
     memory: &mut [u64; 4104],
@@ -115,14 +87,20 @@ fn print_page(
     requires { ⌜ Ready progress ⌝ }
 {
     let r = printing::last_page(progress, memory, cache, line, out, text);
+    let misread = r.misread;
+    let mut wrote = true;
     if r.number == 0 {
-        write(Program::Page, text, r.bytes);
+        wrote = write(Program::Page, text, r.bytes);
     } else {
-        refuse(r.number);
+        messages::page_refused(r.number);
+    }
+    if wrote {
+        messages::lines_misread(Program::Page, misread);
     }
 }
 
-// The end of the input: the last line is answered, where it lacks its line feed; the page program prints the page.
+// The end of the input: the last line is answered, where it lacks its line feed, and it is said which lines were no
+// calls; the page program prints the page.
 fn finish(
     program: Program,
     progress: Ongoing,
@@ -138,7 +116,11 @@ fn finish(
         print_page(progress, memory, cache, line, out, &mut text);
     } else {
         let last = answers::answer_last(program, progress, memory, cache, line, out);
-        write(program, out, last.end);
+        if write(program, out, last.end) {
+            let left = last.progress;
+            let misread = left.misread;
+            messages::lines_misread(program, misread);
+        }
     }
 }
 
@@ -161,7 +143,7 @@ fn turn(
         return converse(program, progress, memory, cache, line, &text[..n], out);
     }
     if got < 0 {
-        complain(program, b"reading failed\n");
+        messages::reading_failed(program);
     } else {
         finish(program, progress, memory, cache, line, out);
     }

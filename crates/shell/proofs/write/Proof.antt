@@ -8,4 +8,4 @@ use Rattle.shell.proofs.write.Tie as tie
 pub write-spec : {M : Type 1} → statement M
 write-spec =
     tie.close
-    (tie.spec (λ c. part-size _ _ (omega arith)) (search needs) (search needs) (search needs) (search needs) (search needs))
+    (tie.spec (λ c. part-size _ _ (omega arith)) (search needs) (search needs) (search needs) (search needs))

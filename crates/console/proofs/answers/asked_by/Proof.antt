@@ -1,20 +1,20 @@
--- `console::answers::asked_by` meets its contract: an empty line begins with no byte.
-use Prim.Native.Nat.{ℕ}
-use mathlib.Core.Path.{_≡_, refl}
-use mathlib.Core.List.{List, [], _∷_}
-use native.Mathlib.Omega.{arith}
-use lib.ListN.{length, getD}
+-- `console::answers::asked_by` meets its contract.
+use mathlib.Core.Path.{ap, _∙_}
 use borrow.Author.Needs.{needs}
+use Rattle.script.specs.declared.Line.{Line}
+use Rattle.script.specs.Reasons.{reason, reasonNumber}
 use Rattle.console.proofs.answers.asked_by.Statement.{statement}
 use Rattle.console.proofs.answers.asked_by.Tie as tie
 
--- An empty line has no first byte.
-empty : (text : List ℕ) → length text ≡ 0 → 0 ≡ getD text 0 0
-empty [] e = refl
-empty (b ∷ bs) e = absurd (omega arith)
-
 returns : tie.Need-returns
-returns c = record { means = search needs; begins = empty (c .before .before .before .args .text .now) (c .if1 .taken) }
+returns c =
+    let a = c .before .before .before .before .args in
+    let line = c .before .before .parse in
+    record {
+      means = line .ensures;
+      begins = c .before .first-byte .ensures;
+      reasons = λ t. c .reason-if .ensures t ∙ ap (λ (k : Line). reasonNumber (reason (a .program) (a .text .now) k)) (line .ensures);
+    }
 
 pub asked-by-spec : {M : Type 1} → statement M
-asked-by-spec = tie.close (tie.spec (λ c κs. search needs) returns (λ c. search needs) (λ c. search needs))
+asked-by-spec = tie.close (tie.spec (λ c κs. search needs) (λ c κs. search needs) (λ c κs. search needs) returns)

@@ -13,11 +13,12 @@ use Rattle.console.proofs.answers.read_line.Tie as tie
 returns : tie.Need-returns
 returns c =
     let a = c .before .before .before .before .args in
-    subst (λ (k : ℕ). LineRead (a .program) (take 80 (take k (a .line .now) ++ a .rest .now)) (c .asked-by .result)) (sym (c .before .if1 .taken)) (reads-kept (c .asked-by .ensures))
+    subst (λ (k : ℕ). LineRead (a .program) (a .wanted) (take 80 (take k (a .line .now) ++ a .rest .now)) (c .asked-by .result)) (sym (c .before .if1 .taken)) (reads-kept (c .asked-by .ensures))
 
 returns-2 : tie.Need-returns-2
 returns-2 c =
-    subst (λ (text : List ℕ). LineRead (c .before .before .before .before .before .before .before .before .before .args .program) text (c .asked-by2 .result)) (c .before .before .before .before .keep .ensures .0) (c .asked-by2 .ensures)
+    let a = c .before .before .before .before .before .before .before .before .before .args in
+    subst (λ (text : List ℕ). LineRead (a .program) (a .wanted) text (c .asked-by2 .result)) (c .before .before .before .before .keep .ensures .0) (c .asked-by2 .ensures)
 
 pub read-line-spec : {M : Type 1} → statement M
 read-line-spec =
