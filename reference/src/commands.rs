@@ -5,11 +5,12 @@ use std::io;
 
 use reference::explore::check::Check;
 use reference::explore::{exhaustive, explore, Caught, Options};
+use reference::misread::Misread;
 use reference::mistake::Mistake;
 use reference::{bench, drill, fault, fault_script, page, page_script, reached, script};
 
 use crate::help;
-use crate::streams::{input, output, print};
+use crate::streams::{input, output, print, tell};
 
 /// Why a command ended otherwise than well.
 pub enum Stop {
@@ -19,7 +20,7 @@ pub enum Stop {
     Failed(io::Error),
     /// An exploration caught a violation, which is printed.
     Violated,
-    /// The call was refused; what to say of it.
+    /// The page was refused, or its script has lines that are no calls; what to say of it.
     Refused(String),
 }
 
@@ -38,8 +39,8 @@ pub fn run(words: &[&str]) -> Ended {
         return Ok(print(help::help().as_bytes())?);
     }
     match words {
-        ["drill"] => Ok(drill::run(input()?, output()?)?),
-        ["fault"] => Ok(fault::run(input()?, output()?)?),
+        ["drill"] => answered("drill", drill::run(input()?, output()?)?),
+        ["fault"] => answered("fault", fault::run(input()?, output()?)?),
         ["fault", "--reached", numbers @ ..] => print_reached(numbers),
         ["page"] => print_page(),
         ["script", "--fault", numbers @ ..] => print_seeded(fault_script::script, numbers),
@@ -70,11 +71,26 @@ fn print_reached(words: &[&str]) -> Ended {
     Ok(print(reached::reached(seeds, lines).to_string().as_bytes())?)
 }
 
-/// reference page: the page of the board that a script leads to.
+/// reference drill, reference fault: every line is answered, and `?` is an answer.
+fn answered(name: &str, misread: Misread) -> Ended {
+    misread.note(name).iter().for_each(|note| tell(note));
+    Ok(())
+}
+
+/// reference page: the page of the board that a script leads to; it ends well if there is nothing to say.
 fn print_page() -> Ended {
-    let refused = |number| Stop::Refused(format!("page: refused by cause {number}: {}", page::words(number)));
-    let text = page::after_script(input()?)?.map_err(refused)?;
-    Ok(print(&text)?)
+    let (page, misread) = page::after_script(input()?)?;
+    let mut said = Vec::new();
+    match page {
+        Ok(text) => print(&text)?,
+        Err(number) => said.push(format!("page: refused by cause {number}: {}", page::words(number))),
+    }
+    said.extend(misread.note("page"));
+    if said.is_empty() {
+        Ok(())
+    } else {
+        Err(Stop::Refused(said.join("\n")))
+    }
 }
 
 /// reference script --fault SEED LINES, and the same with --bits, --foreign, --locks and --page

@@ -5,6 +5,7 @@ use std::io::{BufRead, Result as Done, Write};
 use crate::board::{Board, Phase};
 use crate::call::{Answer, Call};
 use crate::line::sizes_allowed;
+use crate::misread::Misread;
 use crate::program::{self, Program, Reply};
 use crate::text::{Fields, Unread};
 
@@ -40,6 +41,10 @@ pub struct Drill;
 
 impl Program for Drill {
     type Command = Command;
+
+    fn forms() -> impl Iterator<Item = (u8, usize)> {
+        FORMS.into_iter()
+    }
 
     #[inline]
     fn command(fields: &Fields) -> Result<Command, Unread> {
@@ -91,7 +96,7 @@ fn format(board: &mut Board, lines: u64, workers: u64) -> Answer {
     answer
 }
 
-/// Run a whole script.
-pub fn run(input: impl BufRead, output: impl Write) -> Done<()> {
+/// Run a whole script; its lines that are no calls.
+pub fn run(input: impl BufRead, output: impl Write) -> Done<Misread> {
     program::run::<Drill>(input, output)
 }

@@ -7,6 +7,7 @@ use crate::call::Call;
 use crate::checksum::{of_board, of_bytes};
 use crate::damage::Damage;
 use crate::drill::{self, Drill};
+use crate::misread::Misread;
 use crate::program::{self, Program, Reply};
 use crate::text::{Fields, Unread};
 
@@ -63,6 +64,10 @@ pub struct Fault;
 impl Program for Fault {
     type Command = Command;
 
+    fn forms() -> impl Iterator<Item = (u8, usize)> {
+        Drill::forms().chain(FORMS)
+    }
+
     fn command(fields: &Fields) -> Result<Command, Unread> {
         let [a, b, c, d, e] = fields.numbers;
         let damage = match (fields.letter, fields.count) {
@@ -105,7 +110,7 @@ fn alone(call: Call) -> Result<Command, Unread> {
     Ok(Command::Drill(drill::Command::Call(call)))
 }
 
-/// Run a whole script.
-pub fn run(input: impl BufRead, output: impl Write) -> Done<()> {
+/// Run a whole script; its lines that are no calls.
+pub fn run(input: impl BufRead, output: impl Write) -> Done<Misread> {
     program::run::<Fault>(input, output)
 }

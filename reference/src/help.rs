@@ -48,10 +48,16 @@ const COMMANDS: [(&str, &str); 13] = [
     ),
 ];
 
+/// What drill, fault program and page say of lines that are no calls.
+const NOTE: &str =
+    "drill, fault and page say on standard error, at the end, how many lines are no calls, and why the first
+is none; page then ends with status 1";
+
 /// The commands, the checks and the mistakes.
 pub fn help() -> String {
     let commands = COMMANDS.iter().map(|(name, words)| entry(name, words)).collect::<String>();
-    format!("{USAGE}\n\ncommands\n{commands}\nchecks (--only)\n{}\nmistakes (--mistake)\n{}", checks(), mistakes())
+    let (checks, mistakes) = (checks(), mistakes());
+    format!("{USAGE}\n\ncommands\n{commands}\n{NOTE}\n\nchecks (--only)\n{checks}\nmistakes (--mistake)\n{mistakes}")
 }
 
 /// The checks, one a line.

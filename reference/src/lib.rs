@@ -16,6 +16,7 @@ pub mod fault_script;
 pub mod line;
 pub mod locks;
 pub mod machine;
+pub mod misread;
 pub mod mistake;
 pub mod page;
 pub mod page_script;

@@ -9,6 +9,7 @@ use crate::call::Call;
 use crate::causes::cause;
 use crate::drill::Drill;
 use crate::line::{backup_at, cells, mark_at, record_at, row_words, MOST_LINES};
+use crate::misread::Misread;
 use crate::mistake::Mistake;
 use crate::program::answer;
 use crate::text::{next_line, MOST_BYTES};
@@ -119,17 +120,22 @@ fn put_right(column: &mut [u8], field: impl Display) {
     column[..blanks].fill(b' ');
 }
 
-/// The page of the board that a drill script leads to, or the number that turns it down.
-pub fn after_script(mut input: impl BufRead) -> Done<Result<Vec<u8>, u8>> {
+/// The page of the board that a drill script leads to, or the number that turns it down; and the lines that are no calls.
+pub fn after_script(mut input: impl BufRead) -> Done<(Result<Vec<u8>, u8>, Misread)> {
     let mut board = Board::empty(None);
     let mut line = Vec::with_capacity(MOST_BYTES + 1);
+    let mut at = 0u64;
+    let mut misread = Misread::default();
     while next_line(&mut input, &mut line)? {
-        let _ = answer::<Drill>(&mut board, &line);
+        at += 1;
+        if answer::<Drill>(&mut board, &line).is_err() {
+            misread.add::<Drill>(at, &line);
+        }
     }
     let mut text = vec![0; page_bytes(MOST_LINES) as usize];
     let number = board.page(&mut text);
     text.truncate(page_bytes(board.state.lines.into()) as usize);
-    Ok(if number == 0 { Ok(text) } else { Err(number) })
+    Ok((if number == 0 { Ok(text) } else { Err(number) }, misread))
 }
 
 /// A page's causes in words.

@@ -3,6 +3,7 @@
 use std::io::{BufRead, Result as Done, Write};
 
 use crate::board::Board;
+use crate::misread::Misread;
 use crate::text::{fields, next_line, Fields, Unread, MOST_BYTES};
 
 /// What a line that is read gives: the answer's number, and the value read or summed up, if it is a line that has one.
@@ -17,6 +18,9 @@ pub trait Program {
     /// A line of this program.
     type Command;
 
+    /// Its letters, and how many numbers each has.
+    fn forms() -> impl Iterator<Item = (u8, usize)>;
+
     /// The command that a line's fields say.
     fn command(fields: &Fields) -> Result<Self::Command, Unread>;
 
@@ -30,16 +34,20 @@ pub fn answer<P: Program>(board: &mut Board, line: &[u8]) -> Result<Reply, Unrea
     P::execute(board, &P::command(&fields(line)?)?)
 }
 
-/// Run a whole script.
-pub fn run<P: Program>(mut input: impl BufRead, mut output: impl Write) -> Done<()> {
+/// Run a whole script; its lines that are no calls.
+pub fn run<P: Program>(mut input: impl BufRead, mut output: impl Write) -> Done<Misread> {
     output.write_all(b"line\tcall\tanswer\tvalue\n")?;
     let mut board = Board::empty(None);
     let mut line = Vec::with_capacity(MOST_BYTES + 1);
     let mut at = 0u64;
+    let mut misread = Misread::default();
     while next_line(&mut input, &mut line)? {
         at += 1;
         match answer::<P>(&mut board, &line) {
-            Err(_) => writeln!(output, "{at}\t?\t?\t-")?,
+            Err(_) => {
+                misread.add::<P>(at, &line);
+                writeln!(output, "{at}\t?\t?\t-")?;
+            }
             Ok(Reply { number, value }) => {
                 let letter = line[0] as char;
                 match value {
@@ -49,5 +57,6 @@ pub fn run<P: Program>(mut input: impl BufRead, mut output: impl Write) -> Done<
             }
         }
     }
-    output.flush()
+    output.flush()?;
+    Ok(misread)
 }

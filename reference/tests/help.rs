@@ -30,6 +30,7 @@ fn help_lists_commands_checks_and_mistakes() {
     for name in names.chain(scripts).chain(commands) {
         assert!(help.contains(&format!("\n  {name} ")), "{name}");
     }
+    assert!(help.contains("\ndrill, fault and page say on standard error, at the end, how many lines are no calls"));
 }
 
 #[test]

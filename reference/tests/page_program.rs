@@ -53,8 +53,13 @@ cell               record               backup                 mark
 #[test]
 fn lines_of_another_form_and_refused_ones_do_nothing() {
     let fresh = taken("F 1 1");
-    assert_eq!(taken("\np 204\nF 1 1\nF 512 1\np 204\n\nN 8 5\nB 0 0\nT\nG 0\nG 2\nx\nU 0 0 5\nA 0\nF\n"), fresh);
-    assert_eq!(taken(&format!("F 1 1\n{}\n", "7".repeat(100_000))), fresh);
+    assert_eq!(taken("F 1 1\nF 512 1\nG 0\nG 2\nU 0 0 5\nA 0\n"), fresh);
+    let others = "\np 204\nF 1 1\nF 512 1\np 204\n\nN 8 5\nB 0 0\nT\nG 0\nG 2\nx\nU 0 0 5\nA 0\nF\n";
+    let note = "page: note: 9 lines are no calls, the first is line 1: an empty line\n";
+    assert_eq!(page(others.replace(' ', "\t").as_bytes()), (Some(1), fresh.clone(), note.into()));
+    let note = "page: note: line 2 is no call: over 79 bytes\n";
+    let long = format!("F\t1\t1\n{}\n", "7".repeat(100_000));
+    assert_eq!(page(long.as_bytes()), (Some(1), fresh, note.into()));
 }
 
 #[test]
@@ -66,7 +71,7 @@ fn the_largest_page() {
 
 #[test]
 fn a_board_that_does_not_run_has_no_page() {
-    for script in ["", "\n", "F\t1\t2\n", "F\t1\t1\nX\n", "F\t1\t1\nX", "F\t1\t1\nX\nR\nS\n", "F\t1\t1\nR"] {
+    for script in ["", "F\t1\t2\n", "F\t1\t1\nX\n", "F\t1\t1\nX", "F\t1\t1\nX\nR\nS\n", "F\t1\t1\nR"] {
         let refused = "page: refused by cause 2: phase doesn't allow the call\n";
         assert_eq!(page(script.as_bytes()), (Some(1), String::new(), refused.into()), "{script:?}");
     }
@@ -106,7 +111,8 @@ fn marks(text: &str) -> usize {
 
 #[test]
 fn scripts_lead_to_pages_of_all_sizes_and_of_many_epochs() {
-    let pages: Vec<Result<Vec<u8>, u8>> = (1..=120).map(|seed| after_script(&script(seed, 400)[..]).unwrap()).collect();
+    let pages: Vec<Result<Vec<u8>, u8>> =
+        (1..=120).map(|seed| after_script(&script(seed, 400)[..]).unwrap().0).collect();
     let taken: Vec<&str> = pages.iter().flatten().map(|text| std::str::from_utf8(text).unwrap()).collect();
     let refused: Vec<u8> = pages.iter().filter_map(|page| page.as_ref().err().copied()).collect();
     assert!(taken.len() >= 100, "{} taken", taken.len());
@@ -125,7 +131,7 @@ fn the_scripts_pages_have_numbers_of_every_length_and_cells_that_moved() {
     let mut lengths = [0; 21];
     let (mut moved, mut unmoved) = (0, 0);
     for seed in 1..=120 {
-        let Ok(text) = after_script(&script(seed, 400)[..]).unwrap() else { continue };
+        let Ok(text) = after_script(&script(seed, 400)[..]).unwrap().0 else { continue };
         for line in std::str::from_utf8(&text).unwrap().lines().skip(1) {
             let (record, backup) = (&line[5..25], &line[26..46]);
             for word in [record, backup] {

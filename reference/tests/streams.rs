@@ -1,4 +1,4 @@
-//! Where reading or writing fails, drill, fault program and page say so and end with status 1.
+//! Where reading or writing fails, drill, fault program and page say so, nothing else, and end with status 1.
 #![deny(warnings)]
 
 use std::fs::{File, OpenOptions};
@@ -127,9 +127,28 @@ fn an_output_that_is_full_for_now_is_a_failure() {
 }
 
 #[test]
+fn lines_that_are_no_calls_are_not_told_of_where_reading_or_writing_fails() {
+    let full = || OpenOptions::new().write(true).open("/dev/full").unwrap().into();
+    both_fail(|| text("Y\n\n"), full);
+    fails("page", text("F\t1\t1\nY\n"), full());
+    for program in ["drill", "fault", "page"] {
+        let (mut ours, theirs) = UnixStream::pair().unwrap();
+        theirs.set_nonblocking(true).unwrap();
+        ours.write_all(b"Y\n\nY").unwrap();
+        fails(program, stream(theirs), Stdio::piped());
+    }
+}
+
+#[test]
 fn a_message_that_cannot_be_written_changes_nothing() {
     let full = OpenOptions::new().write(true).open("/dev/full").unwrap();
     let mut command = Command::new(env!("CARGO_BIN_EXE_reference"));
     command.arg("drill").stdin(File::open("/").unwrap()).stdout(Stdio::null()).stderr(full);
     assert_eq!(command.status().unwrap().code(), Some(1));
+    for (program, code) in [("drill", 0), ("fault", 0), ("page", 1)] {
+        let full = OpenOptions::new().write(true).open("/dev/full").unwrap();
+        let mut command = Command::new(env!("CARGO_BIN_EXE_reference"));
+        command.arg(program).stdin(text("F\t1\t1\nY\n")).stdout(Stdio::null()).stderr(full);
+        assert_eq!(command.status().unwrap().code(), Some(code), "{program}");
+    }
 }
