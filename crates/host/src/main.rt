@@ -1,90 +1,98 @@
-// An example of a host (docs/HOST.md): it formats a board, changes a cell under its lock, takes a checkpoint, changes the cell again,
-// is cut, recovers, and prints what the cell reads before the cut and after it.
+// An example of a host (docs/HOST.md): it boots on a blank memory, changes a cell under its lock, takes a checkpoint,
+// changes the cell again, is cut, boots again, and prints what the cell reads before the cut and after it.
+mod boot;
+mod runs;
+
 use board::Call;
 use board::State;
+use boot::boot;
 use libc::STDOUT_FILENO;
+use runs::LINES;
+use runs::Reached;
+use runs::Row;
+use runs::WORDS;
+use runs::condition_of;
+use runs::is_free;
+use runs::make;
+use runs::until_finished;
+use runs::until_released;
 
-// A row of a board with one cell line.
-type Row = [u64; 16];
-
-// Tells the number of a call that was turned down.
-fn told(number: u8) {
-    if number != engine::TAKEN {
-        io::write_all(STDOUT_FILENO, b"turned down by ");
-        io::print_decimal(STDOUT_FILENO, number as u64);
+// Tells the number of a call that was refused, and passes the record on.
+fn told(r: Reached) -> State {
+    if r.number != engine::TAKEN {
+        io::write_all(STDOUT_FILENO, b"refused by ");
+        io::print_decimal(STDOUT_FILENO, r.number as u64);
+        io::write_all(STDOUT_FILENO, b"\n");
     }
+    r.state
 }
 
-// Makes one call, as often as is asked, and passes on the record that it leaves.
-fn make(s: State, m: &mut Row, c: &mut Row, call: Call, times: u64) -> State {
-    let mut state = s;
-    let mut left = times;
-    while left > 0 {
-        let answer = engine::perform(call, state, m, c);
-        state = answer.state;
-        told(answer.number);
-        left -= 1;
-    }
-    state
-}
-
-// Prints what cell 1 reads.
-fn show(s: State, m: &mut Row, c: &mut Row) {
-    let answer = engine::perform(Call::Read { cell: 1 }, s, m, c);
-    io::print_decimal(STDOUT_FILENO, answer.value);
+// Prints what a cell reads.
+fn show(cell: u64, s: State, memory: &mut Row, cache: &mut Row) {
+    let read = make(Call::Read { cell }, s, memory, cache);
+    io::print_decimal(STDOUT_FILENO, read.value);
     io::write_all(STDOUT_FILENO, b"\n");
 }
 
-// An update or a restart point of worker 0: its start, and the three stores of a cell that is not logged yet.
-fn change(s: State, m: &mut Row, c: &mut Row, start: Call) -> State {
-    let begun = make(s, m, c, start, 1);
-    make(begun, m, c, Call::Advance { worker: 0 }, 3)
-}
-
-// Worker 0's update of cell 1, with the cell's lock taken before and given back after.
-fn update(s: State, m: &mut Row, c: &mut Row, value: u64) -> State {
-    let take = Call::TakeLock { worker: 0, lock: 1 };
-    let give_back = Call::GiveBackLock { worker: 0, lock: 1 };
-    let start = Call::Update {
+// Worker 0's update of a cell, with the cell's lock taken before and given back after; a worker that is not free begins
+// none.
+fn update(cell: u64, value: u64, s: State, memory: &mut Row, cache: &mut Row) -> State {
+    if !is_free(condition_of(s, 0)) {
+        return s;
+    }
+    let lock = cell % 16;
+    let take = Call::TakeLock { worker: 0, lock };
+    let change = Call::Update {
         worker: 0,
-        cell: 1,
+        cell,
         value,
     };
-    let holding = make(s, m, c, take, 1);
-    let changed = change(holding, m, c, start);
-    make(changed, m, c, give_back, 1)
+    let give_back = Call::GiveBackLock { worker: 0, lock };
+    let holding = told(make(take, s, memory, cache));
+    let begun = told(make(change, holding, memory, cache));
+    let changed = told(until_finished(0, begun, memory, cache));
+    told(make(give_back, changed, memory, cache))
 }
 
-// A new board, 7 in cell 1, a checkpoint of n = 1 dirty line in n + 3 steps; then 9 in cell 1, its line written back.
-fn work(m: &mut Row, c: &mut Row) {
-    let format = Call::FormatStart {
-        lines: 1,
-        workers: 1,
-    };
-    let point = Call::RestartPoint {
+// A checkpoint of a board with one worker: requested; the worker brought to a restart point, where it waits; the steps
+// up to the release. It is complete where the aim is met.
+fn checkpoint(point: u64, s: State, memory: &mut Row, cache: &mut Row) -> Reached {
+    let asked = make(Call::Request, s, memory, cache);
+    if asked.number != engine::TAKEN {
+        return asked;
+    }
+    let restart = Call::RestartPoint {
         worker: 0,
-        value: 3,
+        value: point,
     };
-    let started = make(engine::off(), m, c, format, 1);
-    let fresh = make(started, m, c, Call::Step, 3);
-    let seven = update(fresh, m, c, 7);
-    let asked = make(seven, m, c, Call::Request, 1);
-    let waiting = change(asked, m, c, point);
-    let kept = make(waiting, m, c, Call::Step, 4);
-    let nine = update(kept, m, c, 9);
-    let written = make(nine, m, c, Call::WriteBack { line: 1 }, 1);
-    show(written, m, c);
+    let begun = told(make(restart, asked.state, memory, cache));
+    let waiting = told(until_finished(0, begun, memory, cache));
+    until_released(waiting, memory, cache)
 }
 
-// After a cut: 3 steps for the logged cell and 1 for the other.
-fn recover(m: &mut Row, c: &mut Row) {
-    let started = make(engine::off(), m, c, Call::RecoveryStart, 1);
-    let running = make(started, m, c, Call::Step, 4);
-    show(running, m, c);
+// Before the cut: 7 in cell 1 and a checkpoint; then 9 in cell 1, and its line written back, as hardware may do.
+fn work(memory: &mut Row, cache: &mut Row) {
+    let fresh = boot(LINES as u64, 1, memory, cache);
+    if fresh.running {
+        let seven = update(1, 7, fresh.state, memory, cache);
+        let kept = told(checkpoint(3, seven, memory, cache));
+        let nine = update(1, 9, kept, memory, cache);
+        let written = told(make(Call::WriteBack { line: 1 }, nine, memory, cache));
+        show(1, written, memory, cache);
+    }
 }
 
+// After the cut: what the checkpoint held.
+fn recover(memory: &mut Row, cache: &mut Row) {
+    let again = boot(LINES as u64, 1, memory, cache);
+    if again.running {
+        show(1, again.state, memory, cache);
+    }
+}
+
+// The memory stays; after the cut cache and record are new.
 fn main() {
-    let mut memory = [0u64; 16];
-    work(&mut memory, &mut [0u64; 16]);
-    recover(&mut memory, &mut [0u64; 16]);
+    let mut memory = [0u64; WORDS];
+    work(&mut memory, &mut [0u64; WORDS]);
+    recover(&mut memory, &mut [0u64; WORDS]);
 }

@@ -1,0 +1,2 @@
+-- What the contracts of the example host cite beside the definitions of crate `board`.
+pub mod Aims
