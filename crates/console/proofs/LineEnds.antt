@@ -41,7 +41,9 @@ noted-why m number w v shown.Unknown same =
 noted-why m number w v shown.Nothing same = refl
 noted-why m number w v (shown.Number x) same = refl
 
-module _ (program : Program) (b : Board) (n : ℕ) (m : Misread) (text : List ℕ) (number letter : ℕ) (k : Line) (why : ℕ) (d : Done) (counts : number ≡ following n) (means : k ≡ meaning program text) (reasons : eqb (m .lines) 0 ≡ true → why ≡ reasonNumber (reason program text (meaning program text))) (did : d ≡ carriedOut k b) where
+module _ (program : Program) (b : Board) (n : ℕ) (m : Misread) (text : List ℕ) (number letter : ℕ) (k : Line) (why : ℕ) (d : Done)
+    (counts : number ≡ following n) (means : k ≡ meaning program text)
+    (reasons : eqb (m .lines) 0 ≡ true → why ≡ reasonNumber (reason program text (meaning program text))) (did : d ≡ carriedOut k b) where
   -- The text of an answer whose parts are the line's.
   line-text : letter ≡ letterOf (getD text 0 0) (d .answer) → answerText number letter (d .answer) (d .value) ≡ lineText program (following n) b text
   line-text heads =
@@ -54,7 +56,8 @@ module _ (program : Program) (b : Board) (n : ℕ) (m : Misread) (text : List �
   line-leaves =
       let same : d ≡ carriedOut (meaning program text) b = did ∙ ap (λ (x : Line). carriedOut x b) means in
       ap (λ (x : Done). carried (x .board) number (noted m number why (x .answer)) []) same
-      ∙ ap (λ (x : ℕ). carried (carriedOut (meaning program text) b .board) x (noted m x why (carriedOut (meaning program text) b .answer)) []) counts
+      ∙ ap (λ (x : ℕ). carried (carriedOut (meaning program text) b .board) x (noted m x why (carriedOut (meaning program text) b .answer)) [])
+      counts
       ∙ ap (λ (x : Misread). carried (carriedOut (meaning program text) b .board) (following n) x [])
       (noted-why m (following n) why (reasonNumber (reason program text (meaning program text))) (carriedOut (meaning program text) b .answer) reasons)
 
@@ -75,7 +78,8 @@ module _ (program : Program) (b : Board) (n : ℕ) (m : Misread) (text : List �
 reason-of-kept : (program : Program) (text : List ℕ) →
     reasonNumber (reason program (take 80 text) (meaning program (take 80 text))) ≡ reasonNumber (reason program text (meaning program text))
 reason-of-kept program text =
-    ap (λ (r : Reason). reasonNumber r) (reason-kept program text (meaning program (take 80 text)) ∙ ap (λ (k : Line). reason program text k) (meaning-kept program text))
+    ap (λ (r : Reason). reasonNumber r)
+    (reason-kept program text (meaning program (take 80 text)) ∙ ap (λ (k : Line). reason program text k) (meaning-kept program text))
 
 -- A line is read by its first 80 bytes.
 pub reads-kept : {program : Program} {wanted : Bool} {text : List ℕ} {asked : LineAsked} → LineRead program wanted text asked →
@@ -92,10 +96,12 @@ pub ended-kept : (program : Program) (b : Board) (n : ℕ) (m : Misread) (text :
     ended program (carried b n m (take 80 text)) ≡ ended program (carried b n m text)
 ended-kept program b n m text =
     let end : ℕ → ℕ → Done → Fed =
-    λ letter why d. leaving (carried (d .board) (following n) (noted m (following n) why (d .answer)) []) (answerText (following n) letter (d .answer) (d .value)) in
+    λ letter why d. leaving (carried (d .board) (following n) (noted m (following n) why (d .answer)) [])
+    (answerText (following n) letter (d .answer) (d .value)) in
     let d = carriedOut (meaning program text) b in
     let why = reasonNumber (reason program text (meaning program text)) in
-    ap (λ (k : Line). end (letterOf (getD (take 80 text) 0 0) (carriedOut k b .answer)) (reasonNumber (reason program (take 80 text) (meaning program (take 80 text)))) (carriedOut k b)) (meaning-kept program text)
+    let kept = reasonNumber (reason program (take 80 text) (meaning program (take 80 text))) in
+    ap (λ (k : Line). end (letterOf (getD (take 80 text) 0 0) (carriedOut k b .answer)) kept (carriedOut k b)) (meaning-kept program text)
     ∙ ap (λ (r : ℕ). end (letterOf (getD (take 80 text) 0 0) (d .answer)) r d) (reason-of-kept program text)
     ∙ ap (λ (first : ℕ). end (letterOf first (d .answer)) why d) (getD-take 80 text 0 0 (omega arith))
 

@@ -52,7 +52,8 @@ kept p bytes = carried (p .board) (p .number) (p .misread) (take 80 (p .begun ++
 abbrev pub ended : Program → Carried → Fed
 ended program p =
     leaving
-    (carried (carriedOut (meaning program (p .begun)) (p .board) .board) (following (p .number)) (lineNoted program (p .number) (p .board) (p .misread) (p .begun)) [])
+    (carried (carriedOut (meaning program (p .begun)) (p .board) .board) (following (p .number))
+    (lineNoted program (p .number) (p .board) (p .misread) (p .begun)) [])
     (lineText program (following (p .number)) (p .board) (p .begun))
 
 -- One byte: the end of a line, or a byte of it.

@@ -59,6 +59,7 @@ reasonExamples =
     row Fault ('B' ∷ tab ∷ '0' ∷ tab ∷ '9' ∷ []) Unfit ∷
     []
 
-pub reasons-told : map (λ (e : ReasonExample). reason (e .program) (e .text) (meaning (e .program) (e .text))) reasonExamples ≡ map (λ (e : ReasonExample). e .why) reasonExamples
+pub reasons-told : map (λ (e : ReasonExample). reason (e .program) (e .text) (meaning (e .program) (e .text))) reasonExamples ≡
+    map (λ (e : ReasonExample). e .why) reasonExamples
 unfolding fields first later has unlettered fieldReason fieldsReason formReason unknownReason allDigits valueAfter isNumber allNumbers drilled damaging formed meaning
 reasons-told = refl

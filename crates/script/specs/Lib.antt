@@ -1,4 +1,5 @@
--- `Grammar` says what a line of the script means, `Answers` what is written, `Reasons` why a line is answered `?`. `Fields` has what only private functions' contracts cite.
+-- `Grammar` says what a line of the script means, `Answers` what is written, `Reasons` why a line is answered `?`.
+-- `Fields` has what only private functions' contracts cite.
 pub mod Grammar
 pub mod Answers
 pub mod Fields

@@ -1,4 +1,5 @@
--- Why a line of the script is answered `?`, by the first reason that fits it. Document 01 fixes what standard output has of such a line; what is said of it on standard error is ours.
+-- Why a line of the script is answered `?`, by the first reason that fits it. Document 01 fixes what standard output has of
+-- such a line; what is said of it on standard error is ours.
 use Prim.Native.Nat.{ℕ}
 use mathlib.Core.Path.{_≡_}
 use mathlib.Core.List.{List, [], _∷_, _++_, map}
@@ -79,7 +80,9 @@ formReason program l =
 -- Why a line asks for nothing.
 unfoldable pub unknownReason : Program → List ℕ → Reason
 unknownReason program l =
-    cond (ltb 79 (length l)) Long (cond (byteOrderMark l) ByteOrderMark (cond (has carriageReturn l) CarriageReturn (cond (has blank l) Blanks (formReason program l))))
+    cond (ltb 79 (length l)) Long
+    (cond (byteOrderMark l) ByteOrderMark
+    (cond (has carriageReturn l) CarriageReturn (cond (has blank l) Blanks (formReason program l))))
 
 -- Why a line is answered `?`, from what it asks for: one that asks for something has a number that cannot be put there.
 abbrev pub reason : Program → List ℕ → Line → Reason
@@ -109,7 +112,8 @@ Unlisted =
 abbrev pub asksOnce : Program → ℕ → Bool
 asksOnce program letter =
     let ignored : List ℕ → Bool = λ numbers. isUnknown (command program letter numbers) in
-    not (ignored [] && (ignored (0 ∷ []) && (ignored (0 ∷ 0 ∷ []) && (ignored (0 ∷ 0 ∷ 0 ∷ []) && (ignored (0 ∷ 0 ∷ 0 ∷ 0 ∷ []) && ignored (0 ∷ 0 ∷ 0 ∷ 0 ∷ 0 ∷ []))))))
+    not (ignored [] && (ignored (0 ∷ []) && (ignored (0 ∷ 0 ∷ []) && (ignored (0 ∷ 0 ∷ 0 ∷ [])
+    && (ignored (0 ∷ 0 ∷ 0 ∷ 0 ∷ []) && ignored (0 ∷ 0 ∷ 0 ∷ 0 ∷ 0 ∷ []))))))
 
 -- Every letter listed asks for something.
 abbrev pub Listed : Type 0

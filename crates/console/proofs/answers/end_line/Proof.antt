@@ -41,8 +41,10 @@ returns c =
     let text = take 80 (take (p .begun) (a .line .now) ++ a .rest .now) in
     let b = boardOf (p .session) (a .memory .now) (a .cache .now) in
     let did = acted line.Unknown b (done b Unknown Nothing) (c .before .before .before .before .enum-told .given .1) refl in (
-      ends-as (line-ends (a .program) b (p .number) (p .misread) text (number .result) _ (asked .result .line) (asked .result .why) _ (number .ensures) (asked .ensures .means) (asked .ensures .reasons) did refl (c .put-answer .ensures .0) (c .put-answer .ensures .1) (omega (arith, start .pre .2, c .before .put-answer-arg .given)))
-          (sym (ap (λ (q : Ongoing). carriedBy q (a .memory .now) (a .cache .now) (asked .last .1 .1 .0)) (next .ensures) ∙ ap (λ (m : Misread). carried b (number .result) m []) (noting .ensures))),
+      ends-as (line-ends (a .program) b (p .number) (p .misread) text (number .result) _ (asked .result .line) (asked .result .why) _
+          (number .ensures) (asked .ensures .means) (asked .ensures .reasons) did refl (c .put-answer .ensures .0) (c .put-answer .ensures .1) (omega (arith, start .pre .2, c .before .put-answer-arg .given)))
+          (sym (ap (λ (q : Ongoing). carriedBy q (a .memory .now) (a .cache .now) (asked .last .1 .1 .0)) (next .ensures)
+          ∙ ap (λ (m : Misread). carried b (number .result) m []) (noting .ensures))),
       ready-after (p .session) (number .result) (noting .result) (next .ensures) (start .pre .0 .session-within),
     )
 
@@ -62,12 +64,16 @@ returns-2 c =
     let b = boardOf (p .session) (a .memory .now) (a .cache .now) in
     let did = left (act .result) (act .last .1 .0) (act .last .1 .1 .0) in
     let heads = letter .ensures ∙ ap (λ (first : ℕ). letterOf first (act .result .answer)) (asked .ensures .begins) in (
-      ends-as (line-ends (a .program) b (p .number) (p .misread) text (number .result) (letter .result) (asked .result .line) (asked .result .why) did (number .ensures) (asked .ensures .means) (asked .ensures .reasons) (act .ensures .0) heads {out = a .out .now} {at = a .at} (wrote .ensures .0) (wrote .ensures .1) (omega (arith, start .pre .2, c .before .before .before .put-answer-arg2 .given)))
-          (sym (ap (λ (q : Ongoing). carriedBy q (act .last .1 .0) (act .last .1 .1 .0) (asked .last .1 .1 .0)) (next .ensures) ∙ ap (λ (m : Misread). carried (did .board) (number .result) m []) (noting .ensures))),
+      ends-as (line-ends (a .program) b (p .number) (p .misread) text (number .result) (letter .result) (asked .result .line) (asked .result .why) did
+          (number .ensures) (asked .ensures .means) (asked .ensures .reasons) (act .ensures .0) heads {out = a .out .now} {at = a .at}
+          (wrote .ensures .0) (wrote .ensures .1) (omega (arith, start .pre .2, c .before .before .before .put-answer-arg2 .given)))
+          (sym (ap (λ (q : Ongoing). carriedBy q (act .last .1 .0) (act .last .1 .1 .0) (asked .last .1 .1 .0)) (next .ensures)
+          ∙ ap (λ (m : Misread). carried (did .board) (number .result) m []) (noting .ensures))),
       ready-after (act .result .session) (number .result) (noting .result) (next .ensures) (act .ensures .1),
     )
 
 pub end-line-spec : {M : Type 1} → statement M
 end-line-spec =
     tie.close
-    (tie.spec (λ c κs. search needs) (λ c κs. search needs) (λ c. search needs) (λ c κs. search needs) (λ c κs. search needs) room (λ c. search needs) returns (λ c κs. search needs) (λ c κs. search needs) room-2 (λ c κs. search needs) (λ c κs. search needs) same-length returns-2)
+    (tie.spec (λ c κs. search needs) (λ c κs. search needs) (λ c. search needs) (λ c κs. search needs) (λ c κs. search needs) room (λ c. search needs) returns
+    (λ c κs. search needs) (λ c κs. search needs) room-2 (λ c κs. search needs) (λ c κs. search needs) same-length returns-2)

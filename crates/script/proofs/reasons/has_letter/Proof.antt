@@ -15,4 +15,5 @@ returns-3 c = rw (c .before .before .enum-told3 .given .1) (c .has-byte3 .ensure
 pub has-letter-spec : {M : Type 1} → statement M
 has-letter-spec =
     tie.close
-    (tie.spec (search needs) (λ c. search needs) (λ c κs. search needs) (search needs) (λ c. search needs) (λ c κs. search needs) (search needs) (λ c. search needs) (λ c κs. search needs) returns returns-2 returns-3)
+    (tie.spec (search needs) (λ c. search needs) (λ c κs. search needs) (search needs)
+    (λ c. search needs) (λ c κs. search needs) (search needs) (λ c. search needs) (λ c κs. search needs) returns returns-2 returns-3)

@@ -49,4 +49,5 @@ returns-2 c = sym (c .before .loop .inv .1 ∙ fields-end _ (c .before .loop .at
 pub why-fields-spec : {M : Type 1} → statement M
 why-fields-spec =
     tie.close
-    (tie.spec Inv-loop μ-loop loop-holds (search needs) (search needs) (search needs) (search needs) (search needs) (search needs) (search needs) loop-less loop-again (search needs) returns returns-2)
+    (tie.spec Inv-loop μ-loop loop-holds (search needs) (search needs) (search needs) (search needs) (search needs)
+    (search needs) (search needs) loop-less loop-again (search needs) returns returns-2)

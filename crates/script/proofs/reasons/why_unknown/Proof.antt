@@ -21,14 +21,16 @@ unfolding unknownReason
 returns-2 c =
     let s = c .before .before .before .before .args .line .now in
     sym (passedOver (ltb 79 (length s)) Long _ (le-ltb 79 (length s) (c .before .before .if1 .left))
-    ∙ chosen (byteOrderMark s) ByteOrderMark _ (sym (c .before .begins-marked .ensures) ∙ c .if2 .taken))
+    ∙ chosen (byteOrderMark s) ByteOrderMark _
+    (sym (c .before .begins-marked .ensures) ∙ c .if2 .taken))
 
 returns-3 : tie.Need-returns-3
 unfolding unknownReason
 returns-3 c =
     let s = c .before .before .before .before .before .before .args .line .now in
     sym (passedOver (ltb 79 (length s)) Long _ (le-ltb 79 (length s) (c .before .before .before .before .if1 .left))
-    ∙ passedOver (byteOrderMark s) ByteOrderMark _ (sym (c .before .before .before .begins-marked .ensures) ∙ c .before .before .if2 .left)
+    ∙ passedOver (byteOrderMark s) ByteOrderMark _
+    (sym (c .before .before .before .begins-marked .ensures) ∙ c .before .before .if2 .left)
     ∙ chosen (has carriageReturn s) CarriageReturn _ (sym (c .before .has-byte .ensures) ∙ c .if3 .taken))
 
 returns-4 : tie.Need-returns-4
@@ -36,7 +38,8 @@ unfolding unknownReason
 returns-4 c =
     let s = c .before .before .before .before .before .before .before .before .args .line .now in
     sym (passedOver (ltb 79 (length s)) Long _ (le-ltb 79 (length s) (c .before .before .before .before .before .before .if1 .left))
-    ∙ passedOver (byteOrderMark s) ByteOrderMark _ (sym (c .before .before .before .before .before .begins-marked .ensures) ∙ c .before .before .before .before .if2 .left)
+    ∙ passedOver (byteOrderMark s) ByteOrderMark _
+    (sym (c .before .before .before .before .before .begins-marked .ensures) ∙ c .before .before .before .before .if2 .left)
     ∙ passedOver (has carriageReturn s) CarriageReturn _ (sym (c .before .before .before .has-byte .ensures) ∙ c .before .before .if3 .left)
     ∙ chosen (has blank s) Blanks _ (sym (c .before .has-byte2 .ensures) ∙ c .if4 .taken))
 
@@ -47,7 +50,8 @@ returns-5 c =
     let s = a .line .now in
     c .why-form .ensures
     ∙ sym (passedOver (ltb 79 (length s)) Long _ (le-ltb 79 (length s) (c .before .before .before .before .before .before .before .if1 .left))
-    ∙ passedOver (byteOrderMark s) ByteOrderMark _ (sym (c .before .before .before .before .before .before .begins-marked .ensures) ∙ c .before .before .before .before .before .if2 .left)
+    ∙ passedOver (byteOrderMark s) ByteOrderMark _
+    (sym (c .before .before .before .before .before .before .begins-marked .ensures) ∙ c .before .before .before .before .before .if2 .left)
     ∙ passedOver (has carriageReturn s) CarriageReturn _ (sym (c .before .before .before .before .has-byte .ensures) ∙ c .before .before .before .if3 .left)
     ∙ passedOver (has blank s) Blanks (formReason (a .program) s) (sym (c .before .before .has-byte2 .ensures) ∙ c .before .if4 .left))
 
