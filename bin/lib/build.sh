@@ -69,7 +69,7 @@ half_written() {
   local c
   for c in "${crates[@]}"; do
     if [ -f "$top/target/stamp/$c" ]; then continue; fi
-    rm -rf "$top/target/rlib/$c.rlib" "$top/target/obj/$c.o" "$top/target/bin/$c"
+    rm -rf "$top/target/rlib/$c.rlib" "$top/target/rlib/$c.rlib.tmp-"* "$top/target/obj/$c.o"* "$top/target/bin/$c"
   done
 }
 
