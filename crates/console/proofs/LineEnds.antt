@@ -27,19 +27,19 @@ use Rattle.console.specs.declared.answers.Ongoing.{Ongoing}
 use Rattle.session.specs.declared.Session.{Session}
 use Rattle.session.specs.Session.{Within}
 use Rattle.session.specs.Lines.{Done, carriedOut}
-use Rattle.console.specs.Transcript.{following, lineText, misread, noted}
+use Rattle.console.specs.Transcript.{following, lineText, misread, tallied}
 use Rattle.console.specs.Pieces.{Carried, carried, Fed, leaving, ended, afterLine, Ready, LineRead, LineEnds}
 
 -- ---- what is written
 
--- What is noted does not go by the reason where a line was noted before.
-noted-why : (m : Misread) (number : ℕ) (w v : ℕ) (a : Shown) → (eqb (m .lines) 0 ≡ true → w ≡ v) → noted m number w a ≡ noted m number v a
-noted-why m number w v shown.Unknown same =
-    on (λ (x : Misread). x ≡ noted m number v shown.Unknown) (eqb (m .lines) 0) (misread 1 number w) (misread (following (m .lines)) (m .first) (m .why))
+-- What is tallied does not go by the reason where a line was tallied before.
+tallied-why : (m : Misread) (number : ℕ) (w v : ℕ) (a : Shown) → (eqb (m .lines) 0 ≡ true → w ≡ v) → tallied m number w a ≡ tallied m number v a
+tallied-why m number w v shown.Unknown same =
+    on (λ (x : Misread). x ≡ tallied m number v shown.Unknown) (eqb (m .lines) 0) (misread 1 number w) (misread (following (m .lines)) (m .first) (m .why))
     (λ t. ap (misread 1 number) (same t) ∙ sym (chosen (eqb (m .lines) 0) _ _ t))
     (λ t. sym (passedOver (eqb (m .lines) 0) _ _ t))
-noted-why m number w v shown.Nothing same = refl
-noted-why m number w v (shown.Number x) same = refl
+tallied-why m number w v shown.Nothing same = refl
+tallied-why m number w v (shown.Number x) same = refl
 
 module _ (program : Program) (b : Board) (n : ℕ) (m : Misread) (text : List ℕ) (number letter : ℕ) (k : Line) (why : ℕ) (d : Done)
     (counts : number ≡ following n) (means : k ≡ meaning program text)
@@ -52,19 +52,19 @@ module _ (program : Program) (b : Board) (n : ℕ) (m : Misread) (text : List �
       ∙ ap (λ (x : Done). answerText (following n) (letterOf (getD text 0 0) (x .answer)) (x .answer) (x .value)) (did ∙ ap (λ (x : Line). carriedOut x b) means)
 
   -- What a line leaves.
-  line-leaves : carried (d .board) number (noted m number why (d .answer)) [] ≡ ended program (carried b n m text) .after
+  line-leaves : carried (d .board) number (tallied m number why (d .answer)) [] ≡ ended program (carried b n m text) .after
   line-leaves =
       let same : d ≡ carriedOut (meaning program text) b = did ∙ ap (λ (x : Line). carriedOut x b) means in
-      ap (λ (x : Done). carried (x .board) number (noted m number why (x .answer)) []) same
-      ∙ ap (λ (x : ℕ). carried (carriedOut (meaning program text) b .board) x (noted m x why (carriedOut (meaning program text) b .answer)) [])
+      ap (λ (x : Done). carried (x .board) number (tallied m number why (x .answer)) []) same
+      ∙ ap (λ (x : ℕ). carried (carriedOut (meaning program text) b .board) x (tallied m x why (carriedOut (meaning program text) b .answer)) [])
       counts
       ∙ ap (λ (x : Misread). carried (carriedOut (meaning program text) b .board) (following n) x [])
-      (noted-why m (following n) why (reasonNumber (reason program text (meaning program text))) (carriedOut (meaning program text) b .answer) reasons)
+      (tallied-why m (following n) why (reasonNumber (reason program text (meaning program text))) (carriedOut (meaning program text) b .answer) reasons)
 
   -- A line's end, once its answer is written behind the others.
   pub line-ends : letter ≡ letterOf (getD text 0 0) (d .answer) → {out written : List ℕ} {at end : ℕ} →
       Put out at (answerText number letter (d .answer) (d .value)) written end → end ≤ at + 65 → at + 80 ≤ length out →
-      LineEnds (ended program (carried b n m text)) (carried (d .board) number (noted m number why (d .answer)) []) out at written end
+      LineEnds (ended program (carried b n m text)) (carried (d .board) number (tallied m number why (d .answer)) []) out at written end
   line-ends heads {out} {written} {at} {end} puts short room =
       record {
         leaves = line-leaves;
@@ -96,7 +96,7 @@ pub ended-kept : (program : Program) (b : Board) (n : ℕ) (m : Misread) (text :
     ended program (carried b n m (take 80 text)) ≡ ended program (carried b n m text)
 ended-kept program b n m text =
     let end : ℕ → ℕ → Done → Fed =
-    λ letter why d. leaving (carried (d .board) (following n) (noted m (following n) why (d .answer)) [])
+    λ letter why d. leaving (carried (d .board) (following n) (tallied m (following n) why (d .answer)) [])
     (answerText (following n) letter (d .answer) (d .value)) in
     let d = carriedOut (meaning program text) b in
     let why = reasonNumber (reason program text (meaning program text)) in

@@ -17,7 +17,7 @@ use Rattle.text.specs.Numbers.{spelled, allDigits, valueAfter}
 use Rattle.script.specs.Grammar.{fields, isNumber, allNumbers, drilled, damaging, formed, meaning}
 use Rattle.script.specs.Answers.{answerText, headerText}
 use Rattle.script.specs.Fields.{first, later}
-use Rattle.script.specs.Reasons.{has, unlettered, fieldReason, fieldsReason, formReason, unknownReason, reasonNumber}
+use Rattle.script.specs.Reasons.{standsIn, unlettered, fieldReason, fieldsReason, formReason, unknownReason, reasonNumber}
 use Rattle.script.specs.declared.Program.the-variants.{Drill, Fault, Page}
 use Rattle.script.specs.declared.Reason.the-variants.{Blanks, Letter, Unfit}
 use Rattle.console.specs.Transcript.{linesOf, answers, transcript, misread, noneMisread, misreadAfter, misreadIn}
@@ -113,5 +113,5 @@ abbrev wrong : List ℕ
 wrong = 'S' ∷ feed ∷ 'A' ∷ blank ∷ '0' ∷ feed ∷ feed ∷ roomy
 
 pub sample-misread : misreadIn Drill wrong ∷ misreadIn Drill roomy ∷ misreadIn Fault roomy ∷ misreadIn Page ('S' ∷ []) ∷ [] ≡ misread 3 2 (reasonNumber Blanks) ∷ misread 1 1 (reasonNumber Letter) ∷ misread 1 1 (reasonNumber Unfit) ∷ noneMisread ∷ []
-unfolding linesOf misreadAfter fields allDigits valueAfter isNumber allNumbers drilled damaging formed meaning first later has unlettered fieldReason fieldsReason formReason unknownReason next cause causes firstStanding
+unfolding linesOf misreadAfter fields allDigits valueAfter isNumber allNumbers drilled damaging formed meaning first later standsIn unlettered fieldReason fieldsReason formReason unknownReason next cause causes firstStanding
 sample-misread = refl

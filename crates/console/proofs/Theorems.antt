@@ -1,4 +1,4 @@
--- However an input is cut into pieces, what is written is the transcript of the whole input, and the board left and the lines noted are the whole input's.
+-- However an input is cut into pieces, what is written is the transcript of the whole input, and the board left and the lines tallied are the whole input's.
 use Prim.Native.Nat.{ℕ, suc}
 use mathlib.Core.Path.{_≡_, refl, sym, ap, _∙_}
 use mathlib.Core.Bool.{Bool, true, false, cond}
@@ -19,7 +19,7 @@ use Rattle.script.proofs.NumberLaws.{meaning-page}
 use Rattle.session.specs.Session.{firstBoard}
 use Rattle.session.specs.Lines.{carriedOut}
 use Rattle.console.specs.declared.answers.Misread.{Misread}
-use Rattle.console.specs.Transcript.{linesOf, following, lineText, answers, boardAfter, noneMisread, lineNoted, misreadAfter}
+use Rattle.console.specs.Transcript.{linesOf, following, lineText, answers, boardAfter, noneMisread, lineTallied, misreadAfter}
 use Rattle.console.specs.Pieces.{Carried, carried, first, Fed, leaving, kept, ended, andThen, fed, finished, fedAll, AnyPieces, AnyPiecesBoard, AnyPiecesMisread}
 use Rattle.console.specs.Printing.{printedOf, AnyPiecesPrinted, BoardOfDrill}
 use Rattle.console.proofs.LineEnds.{ended-kept}
@@ -65,7 +65,7 @@ unfoldable linesFed : Program → ℕ → Board → Misread → List (List ℕ) 
 linesFed program n b m [] = leaving (carried b n m []) []
 linesFed program n b m (line ∷ more) =
     andThen (ended program (carried b n m line))
-    (linesFed program (following n) (carriedOut (meaning program line) b .board) (lineNoted program n b m line) more)
+    (linesFed program (following n) (carriedOut (meaning program line) b .board) (lineTallied program n b m line) more)
 
 -- They have the answers written.
 lines-text : (program : Program) (n : ℕ) (b : Board) (m : Misread) (ls : List (List ℕ)) → linesFed program n b m ls .text ≡ answers program n b ls
@@ -73,22 +73,22 @@ unfolding linesFed answers
 lines-text program n b m [] = refl
 lines-text program n b m (line ∷ more) =
     ap (λ (t : List ℕ). lineText program (following n) b line ++ t)
-    (lines-text program (following n) (carriedOut (meaning program line) b .board) (lineNoted program n b m line) more)
+    (lines-text program (following n) (carriedOut (meaning program line) b .board) (lineTallied program n b m line) more)
 
 -- They leave the board after them.
 lines-board : (program : Program) (n : ℕ) (b : Board) (m : Misread) (ls : List (List ℕ)) → linesFed program n b m ls .after .board ≡ boardAfter program b ls
 unfolding linesFed boardAfter
 lines-board program n b m [] = refl
 lines-board program n b m (line ∷ more) =
-    lines-board program (following n) (carriedOut (meaning program line) b .board) (lineNoted program n b m line) more
+    lines-board program (following n) (carriedOut (meaning program line) b .board) (lineTallied program n b m line) more
 
--- They leave those noted that are answered `?`.
+-- They leave those tallied that are answered `?`.
 lines-misread : (program : Program) (n : ℕ) (b : Board) (m : Misread) (ls : List (List ℕ)) →
     linesFed program n b m ls .after .misread ≡ misreadAfter program n b m ls
 unfolding linesFed misreadAfter
 lines-misread program n b m [] = refl
 lines-misread program n b m (line ∷ more) =
-    lines-misread program (following n) (carriedOut (meaning program line) b .board) (lineNoted program n b m line) more
+    lines-misread program (following n) (carriedOut (meaning program line) b .board) (lineTallied program n b m line) more
 
 -- Of a line that has a byte, a byte is kept.
 some-kept : (n c : ℕ) (u : List ℕ) → length (take (suc n) (c ∷ u)) ≡ 0 → ⊥
@@ -117,7 +117,7 @@ module _ (program : Program) (b : Board) (n : ℕ) (m : Misread) (u : List ℕ) 
       linesFed program n b m (onto u (cond t ([] ∷ linesOf cs) (joined c (linesOf cs))))
 
   -- A line feed ends the line begun.
-  at-feed : closed program (fed program (ended program (carried b n m u) .after) cs) ≡ linesFed program (following n) (carriedOut (meaning program u) b .board) (lineNoted program n b m u) (linesOf cs) →
+  at-feed : closed program (fed program (ended program (carried b n m u) .after) cs) ≡ linesFed program (following n) (carriedOut (meaning program u) b .board) (lineTallied program n b m u) (linesOf cs) →
       Byte true
   unfolding linesFed
   at-feed again =
@@ -147,7 +147,7 @@ unfolding fed linesOf onto
 closed-fed program b n m u [] = last-line program b n m u
 closed-fed program b n m u (c ∷ cs) =
     either program b n m u c cs (eqb c feed)
-    (at-feed program b n m u c cs (closed-fed program (carriedOut (meaning program u) b .board) (following n) (lineNoted program n b m u) [] cs))
+    (at-feed program b n m u c cs (closed-fed program (carriedOut (meaning program u) b .board) (following n) (lineTallied program n b m u) [] cs))
     (inside program b n m u c cs (closed-fed program b n m (u ++ (c ∷ [])) cs))
 
 -- ---- pieces
@@ -179,7 +179,7 @@ pub any-pieces-board : AnyPiecesBoard
 any-pieces-board program pieces =
     ap (λ (f : Fed). f .after .board) (all-lines program pieces) ∙ lines-board program 0 firstBoard noneMisread (linesOf (flatten pieces))
 
--- The lines noted are the whole input's, however it is cut.
+-- The lines tallied are the whole input's, however it is cut.
 pub any-pieces-misread : AnyPiecesMisread
 any-pieces-misread program pieces =
     ap (λ (f : Fed). f .after .misread) (all-lines program pieces) ∙ lines-misread program 0 firstBoard noneMisread (linesOf (flatten pieces))

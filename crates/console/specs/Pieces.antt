@@ -18,7 +18,7 @@ use Rattle.session.specs.declared.Session.{Session}
 use Rattle.session.specs.Session.{boardOf, firstBoard, Within}
 use Rattle.session.specs.Lines.{carriedOut}
 use Rattle.console.specs.declared.answers.Misread.{Misread}
-use Rattle.console.specs.Transcript.{following, lineText, transcript, lastBoard, noneMisread, lineNoted, misreadIn}
+use Rattle.console.specs.Transcript.{following, lineText, transcript, lastBoard, noneMisread, lineTallied, misreadIn}
 
 -- What is carried from piece to piece: the board, the lines answered and those answered `?`, and the line begun.
 pub record Carried : Type 0 where
@@ -53,7 +53,7 @@ abbrev pub ended : Program → Carried → Fed
 ended program p =
     leaving
     (carried (carriedOut (meaning program (p .begun)) (p .board) .board) (following (p .number))
-    (lineNoted program (p .number) (p .board) (p .misread) (p .begun)) [])
+    (lineTallied program (p .number) (p .board) (p .misread) (p .begun)) [])
     (lineText program (following (p .number)) (p .board) (p .begun))
 
 -- One byte: the end of a line, or a byte of it.
@@ -88,7 +88,7 @@ abbrev pub AnyPiecesBoard : Type 0
 AnyPiecesBoard =
     (program : Program) (pieces : List (List ℕ)) → fedAll program first pieces .after .board ≡ lastBoard program (flatten pieces)
 
--- However an input is cut into pieces, the lines noted as answered `?` are those of the whole input.
+-- However an input is cut into pieces, the lines tallied as answered `?` are those of the whole input.
 abbrev pub AnyPiecesMisread : Type 0
 AnyPiecesMisread =
     (program : Program) (pieces : List (List ℕ)) → fedAll program first pieces .after .misread ≡ misreadIn program (flatten pieces)

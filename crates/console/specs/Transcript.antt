@@ -59,23 +59,23 @@ misread lines first why = record { lines = lines; first = first; why = why }
 abbrev pub noneMisread : Misread
 noneMisread = misread 0 0 0
 
--- A line answered, noted where the answer is `?`; number and reason are the first one's.
-abbrev pub noted : Misread → ℕ → ℕ → Shown → Misread
-noted m number why shown.Unknown =
+-- A line answered, tallied where the answer is `?`; number and reason are the first one's.
+abbrev pub tallied : Misread → ℕ → ℕ → Shown → Misread
+tallied m number why shown.Unknown =
     cond (eqb (m .lines) 0) (misread 1 number why) (misread (following (m .lines)) (m .first) (m .why))
-noted m number why shown.Nothing = m
-noted m number why (shown.Number n) = m
+tallied m number why shown.Nothing = m
+tallied m number why (shown.Number n) = m
 
--- A line after line `n`, noted where it is answered `?`.
-abbrev pub lineNoted : Program → ℕ → Board → Misread → List ℕ → Misread
-lineNoted program n b m line =
-    noted m (following n) (reasonNumber (reason program line (meaning program line))) (carriedOut (meaning program line) b .answer)
+-- A line after line `n`, tallied where it is answered `?`.
+abbrev pub lineTallied : Program → ℕ → Board → Misread → List ℕ → Misread
+lineTallied program n b m line =
+    tallied m (following n) (reasonNumber (reason program line (meaning program line))) (carriedOut (meaning program line) b .answer)
 
 -- The lines answered `?` after lines, each on the board that the one before it left.
 unfoldable pub misreadAfter : Program → ℕ → Board → Misread → List (List ℕ) → Misread
 misreadAfter program n b m [] = m
 misreadAfter program n b m (line ∷ more) =
-    misreadAfter program (following n) (carriedOut (meaning program line) b .board) (lineNoted program n b m line) more
+    misreadAfter program (following n) (carriedOut (meaning program line) b .board) (lineTallied program n b m line) more
 
 -- The lines of a whole input that are answered `?`.
 abbrev pub misreadIn : Program → List ℕ → Misread

@@ -5,7 +5,7 @@ ghost use Prim.Native.Nat.{ℕ, _+_, _≤_};
 ghost use mathlib.Core.Bool.{true};
 ghost use lib.ListN.{length, take, getD};
 ghost use Rattle.script.specs.Reasons.{reason, reasonNumber};
-ghost use Rattle.console.specs.Transcript.{noted};
+ghost use Rattle.console.specs.Transcript.{tallied};
 ghost use Rattle.console.specs.Pieces.{first, leaving, kept, ended, fed, finished, carriedBy, afterLine, Ready, LineRead, LineEnds, Stops};
 use crate::input::feed_at;
 use crate::input::keep;
@@ -81,7 +81,7 @@ fn after_line(session: Session, number: u64, misread: Misread) -> Ongoing
 
 // One line more that is answered `?`.
 fn one_more(misread: Misread, number: u64, why: u64) -> Misread
-    ensures { λ r. ⌜ r ≡ noted misread number why Shown.Unknown ⌝ }
+    ensures { λ r. ⌜ r ≡ tallied misread number why Shown.Unknown ⌝ }
 {
     if misread.lines == 0 {
         return Misread {
@@ -94,9 +94,9 @@ fn one_more(misread: Misread, number: u64, why: u64) -> Misread
     Misread { lines, ..misread }
 }
 
-// A line answered, noted where the answer is `?`.
-fn note(misread: Misread, number: u64, why: u64, answer: Shown) -> Misread
-    ensures { λ r. ⌜ r ≡ noted misread number why answer ⌝ }
+// A line answered, tallied where the answer is `?`.
+fn tally(misread: Misread, number: u64, why: u64, answer: Shown) -> Misread
+    ensures { λ r. ⌜ r ≡ tallied misread number why answer ⌝ }
 {
     match answer {
         Shown::Unknown => one_more(misread, number, why),
@@ -177,7 +177,7 @@ fn end_line(
     let number = std::num::wrapping_add_u64(progress.number, 1);
     if let Line::Unknown = call {
         return LineEnded {
-            progress: after_line(session, number, note(misread, number, why, Shown::Unknown)),
+            progress: after_line(session, number, tally(misread, number, why, Shown::Unknown)),
             end: script::put_answer(out, at, number, b'?', Shown::Unknown, Shown::Nothing),
         };
     }
@@ -188,7 +188,7 @@ fn end_line(
     let letter = script::letter(asked.first, answer);
     let end = script::put_answer(out, at, number, letter, answer, value);
     LineEnded {
-        progress: after_line(next, number, note(misread, number, why, answer)),
+        progress: after_line(next, number, tally(misread, number, why, answer)),
         end,
     }
 }

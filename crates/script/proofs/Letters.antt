@@ -9,7 +9,7 @@ use Rattle.script.specs.declared.Line.{Line}
 use Rattle.script.specs.declared.Line.the-variants.{Unknown}
 use Rattle.script.specs.declared.Program.the-variants.{Drill, Fault, Page}
 use Rattle.script.specs.Grammar.{drilled, damaging}
-use Rattle.script.specs.Reasons.{has, drillLetters, faultLetters, Unlisted, Listed}
+use Rattle.script.specs.Reasons.{standsIn, drillLetters, faultLetters, Unlisted, Listed}
 
 -- A letter is none of a list, and then a fact.
 abbrev Others : ℕ → List ℕ → Type 0 → Type 0
@@ -17,13 +17,13 @@ Others letter [] P = P
 Others letter (b ∷ bs) P = (eqb letter b ≡ false) × Others letter bs P
 
 -- A letter that is in neither of two lists is none of the first.
-others : (letter : ℕ) (bs more : List ℕ) → has letter (bs ++ more) ≡ false → Others letter bs (has letter more ≡ false)
-unfolding has
+others : (letter : ℕ) (bs more : List ℕ) → standsIn letter (bs ++ more) ≡ false → Others letter bs (standsIn letter more ≡ false)
+unfolding standsIn
 others letter [] more e = e
 others letter (b ∷ bs) more e = by-test (eqb b letter) e (λ q. eqb-false b letter q) (λ f. others letter bs more f)
   where
-    by-test : (t : Bool) → cond t true (has letter (bs ++ more)) ≡ false → (t ≡ false → b ≡ letter → ⊥) →
-        (has letter (bs ++ more) ≡ false → Others letter bs (has letter more ≡ false)) → Others letter (b ∷ bs) (has letter more ≡ false)
+    by-test : (t : Bool) → cond t true (standsIn letter (bs ++ more)) ≡ false → (t ≡ false → b ≡ letter → ⊥) →
+        (standsIn letter (bs ++ more) ≡ false → Others letter bs (standsIn letter more ≡ false)) → Others letter (b ∷ bs) (standsIn letter more ≡ false)
     by-test true e differs again = absurd (true≢false e)
     by-test false e differs again = (ne-eqb letter b (λ q. differs refl (sym q)), again e)
 

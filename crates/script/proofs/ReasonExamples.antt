@@ -11,7 +11,7 @@ use Rattle.text.specs.Ascii.{tab, blank, '-', '0', '9', 'A', 'B', 'G', 'K', 'S'
 use Rattle.text.specs.Numbers.{allDigits, valueAfter}
 use Rattle.script.specs.Grammar.{fields, isNumber, allNumbers, drilled, damaging, formed, meaning}
 use Rattle.script.specs.Fields.{first, later}
-use Rattle.script.specs.Reasons.{carriageReturn, has, unlettered, fieldReason, fieldsReason, formReason, unknownReason, reason}
+use Rattle.script.specs.Reasons.{carriageReturn, standsIn, unlettered, fieldReason, fieldsReason, formReason, unknownReason, reason}
 
 -- A line of a program's script, and why it is answered `?`.
 pub record ReasonExample : Type 0 where
@@ -28,13 +28,16 @@ past = 49 ∷ 56 ∷ 52 ∷ 52 ∷ 54 ∷ 55 ∷ 52 ∷ 52 ∷ 48 ∷ 55 ∷ 51 
 
 abbrev pub reasonExamples : List ReasonExample
 reasonExamples =
-    -- 80 bytes, blanks among them.
+    -- 80 bytes: blanks, and a byte-order mark before zeros.
     row Drill (replicate 80 blank) Long ∷
+    row Drill (239 ∷ 187 ∷ 191 ∷ replicate 77 '0') Long ∷
     -- The marks of UTF-8 and of UTF-16 in both orders, before "S"; two bytes of the first are none.
     row Drill (239 ∷ 187 ∷ 191 ∷ 'S' ∷ []) ByteOrderMark ∷
     row Drill (255 ∷ 254 ∷ 'S' ∷ []) ByteOrderMark ∷
     row Drill (254 ∷ 255 ∷ 'S' ∷ []) ByteOrderMark ∷
     row Drill (239 ∷ 187 ∷ 'S' ∷ []) Letter ∷
+    -- A byte-order mark, a blank and a carriage return.
+    row Drill (239 ∷ 187 ∷ 191 ∷ 'A' ∷ blank ∷ '0' ∷ carriageReturn ∷ []) ByteOrderMark ∷
     -- "A 0" with a blank and a carriage return, then with the blank alone.
     row Drill ('A' ∷ blank ∷ '0' ∷ carriageReturn ∷ []) CarriageReturn ∷
     row Drill ('A' ∷ blank ∷ '0' ∷ []) Blanks ∷
@@ -61,5 +64,5 @@ reasonExamples =
 
 pub reasons-told : map (λ (e : ReasonExample). reason (e .program) (e .text) (meaning (e .program) (e .text))) reasonExamples ≡
     map (λ (e : ReasonExample). e .why) reasonExamples
-unfolding fields first later has unlettered fieldReason fieldsReason formReason unknownReason allDigits valueAfter isNumber allNumbers drilled damaging formed meaning
+unfolding fields first later standsIn unlettered fieldReason fieldsReason formReason unknownReason allDigits valueAfter isNumber allNumbers drilled damaging formed meaning
 reasons-told = refl

@@ -1,8 +1,8 @@
 -- What is true of the reasons why a line is answered `?`, on what is left of a line or a field from a place on.
 use Prim.Native.Nat.{ℕ, suc, _+_, _-_, _≤_, _<_}
 use mathlib.Core.Path.{_≡_, refl, sym, ap, _∙_}
-use mathlib.Core.List.{List, [], _∷_}
-use mathlib.Core.Bool.{Bool, true, false, cond, not, _&&_}
+use mathlib.Core.List.{List, _∷_}
+use mathlib.Core.Bool.{Bool, true, false, cond, _&&_}
 use native.Mathlib.Omega.{arith}
 use native.Mathlib.Numerals.{add-one}
 use lib.Dec.{leb, ltb, eqb}
@@ -20,26 +20,26 @@ use Rattle.script.specs.declared.Reason.{Reason}
 use Rattle.script.specs.declared.Reason.the-variants.{Long, Count, Unfit}
 use Rattle.script.specs.Grammar.{isNumber}
 use Rattle.script.specs.Fields.{first, later, numberOf}
-use Rattle.script.specs.Reasons.{has, isUnknown, fieldReason, fieldsReason, unknownReason, reason}
+use Rattle.script.specs.Reasons.{standsIn, isUnknown, fieldReason, fieldsReason, unknownReason, reason}
 use Rattle.script.proofs.FieldLaws.{first-take, later-parts}
 
 -- ---- a byte in a line
 
-pub has-here : (byte : ℕ) (s : List ℕ) (i : ℕ) → i < length s → getD s i 0 ≡ byte → has byte (drop i s) ≡ true
-unfolding has
+pub has-here : (byte : ℕ) (s : List ℕ) (i : ℕ) → i < length s → getD s i 0 ≡ byte → standsIn byte (drop i s) ≡ true
+unfolding standsIn
 has-here byte s i h e =
-    ap (has byte) (drop-cons s i 0 h) ∙ chosen (eqb (getD s i 0) byte) true (has byte (drop (suc i) s)) (eq-eqb (getD s i 0) byte e)
+    ap (standsIn byte) (drop-cons s i 0 h) ∙ chosen (eqb (getD s i 0) byte) true (standsIn byte (drop (suc i) s)) (eq-eqb (getD s i 0) byte e)
 
-pub has-later : (byte : ℕ) (s : List ℕ) (i : ℕ) → i < length s → (getD s i 0 ≡ byte → ⊥) → has byte (drop i s) ≡ has byte (drop (i + 1) s)
-unfolding has
+pub has-later : (byte : ℕ) (s : List ℕ) (i : ℕ) → i < length s → (getD s i 0 ≡ byte → ⊥) → standsIn byte (drop i s) ≡ standsIn byte (drop (i + 1) s)
+unfolding standsIn
 has-later byte s i h e =
-    ap (has byte) (drop-cons s i 0 h)
-    ∙ passedOver (eqb (getD s i 0) byte) true (has byte (drop (suc i) s)) (ne-eqb (getD s i 0) byte e)
-    ∙ ap (λ (k : ℕ). has byte (drop k s)) (sym (add-one i))
+    ap (standsIn byte) (drop-cons s i 0 h)
+    ∙ passedOver (eqb (getD s i 0) byte) true (standsIn byte (drop (suc i) s)) (ne-eqb (getD s i 0) byte e)
+    ∙ ap (λ (k : ℕ). standsIn byte (drop k s)) (sym (add-one i))
 
-pub has-end : (byte : ℕ) (s : List ℕ) (i : ℕ) → length s ≤ i → has byte (drop i s) ≡ false
-unfolding has
-has-end byte s i h = ap (has byte) (drop-of-length-le s h)
+pub has-end : (byte : ℕ) (s : List ℕ) (i : ℕ) → length s ≤ i → standsIn byte (drop i s) ≡ false
+unfolding standsIn
+has-end byte s i h = ap (standsIn byte) (drop-of-length-le s h)
 
 -- ---- digits alone
 
@@ -63,35 +63,26 @@ digits-end f i h = ap allDigits (drop-of-length-le f h)
 -- ---- the letter
 
 -- Two tests by other names.
-pub both : {w x y z : Bool} → w ≡ x → y ≡ z → w && y ≡ x && z
-both {w} {x} {y} {z} g h = ap (λ (k : Bool). k && y) g ∙ ap (λ (k : Bool). x && k) h
-
--- What a byte that no letter of a list is, is of each.
-other-here : (byte b : ℕ) (bs : List ℕ) → has byte (b ∷ bs) ≡ false → eqb b byte ≡ false
-unfolding has
-other-here byte b bs e = by-test (eqb b byte) e
-  where
-    by-test : (t : Bool) → cond t true (has byte bs) ≡ false → t ≡ false
-    by-test true e = e
-    by-test false e = refl
+pub and-same : {w x y z : Bool} → w ≡ x → y ≡ z → w && y ≡ x && z
+and-same {w} {x} {y} {z} g h = ap (λ (k : Bool). k && y) g ∙ ap (λ (k : Bool). x && k) h
 
 -- ---- fields
 
 -- What a field reads as tells whether it is a number.
-abbrev pub reads : Number → Bool
-reads (number.Value n) = true
-reads number.Bad = false
+abbrev pub isValue : Number → Bool
+isValue (number.Value n) = true
+isValue number.Bad = false
 
-pub reads-number : (f : List ℕ) → reads (numberOf f) ≡ isNumber f
+pub reads-number : (f : List ℕ) → isValue (numberOf f) ≡ isNumber f
 unfolding numberOf
 reads-number f = by-test (isNumber f)
   where
-    by-test : (t : Bool) → reads (cond t (number.Value (value f)) number.Bad) ≡ t
+    by-test : (t : Bool) → isValue (cond t (number.Value (value f)) number.Bad) ≡ t
     by-test true = refl
     by-test false = refl
 
-pub number-reads : (f : List ℕ) (x : Number) → x ≡ numberOf f → reads x ≡ isNumber f
-number-reads f x e = ap reads e ∙ reads-number f
+pub number-reads : (f : List ℕ) (x : Number) → x ≡ numberOf f → isValue x ≡ isNumber f
+number-reads f x e = ap isValue e ∙ reads-number f
 
 -- Where nothing is left, all fields were numbers.
 pub fields-end : (s : List ℕ) (i : ℕ) → length s ≤ i → fieldsReason (later (drop i s)) ≡ Count

@@ -22,17 +22,17 @@ abbrev pub carriageReturn : ℕ
 carriageReturn = 13
 
 -- A byte stands in a line.
-unfoldable pub has : ℕ → List ℕ → Bool
-has byte [] = false
-has byte (b ∷ bs) = cond (eqb b byte) true (has byte bs)
+unfoldable pub standsIn : ℕ → List ℕ → Bool
+standsIn byte [] = false
+standsIn byte (b ∷ bs) = cond (eqb b byte) true (standsIn byte bs)
 
 -- Three bytes begin with a byte-order mark: EF BB BF (UTF-8), FE FF or FF FE (UTF-16).
-abbrev pub marks : ℕ → ℕ → ℕ → Bool
-marks a b c = (eqb a 239 && (eqb b 187 && eqb c 191)) || ((eqb a 254 && eqb b 255) || (eqb a 255 && eqb b 254))
+abbrev pub orderMarked : ℕ → ℕ → ℕ → Bool
+orderMarked a b c = (eqb a 239 && (eqb b 187 && eqb c 191)) || ((eqb a 254 && eqb b 255) || (eqb a 255 && eqb b 254))
 
 -- A line begins with a byte-order mark.
 abbrev pub byteOrderMark : List ℕ → Bool
-byteOrderMark l = marks (getD l 0 0) (getD l 1 0) (getD l 2 0)
+byteOrderMark l = orderMarked (getD l 0 0) (getD l 1 0) (getD l 2 0)
 
 -- A line asks for nothing.
 abbrev pub isUnknown : Line → Bool
@@ -44,11 +44,12 @@ isUnknown (line.Damage damage) = false
 isUnknown (line.Page room) = false
 isUnknown line.Unknown = true
 
--- The drill's letters, which every program has, and those that the fault program has besides.
+-- The drill's letters, which every program has.
 abbrev pub drillLetters : List ℕ
 drillLetters =
     'F' ∷ 'U' ∷ 'A' ∷ 'P' ∷ 'C' ∷ 'S' ∷ 'E' ∷ 'G' ∷ 'X' ∷ 'R' ∷ 'H' ∷ 'V' ∷ []
 
+-- The letters that the fault program has besides.
 abbrev pub faultLetters : List ℕ
 faultLetters =
     'f' ∷ 'W' ∷ 'M' ∷ 'N' ∷ 'Q' ∷ 'B' ∷ 'K' ∷ 'O' ∷ 'T' ∷ 'p' ∷ 'a' ∷ 'b' ∷ 'n' ∷ []
@@ -61,7 +62,7 @@ letters Page = drillLetters
 
 -- A line does not begin with one letter of the program and then a tab or its end.
 unfoldable pub unlettered : Program → List ℕ → Bool
-unlettered program l = not (eqb (length (first l)) 1 && has (getD l 0 0) (letters program))
+unlettered program l = not (eqb (length (first l)) 1 && standsIn (getD l 0 0) (letters program))
 
 -- Why a field that is no number is none: digits alone, one or more, write a number past 2^64 − 1.
 unfoldable pub fieldReason : List ℕ → Reason
@@ -82,7 +83,7 @@ unfoldable pub unknownReason : Program → List ℕ → Reason
 unknownReason program l =
     cond (ltb 79 (length l)) Long
     (cond (byteOrderMark l) ByteOrderMark
-    (cond (has carriageReturn l) CarriageReturn (cond (has blank l) Blanks (formReason program l))))
+    (cond (standsIn carriageReturn l) CarriageReturn (cond (standsIn blank l) Blanks (formReason program l))))
 
 -- Why a line is answered `?`, from what it asks for: one that asks for something has a number that cannot be put there.
 abbrev pub reason : Program → List ℕ → Line → Reason
@@ -106,7 +107,7 @@ reasonNumber Unfit = 10
 -- A letter that is not listed asks for nothing, whatever its numbers.
 abbrev pub Unlisted : Type 0
 Unlisted =
-    (program : Program) (letter : ℕ) (numbers : List ℕ) → has letter (letters program) ≡ false → command program letter numbers ≡ line.Unknown
+    (program : Program) (letter : ℕ) (numbers : List ℕ) → standsIn letter (letters program) ≡ false → command program letter numbers ≡ line.Unknown
 
 -- A letter asks for something with some count of numbers, none to five.
 abbrev pub asksOnce : Program → ℕ → Bool

@@ -6,7 +6,7 @@ ghost use lib.ListN.{length, drop, getD};
 ghost use Rattle.text.specs.Numbers.{allDigits};
 ghost use Rattle.script.specs.Grammar.{isNumber};
 ghost use Rattle.script.specs.Fields.{later};
-ghost use Rattle.script.specs.Reasons.{has, byteOrderMark, isUnknown, letters, unlettered};
+ghost use Rattle.script.specs.Reasons.{standsIn, byteOrderMark, isUnknown, letters, unlettered};
 ghost use Rattle.script.specs.Reasons.{fieldReason, fieldsReason, formReason, unknownReason, reason, reasonNumber};
 use crate::Line;
 use crate::Number;
@@ -27,7 +27,7 @@ fn byte_at(line: &[u8], i: usize) -> u8
 
 // Whether a byte stands in a line.
 fn has_byte(line: &[u8], byte: u8) -> bool
-    ensures { λ r. ⌜ r ≡ has byte (now (line .entry)) ⌝ }
+    ensures { λ r. ⌜ r ≡ standsIn byte (now (line .entry)) ⌝ }
 {
     let mut i = 0;
     while i < line.len() {
@@ -70,7 +70,7 @@ fn unknown(line: Line) -> bool
 
 // Whether a program has a letter.
 fn has_letter(program: Program, letter: u8) -> bool
-    ensures { λ r. ⌜ r ≡ has letter (letters program) ⌝ }
+    ensures { λ r. ⌜ r ≡ standsIn letter (letters program) ⌝ }
 {
     match program {
         Program::Drill => has_byte(b"FUAPCSEGXRHV", letter),

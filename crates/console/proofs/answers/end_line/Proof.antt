@@ -36,7 +36,7 @@ returns c =
     let p = a .progress in
     let asked = c .before .before .before .before .before .before .before .before .before .read-line in
     let number = c .before .before .before .before .before .before .wrapping-add-u64 in
-    let noting = c .before .before .before .note in
+    let tallying = c .before .before .before .tally in
     let next = c .before .before .after-line in
     let text = take 80 (take (p .begun) (a .line .now) ++ a .rest .now) in
     let b = boardOf (p .session) (a .memory .now) (a .cache .now) in
@@ -44,8 +44,8 @@ returns c =
       ends-as (line-ends (a .program) b (p .number) (p .misread) text (number .result) _ (asked .result .line) (asked .result .why) _
           (number .ensures) (asked .ensures .means) (asked .ensures .reasons) did refl (c .put-answer .ensures .0) (c .put-answer .ensures .1) (omega (arith, start .pre .2, c .before .put-answer-arg .given)))
           (sym (ap (λ (q : Ongoing). carriedBy q (a .memory .now) (a .cache .now) (asked .last .1 .1 .0)) (next .ensures)
-          ∙ ap (λ (m : Misread). carried b (number .result) m []) (noting .ensures))),
-      ready-after (p .session) (number .result) (noting .result) (next .ensures) (start .pre .0 .session-within),
+          ∙ ap (λ (m : Misread). carried b (number .result) m []) (tallying .ensures))),
+      ready-after (p .session) (number .result) (tallying .result) (next .ensures) (start .pre .0 .session-within),
     )
 
 returns-2 : tie.Need-returns-2
@@ -58,7 +58,7 @@ returns-2 c =
     let act = c .before .before .before .before .before .before .act in
     let letter = c .before .before .before .before .letter in
     let wrote = c .before .before .put-answer2 in
-    let noting = c .before .note2 in
+    let tallying = c .before .tally2 in
     let next = c .after-line2 in
     let text = take 80 (take (p .begun) (a .line .now) ++ a .rest .now) in
     let b = boardOf (p .session) (a .memory .now) (a .cache .now) in
@@ -68,8 +68,8 @@ returns-2 c =
           (number .ensures) (asked .ensures .means) (asked .ensures .reasons) (act .ensures .0) heads {out = a .out .now} {at = a .at}
           (wrote .ensures .0) (wrote .ensures .1) (omega (arith, start .pre .2, c .before .before .before .put-answer-arg2 .given)))
           (sym (ap (λ (q : Ongoing). carriedBy q (act .last .1 .0) (act .last .1 .1 .0) (asked .last .1 .1 .0)) (next .ensures)
-          ∙ ap (λ (m : Misread). carried (did .board) (number .result) m []) (noting .ensures))),
-      ready-after (act .result .session) (number .result) (noting .result) (next .ensures) (act .ensures .1),
+          ∙ ap (λ (m : Misread). carried (did .board) (number .result) m []) (tallying .ensures))),
+      ready-after (act .result .session) (number .result) (tallying .result) (next .ensures) (act .ensures .1),
     )
 
 pub end-line-spec : {M : Type 1} → statement M

@@ -1,4 +1,4 @@
--- `console::printing::last_page` meets its contract: the page is that of the board left, the lines noted those of the input.
+-- `console::printing::last_page` meets its contract: the page is that of the board left, the lines tallied those of the input.
 use mathlib.Core.Path.{ap, _∙_}
 use borrow.Author.Needs.{needs}
 use Rattle.console.specs.Pieces.{Fed}

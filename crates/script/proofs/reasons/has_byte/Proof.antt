@@ -4,13 +4,13 @@ use mathlib.Core.Path.{_≡_, refl, sym, _∙_}
 use native.Mathlib.Omega.{arith}
 use lib.ListN.{length, drop}
 use borrow.Author.Needs.{needs}
-use Rattle.script.specs.Reasons.{has}
+use Rattle.script.specs.Reasons.{standsIn}
 use Rattle.script.proofs.ReasonLaws.{has-here, has-later, has-end}
 use Rattle.script.proofs.reasons.has_byte.Statement.{statement}
 use Rattle.script.proofs.reasons.has_byte.Tie as tie
 
 abbrev Inv-loop : tie.InvT-loop
-Inv-loop line byte i₀ i = (i ≤ length line) × (has byte line ≡ has byte (drop i line))
+Inv-loop line byte i₀ i = (i ≤ length line) × (standsIn byte line ≡ standsIn byte (drop i line))
 
 abbrev μ-loop : tie.MeasureT-loop
 μ-loop line byte i₀ i = length line - i

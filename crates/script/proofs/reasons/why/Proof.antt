@@ -1,7 +1,7 @@
 -- `script::reasons::why` meets its contract.
 use mathlib.Core.Path.{sym, _∙_}
 use borrow.Author.Needs.{needs}
-use Rattle.predicate.proofs.Bools.{chosen, passedOver}
+use Rattle.predicate.proofs.Bools.{chosen}
 use Rattle.script.specs.declared.Reason.the-variants.{Unfit}
 use Rattle.script.specs.Reasons.{isUnknown, unknownReason}
 use Rattle.script.proofs.reasons.why.Statement.{statement}

@@ -4,11 +4,10 @@ use lib.Dec.{ltb}
 use lib.ListN.{length}
 use borrow.Author.Needs.{needs}
 use borrow.Author.Tests.{lt-ltb, le-ltb}
-use native.Mathlib.Omega.{arith}
 use Rattle.predicate.proofs.Bools.{chosen, passedOver}
 use Rattle.text.specs.Ascii.{blank}
 use Rattle.script.specs.declared.Reason.the-variants.{Long, ByteOrderMark, CarriageReturn, Blanks}
-use Rattle.script.specs.Reasons.{carriageReturn, has, byteOrderMark, formReason, unknownReason}
+use Rattle.script.specs.Reasons.{carriageReturn, standsIn, byteOrderMark, formReason, unknownReason}
 use Rattle.script.proofs.reasons.why_unknown.Statement.{statement}
 use Rattle.script.proofs.reasons.why_unknown.Tie as tie
 
@@ -31,7 +30,7 @@ returns-3 c =
     sym (passedOver (ltb 79 (length s)) Long _ (le-ltb 79 (length s) (c .before .before .before .before .if1 .left))
     ∙ passedOver (byteOrderMark s) ByteOrderMark _
     (sym (c .before .before .before .begins-marked .ensures) ∙ c .before .before .if2 .left)
-    ∙ chosen (has carriageReturn s) CarriageReturn _ (sym (c .before .has-byte .ensures) ∙ c .if3 .taken))
+    ∙ chosen (standsIn carriageReturn s) CarriageReturn _ (sym (c .before .has-byte .ensures) ∙ c .if3 .taken))
 
 returns-4 : tie.Need-returns-4
 unfolding unknownReason
@@ -40,8 +39,8 @@ returns-4 c =
     sym (passedOver (ltb 79 (length s)) Long _ (le-ltb 79 (length s) (c .before .before .before .before .before .before .if1 .left))
     ∙ passedOver (byteOrderMark s) ByteOrderMark _
     (sym (c .before .before .before .before .before .begins-marked .ensures) ∙ c .before .before .before .before .if2 .left)
-    ∙ passedOver (has carriageReturn s) CarriageReturn _ (sym (c .before .before .before .has-byte .ensures) ∙ c .before .before .if3 .left)
-    ∙ chosen (has blank s) Blanks _ (sym (c .before .has-byte2 .ensures) ∙ c .if4 .taken))
+    ∙ passedOver (standsIn carriageReturn s) CarriageReturn _ (sym (c .before .before .before .has-byte .ensures) ∙ c .before .before .if3 .left)
+    ∙ chosen (standsIn blank s) Blanks _ (sym (c .before .has-byte2 .ensures) ∙ c .if4 .taken))
 
 returns-5 : tie.Need-returns-5
 unfolding unknownReason
@@ -52,8 +51,8 @@ returns-5 c =
     ∙ sym (passedOver (ltb 79 (length s)) Long _ (le-ltb 79 (length s) (c .before .before .before .before .before .before .before .if1 .left))
     ∙ passedOver (byteOrderMark s) ByteOrderMark _
     (sym (c .before .before .before .before .before .before .begins-marked .ensures) ∙ c .before .before .before .before .before .if2 .left)
-    ∙ passedOver (has carriageReturn s) CarriageReturn _ (sym (c .before .before .before .before .has-byte .ensures) ∙ c .before .before .before .if3 .left)
-    ∙ passedOver (has blank s) Blanks (formReason (a .program) s) (sym (c .before .before .has-byte2 .ensures) ∙ c .before .if4 .left))
+    ∙ passedOver (standsIn carriageReturn s) CarriageReturn _ (sym (c .before .before .before .before .has-byte .ensures) ∙ c .before .before .before .if3 .left)
+    ∙ passedOver (standsIn blank s) Blanks (formReason (a .program) s) (sym (c .before .before .has-byte2 .ensures) ∙ c .before .if4 .left))
 
 pub why-unknown-spec : {M : Type 1} → statement M
 why-unknown-spec =

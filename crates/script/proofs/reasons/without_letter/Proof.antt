@@ -7,8 +7,8 @@ use lib.Dec.{eqb}
 use lib.ListN.{length}
 use borrow.Author.Needs.{needs}
 use Rattle.script.specs.Fields.{first}
-use Rattle.script.specs.Reasons.{has, letters, unlettered}
-use Rattle.script.proofs.ReasonLaws.{both}
+use Rattle.script.specs.Reasons.{standsIn, letters, unlettered}
+use Rattle.script.proofs.ReasonLaws.{and-same}
 use Rattle.script.proofs.reasons.without_letter.Statement.{statement}
 use Rattle.script.proofs.reasons.without_letter.Tie as tie
 
@@ -17,7 +17,7 @@ unfolding unlettered
 returns c =
     let a = c .before .before .before .before .args in
     let end : c .before .before .field-end .result ≡ length (first (a .line .now)) = omega (arith, c .before .before .field-end .ensures .0) in
-    ap not (both (ap (λ (k : ℕ). eqb k 1) end) (c .has-letter .ensures ∙ ap (λ (k : ℕ). has k (letters (a .program))) (c .before .byte-at .ensures)))
+    ap not (and-same (ap (λ (k : ℕ). eqb k 1) end) (c .has-letter .ensures ∙ ap (λ (k : ℕ). standsIn k (letters (a .program))) (c .before .byte-at .ensures)))
 
 pub without-letter-spec : {M : Type 1} → statement M
 without-letter-spec = tie.close (tie.spec (λ c κs. search needs) (λ c κs. search needs) (λ c κs. search needs) returns)
