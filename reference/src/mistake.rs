@@ -138,6 +138,16 @@ pub enum Mistake {
     PageOfMemory,
     /// A page's marks are compared mod 2^63.
     PageMarksMod63,
+    /// The order of a page before ticket 10.
+    PageByMarkAlone,
+    /// Among equal marks the changed cells last.
+    PageChangedLast,
+    /// A changed cell before one with a newer mark.
+    PageChangedBeforeMark,
+    /// Changed cells first only among those marked with the cache's epoch.
+    PageChangedThisEpoch,
+    /// Changed cells are those whose record is greater than backup.
+    PageChangedGrown,
     /// A write-back of the lines L+1 to 2L-1 answers 0 and copies nothing.
     WriteBackTo2L,
     /// A write-back of a line past 1 copies nothing.
@@ -183,7 +193,7 @@ pub enum Mistake {
 }
 
 /// Every mistake with its name and a few words.
-pub const MISTAKES: [(&str, Mistake, &str); 88] = [
+pub const MISTAKES: [(&str, Mistake, &str); 93] = [
     ("mark-first", Mistake::MarkFirst, "an update stores the mark before the backup"),
     ("recovery-mark-first", Mistake::RecoveryMarkFirst, "recovery clears a mark before it restores the record"),
     ("recovery-cache-only", Mistake::RecoveryCacheOnly, "recovered lines are not written back"),
@@ -251,6 +261,11 @@ pub const MISTAKES: [(&str, Mistake, &str); 88] = [
     ("page-refused-written", Mistake::PageRefusedWritten, "a page refused by 2, 3 or 4 is written"),
     ("page-of-memory", Mistake::PageOfMemory, "a page shows memory, not the cache"),
     ("page-marks-mod-63", Mistake::PageMarksMod63, "a page orders marks mod 2^63"),
+    ("page-by-mark-alone", Mistake::PageByMarkAlone, "a page has equal marks by cell number alone"),
+    ("page-changed-last", Mistake::PageChangedLast, "a page has changed cells last among equal marks"),
+    ("page-changed-before-mark", Mistake::PageChangedBeforeMark, "a page has changed cells before newer marks"),
+    ("page-changed-this-epoch", Mistake::PageChangedThisEpoch, "a page has changed cells first in one epoch only"),
+    ("page-changed-grown", Mistake::PageChangedGrown, "a page takes a record below its backup for unchanged"),
     ("write-back-to-2l", Mistake::WriteBackTo2L, "a write-back of the lines L+1 to 2L-1 answers 0"),
     ("write-back-past-1", Mistake::WriteBackPast1, "a write-back of a line past 1 copies nothing"),
     ("write-back-not-3", Mistake::WriteBackNot3, "every write-back of line 3 is refused by 7"),

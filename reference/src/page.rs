@@ -72,7 +72,7 @@ impl Board {
 fn write_page(cells: usize, cache: &[u64], text: &mut [u8], mistake: Option<Mistake>) {
     let columns = if mistake == Some(Mistake::PageNarrow) { [4, 20, 20, 19] } else { COLUMNS };
     let mut rest = put_line(text, columns, HEADING);
-    for (mark, cell) in newest_first(cells, cache, mistake) {
+    for (mark, _, cell) in in_order(cells, cache, mistake) {
         let mut values = [cache[record_at(cell)], cache[backup_at(cell)]];
         if mistake == Some(Mistake::PageSwapped) {
             values.reverse();
@@ -84,19 +84,37 @@ fn write_page(cells: usize, cache: &[u64], text: &mut [u8], mistake: Option<Mist
     }
 }
 
-/// "newest mark first, equal marks by rising cell number": equal ones stay in the order they had.
-fn newest_first(cells: usize, cache: &[u64], mistake: Option<Mistake>) -> Vec<(u64, usize)> {
+/// A cell's mark, whether it is changed, and its number.
+type Entry = (u64, bool, usize);
+
+/// "newest mark first" and, by ticket 10, "among equal marks, cells whose record differs from backup come first, then
+/// rising cell number": those equal in both stay in the order they had.
+fn in_order(cells: usize, cache: &[u64], mistake: Option<Mistake>) -> Vec<Entry> {
     let shown = if mistake == Some(Mistake::PageLastCellMissing) { cells - 1 } else { cells };
-    let mut marks: Vec<(u64, usize)> = (0..shown).map(|cell| (cache[mark_at(cell)], cell)).collect();
+    let entry = |cell| (cache[mark_at(cell)], changed(cell, cache, mistake), cell);
+    let mut entries: Vec<Entry> = (0..shown).map(entry).collect();
     if mistake == Some(Mistake::PageFallingCells) {
-        marks.reverse();
+        entries.reverse();
     }
     match mistake {
-        Some(Mistake::PageOlderFirst) => marks.sort_by_key(|(mark, _)| *mark),
-        Some(Mistake::PageMarksMod63) => marks.sort_by_key(|(mark, _)| Reverse(*mark << 1)),
-        _ => marks.sort_by_key(|(mark, _)| Reverse(*mark)),
+        Some(Mistake::PageOlderFirst) => entries.sort_by_key(|&(mark, changed, _)| (mark, !changed)),
+        Some(Mistake::PageMarksMod63) => entries.sort_by_key(|&(mark, changed, _)| (Reverse(mark << 1), !changed)),
+        Some(Mistake::PageByMarkAlone) => entries.sort_by_key(|&(mark, ..)| Reverse(mark)),
+        Some(Mistake::PageChangedLast) => entries.sort_by_key(|&(mark, changed, _)| (Reverse(mark), changed)),
+        Some(Mistake::PageChangedBeforeMark) => entries.sort_by_key(|&(mark, changed, _)| (!changed, Reverse(mark))),
+        _ => entries.sort_by_key(|&(mark, changed, _)| (Reverse(mark), !changed)),
     }
-    marks
+    entries
+}
+
+/// "cells whose record differs from backup", whatever their mark
+fn changed(cell: usize, cache: &[u64], mistake: Option<Mistake>) -> bool {
+    let (record, backup) = (cache[record_at(cell)], cache[backup_at(cell)]);
+    match mistake {
+        Some(Mistake::PageChangedThisEpoch) => record != backup && cache[mark_at(cell)] == cache[0],
+        Some(Mistake::PageChangedGrown) => record > backup,
+        _ => record != backup,
+    }
 }
 
 /// A line at the start of a text row, and the rest of the row.

@@ -4,7 +4,7 @@
 use crate::board::{Board, Phase};
 use crate::call::Call;
 use crate::drill::{Command, Drill};
-use crate::line::{cells, MOST_LINES};
+use crate::line::{cells, record_at, MOST_LINES};
 use crate::program::answer;
 use crate::random::Random;
 use crate::say::{drill_line, spoil};
@@ -128,7 +128,7 @@ impl Script {
             let line = random.below(state.lines as u64 + 1);
             return self.put(Command::Call(Call::WriteBack { line: random.pick(&[0, line, line]) }));
         }
-        let call = good_call(random, state, self.requests, self.value());
+        let call = self.or_unchanged(good_call(random, state, self.requests, self.value()));
         if random.chance(1, 60) {
             self.put_line(spoil(random, drill_line(&Command::Call(call))));
         } else {
@@ -140,6 +140,20 @@ impl Script {
     fn value(&self) -> u64 {
         let digits = self.random.digits();
         self.random.pick(&[0, u64::MAX, digits, digits, digits, digits, digits, digits])
+    }
+
+    /// A call, or one in four times the same call with the value that its cell has: a marked cell is then unchanged.
+    fn or_unchanged(&self, call: Call) -> Call {
+        let present = |cell: u64| self.board.cache[record_at(cell as usize)];
+        match call {
+            Call::Update { worker, cell, .. } if self.random.chance(1, 4) => {
+                Call::Update { worker, cell, value: present(cell) }
+            }
+            Call::RestartPoint { worker, .. } if self.random.chance(1, 4) => {
+                Call::RestartPoint { worker, value: present(worker) }
+            }
+            _ => call,
+        }
     }
 
     /// A cut, or none, and a recovery to its end.

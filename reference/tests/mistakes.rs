@@ -10,7 +10,7 @@ use reference::explore::{exhaustive, explore, Options};
 use reference::mistake::{Mistake, MISTAKES};
 
 /// Each mistake with the checks that must each catch it when made alone.
-const CATCHERS: [(Mistake, &[Check]); 88] = [
+const CATCHERS: [(Mistake, &[Check]); 93] = [
     (Mistake::MarkFirst, &[Outcome, Recovery, TwoBoards, Invariant, Changes]),
     (Mistake::RecoveryMarkFirst, &[Outcome, Recovery, TwoBoards, Invariant, Changes]),
     (Mistake::RecoveryCacheOnly, &[Outcome, Recovery, TwoBoards, Invariant, Changes]),
@@ -99,6 +99,11 @@ const CATCHERS: [(Mistake, &[Check]); 88] = [
     (Mistake::PageRefusedWritten, &[Page, Changes]),
     (Mistake::PageOfMemory, &[Page, Changes]),
     (Mistake::PageMarksMod63, &[Page, Changes]),
+    (Mistake::PageByMarkAlone, &[Page, Changes]),
+    (Mistake::PageChangedLast, &[Page, Changes]),
+    (Mistake::PageChangedBeforeMark, &[Page, Changes]),
+    (Mistake::PageChangedThisEpoch, &[Page, Changes]),
+    (Mistake::PageChangedGrown, &[Page, Changes]),
     (Mistake::WriteBackTo2L, &[Causes, Answers]),
     (Mistake::WriteBackPast1, &[Outcome, Stores, Changes]),
     (Mistake::WriteBackNot3, &[Causes, Answers]),

@@ -106,6 +106,54 @@ fn equal_marks_by_rising_cell_number() {
     assert_eq!(order(&board), (0..16).rev().collect::<Vec<_>>());
 }
 
+#[test]
+fn among_equal_marks_cells_whose_record_differs_from_backup_come_first() {
+    let mut board = board("F 4 1");
+    let cells = [[5, 5, 2], [9, 9, 1], [7, 7, 2], [6, 5, 2], [1, 2, 1], [4, 3, 1], [0, 0, 3], [0, 1 << 63, 2]];
+    for (cell, words) in cells.into_iter().enumerate() {
+        put(&mut board, cell, words);
+    }
+    assert_eq!(order(&board), [6, 3, 7, 0, 2, 4, 5, 1]);
+    for cell in 0..8 {
+        put(&mut board, cell, [10 + cell as u64 % 2, 10, 0]);
+    }
+    assert_eq!(order(&board), [1, 3, 5, 7, 0, 2, 4, 6]);
+}
+
+#[test]
+fn a_record_and_a_backup_that_differ_in_one_bit_differ() {
+    let mut board = board("F 1 1");
+    for bit in 0..64 {
+        for words in [[1 << bit, 0, 0], [0, 1 << bit, 0], [!(1 << bit), u64::MAX, 0]] {
+            put(&mut board, 1, words);
+            assert_eq!(order(&board), [1, 0], "{words:?}");
+        }
+        put(&mut board, 1, [1 << bit, 1 << bit, 0]);
+        assert_eq!(order(&board), [0, 1], "{bit}");
+    }
+}
+
+#[test]
+fn an_update_to_the_value_that_was_there_and_a_restart_point_that_moved() {
+    let expected = "\
+cell               record               backup                 mark
+   2                    8                    0                    1
+   1                    0                    0                    1
+   0                    0                    0                    0
+   3                    0                    0                    0
+";
+    let script = "F 2 1\nH 0 1\nU 0 1 0\nA 0\nA 0\nA 0\nV 0 1\nH 0 2\nU 0 2 8\nA 0\nA 0\nA 0\nV 0 2";
+    assert_eq!(page(&board(script)).unwrap(), expected);
+    let restarted = "\
+cell               record               backup                 mark
+   0                    3                    0                    1
+   2                    8                    0                    1
+   1                    0                    0                    1
+   3                    0                    0                    0
+";
+    assert_eq!(page(&board(&format!("{script}\nP 0 3\nA 0\nA 0\nA 0"))).unwrap(), restarted);
+}
+
 /// A checkpoint with 7 in cell 1 and restart point 3, and a restart point 4 in the epoch after it.
 const EPOCHS: &str =
     "F 2 1\nH 0 1\nU 0 1 7\nA 0\nA 0\nA 0\nV 0 1\nC\nP 0 3\nA 0\nA 0\nA 0\nS\nS\nS\nS\nP 0 4\nA 0\nA 0\nA 0\nH 0 1";

@@ -144,6 +144,26 @@ fn the_scripts_pages_have_numbers_of_every_length_and_cells_that_moved() {
     assert!(moved >= 500 && unmoved >= 500, "{moved} moved, {unmoved} not");
 }
 
+/// A line's cell and mark.
+fn place(line: &str) -> (u64, u64) {
+    let number = |column: &str| column.trim_start().parse().unwrap();
+    (number(&line[..4]), number(&line[47..]))
+}
+
+#[test]
+fn on_most_of_the_scripts_pages_cells_of_one_mark_do_not_stand_by_number_alone() {
+    let (mut decided, mut in_older_epoch) = (0, 0);
+    for seed in 1..=120 {
+        let Ok(text) = after_script(&script(seed, 400)[..]).unwrap().0 else { continue };
+        let places: Vec<(u64, u64)> = std::str::from_utf8(&text).unwrap().lines().skip(1).map(place).collect();
+        let falls = |two: &&[(u64, u64)]| two[0].1 == two[1].1 && two[1].0 < two[0].0;
+        let falling: Vec<&[(u64, u64)]> = places.windows(2).filter(falls).collect();
+        decided += !falling.is_empty() as u64;
+        in_older_epoch += falling.iter().any(|two| two[0].1 < places[0].1) as u64;
+    }
+    assert!(decided >= 60 && in_older_epoch >= 40, "{decided} decided, {in_older_epoch} of them in an older epoch");
+}
+
 #[test]
 fn the_scripts_cut_recover_and_complete_checkpoints() {
     let (mut recovered, mut several) = (0, 0);

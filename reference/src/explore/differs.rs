@@ -112,8 +112,9 @@ fn words_alone(row: &str, [old, new]: [&Vec<u64>; 2], first: usize, told: &[u64]
     ensure(others, || format!("{row} changed outside of the words {from} to {to}"))
 }
 
-/// A page leaves every byte of the text row where it is refused; taken it is "the cache's cells ... newest mark first,
-/// equal marks by rising cell number", and then the bytes that were there.
+/// A page leaves every byte of the text row where it is refused; taken it is "the cache's cells ... newest mark first";
+/// "among equal marks, cells whose record differs from backup come first, then rising cell number"; and then the bytes
+/// that were there.
 pub fn text_row(board: &Board, room: u64) -> Finding {
     let before: Vec<u8> = (0..room).map(|at| (at % 251) as u8 ^ 0xa5).collect();
     let mut after = before.clone();
@@ -131,7 +132,8 @@ pub fn text_row(board: &Board, room: u64) -> Finding {
 fn page_of(board: &Board) -> String {
     let word = |at: usize| board.cache.get(at).copied().unwrap_or(0);
     let mut cells: Vec<usize> = (0..2 * usize::from(board.state.lines)).collect();
-    cells.sort_unstable_by_key(|cell| (Reverse(word(mark_word(*cell))), *cell));
+    let unchanged = |cell: usize| word(record_word(cell)) == word(backup_word(cell));
+    cells.sort_unstable_by_key(|&cell| (Reverse(word(mark_word(cell))), unchanged(cell), cell));
     let mut page = format!("{:>4} {:>20} {:>20} {:>20}\n", "cell", "record", "backup", "mark");
     for cell in cells {
         let [record, backup, mark] = [record_word(cell), backup_word(cell), mark_word(cell)].map(word);

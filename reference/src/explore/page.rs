@@ -55,10 +55,17 @@ fn cell_lines(board: &Board, lines: &[u8]) -> Finding {
     ensure(!seen.contains(&false), || "a cell has no line".into())
 }
 
-/// "newest mark first, equal marks by rising cell number"
+/// "newest mark first"; "among equal marks, cells whose record differs from backup come first, then rising cell number"
 fn goes_before(one: [u64; 4], other: [u64; 4]) -> bool {
-    let ([cell, .., mark], [other_cell, .., other_mark]) = (one, other);
-    mark > other_mark || (mark == other_mark && cell < other_cell)
+    let ([cell, record, backup, mark], [other_cell, other_record, other_backup, other_mark]) = (one, other);
+    if mark != other_mark {
+        return mark > other_mark;
+    }
+    match (record == backup, other_record == other_backup) {
+        (false, true) => true,
+        (true, false) => false,
+        _ => cell < other_cell,
+    }
 }
 
 /// A line's four numbers, decimal, with no zeros before them.
