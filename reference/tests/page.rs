@@ -121,6 +121,25 @@ fn among_equal_marks_cells_whose_record_differs_from_backup_come_first() {
 }
 
 #[test]
+fn the_worked_page_of_the_table() {
+    let mut board = board("F 3 1");
+    let cells = [[10, 10, 1], [99, 99, 2], [0, 0, 1], [7, u64::MAX, 2], [100, 0, 2], [8, 0, 1]];
+    for (cell, words) in cells.into_iter().enumerate() {
+        put(&mut board, cell, words);
+    }
+    let expected = "\
+cell               record               backup                 mark
+   3                    7 18446744073709551615                    2
+   4                  100                    0                    2
+   1                   99                   99                    2
+   5                    8                    0                    1
+   0                   10                   10                    1
+   2                    0                    0                    1
+";
+    assert_eq!(page(&board).unwrap(), expected);
+}
+
+#[test]
 fn a_record_and_a_backup_that_differ_in_one_bit_differ() {
     let mut board = board("F 1 1");
     for bit in 0..64 {

@@ -14,4 +14,4 @@ use Rattle.board.specs.Pages.{pageTable, pageGives, allPages, noneWritte
 
 pub pages-hold : PagesHold
 unfolding flatten same spelled lineText before inserted ordered numbersUnder pageText pageCauses pageCause pageLeft firstStanding badRecord anyUnder fieldIndex fieldOf pageTable pageGives allPages noneWritten countUnder nthFrom nthUnder bitsIn bitOf withBit contains added size nth strays digitOf unheld held holdsAny heldFrom withDigit
-pages-hold = record { worked = refl; past = refl; refused = refl; unwritten = refl; high = refl; table = refl }
+pages-hold = record { worked = refl; past = refl; refused = refl; unwritten = refl; high = refl; apart = refl; table = refl }

@@ -1,4 +1,4 @@
--- Document 02, ticket 1, "A page of cells for the van": the page's text, why a page is turned down, and what the call leaves.
+-- Document 02, tickets 1 and 10, "A page of cells for the van", "Changed cells on top": the page's text, why a page is turned down, and what the call leaves.
 use Prim.Native.Nat.{ℕ, _+_, _*_}
 use mathlib.Core.Path.{_≡_}
 use mathlib.Core.List.{List, [], _∷_, _++_, map, flatten}
@@ -36,11 +36,16 @@ cellText cache c =
 
 -- ---- their order
 
--- "newest mark first, equal marks by rising cell number": cell `a` goes before cell `b`.
+-- Ticket 10, "cells whose record differs from backup come first", whatever their mark: 0 for such a cell, 1 for the others.
+abbrev pub changedFirst : List ℕ → ℕ → ℕ
+changedFirst cache c = cond (eqb (fieldOf cache c Field.Record) (fieldOf cache c Field.Backup)) 1 0
+
+-- "newest mark first", "among equal marks, cells whose record differs from backup come first, then rising cell number": cell `a` goes before cell `b`.
 unfoldable pub before : List ℕ → ℕ → ℕ → Bool
 before cache a b =
     ltb (fieldOf cache b Field.Mark) (fieldOf cache a Field.Mark)
-    || (eqb (fieldOf cache a Field.Mark) (fieldOf cache b Field.Mark) && ltb a b)
+    || (eqb (fieldOf cache b Field.Mark) (fieldOf cache a Field.Mark)
+    && (ltb (changedFirst cache a) (changedFirst cache b) || (eqb (changedFirst cache a) (changedFirst cache b) && ltb a b)))
 
 -- A number put into a list behind the first ones that go before it.
 unfoldable pub inserted : (ℕ → ℕ → Bool) → ℕ → List ℕ → List ℕ

@@ -1,4 +1,4 @@
--- Document 02, ticket 1: a page worked out, and pages that are turned down and just taken.
+-- Document 02, tickets 1 and 10: a page worked out, and pages that are turned down and just taken.
 use Prim.Native.Nat.{ℕ, _+_, _-_, _^_}
 use mathlib.Core.Path.{_≡_}
 use mathlib.Core.List.{List, [], _∷_, _++_, map, flatten}
@@ -16,29 +16,48 @@ use Rattle.board.specs.Refusals.Boards.{rowFor, sound, shortCache, stray
 
 -- ---- a page worked out
 
--- L = 2, W = 1, in epoch 2: cells 0 and 2 are marked with epoch 1, cells 1 and 3 with epoch 2. Memory has none of it yet.
+-- L = 3, W = 1, in epoch 2: cells 0, 2 and 5 are marked with epoch 1, cells 1, 3 and 4 with epoch 2. Of the former cell 5 differs from its backup, of the
+-- latter cells 3 and 4. Memory has none of it yet.
 abbrev pub workedBoard : Board
 workedBoard =
-    let cache = headerWords 2 (shaped 2) 1 ++ (10 ∷ 0 ∷ 1 ∷ 99 ∷ 0 ∷ 2 ∷ 0 ∷ 0 ∷ []) ++ (100 ∷ 0 ∷ 1 ∷ 7 ∷ (2 ^ 64 - 1) ∷ 2 ∷ 0 ∷ 0 ∷ []) in
-    record { state = started Running (shaped 2) 1; memory = rowFor 2 1; cache = cache }
+    let cache = headerWords 2 (shaped 3) 1 ++ (10 ∷ 10 ∷ 1 ∷ 99 ∷ 99 ∷ 2 ∷ 0 ∷ 0 ∷ [])
+    ++ (0 ∷ 0 ∷ 1 ∷ 7 ∷ (2 ^ 64 - 1) ∷ 2 ∷ 0 ∷ 0 ∷ []) ++ (100 ∷ 0 ∷ 2 ∷ 8 ∷ 0 ∷ 1 ∷ 0 ∷ 0 ∷ []) in
+    record { state = started Running (shaped 3) 1; memory = rowFor 3 1; cache = cache }
 
 -- Its page, as the second program prints it.
 abbrev pub workedLines : List (List ℕ)
 workedLines =
     -- "cell               record               backup                 mark"
-    ((99 ∷ 101 ∷ 108 ∷ 108 ∷ []) ++ replicate 15 blank ++ (114 ∷ 101 ∷ 99 ∷ 111 ∷ 114 ∷ 100 ∷ []) ++ replicate 15 blank ++ (98 ∷ 97 ∷ 99 ∷ 107 ∷ 117 ∷ 112 ∷ []) ++ replicate 17 blank ++ (109 ∷ 97 ∷ 114 ∷ 107 ∷ feed ∷ [])) ∷
-    -- "   1                   99                    0                    2"
-    (replicate 3 blank ++ (49 ∷ []) ++ replicate 19 blank ++ (57 ∷ 57 ∷ []) ++ replicate 20 blank ++ (48 ∷ []) ++ replicate 20 blank ++ (50 ∷ feed ∷ [])) ∷
+    ((99 ∷ 101 ∷ 108 ∷ 108 ∷ []) ++ replicate 15 blank ++ (114 ∷ 101 ∷ 99 ∷ 111 ∷ 114 ∷ 100 ∷ [])
+    ++ replicate 15 blank ++ (98 ∷ 97 ∷ 99 ∷ 107 ∷ 117 ∷ 112 ∷ []) ++ replicate 17 blank ++ (109 ∷ 97 ∷ 114 ∷ 107 ∷ feed ∷ [])) ∷
     -- "   3                    7 18446744073709551615                    2"
-    (replicate 3 blank ++ (51 ∷ []) ++ replicate 20 blank ++ (55 ∷ []) ++ replicate 1 blank ++ (49 ∷ 56 ∷ 52 ∷ 52 ∷ 54 ∷ 55 ∷ 52 ∷ 52 ∷ 48 ∷ 55 ∷ 51 ∷ 55 ∷ 48 ∷ 57 ∷ 53 ∷ 53 ∷ 49 ∷ 54 ∷ 49 ∷ 53 ∷ []) ++ replicate 20 blank ++ (50 ∷ feed ∷ [])) ∷
-    -- "   0                   10                    0                    1"
-    (replicate 3 blank ++ (48 ∷ []) ++ replicate 19 blank ++ (49 ∷ 48 ∷ []) ++ replicate 20 blank ++ (48 ∷ []) ++ replicate 20 blank ++ (49 ∷ feed ∷ [])) ∷
-    -- "   2                  100                    0                    1"
-    (replicate 3 blank ++ (50 ∷ []) ++ replicate 18 blank ++ (49 ∷ 48 ∷ 48 ∷ []) ++ replicate 20 blank ++ (48 ∷ []) ++ replicate 20 blank ++ (49 ∷ feed ∷ [])) ∷ []
+    (replicate 3 blank ++ (51 ∷ []) ++ replicate 20 blank ++ (55 ∷ [])
+    ++ replicate 1 blank ++ (49 ∷ 56 ∷ 52 ∷ 52 ∷ 54 ∷ 55 ∷ 52 ∷ 52 ∷ 48 ∷ 55 ∷ 51 ∷ 55 ∷ 48 ∷ 57 ∷ 53 ∷ 53 ∷ 49 ∷ 54 ∷ 49 ∷ 53 ∷ []) ++ replicate 20 blank ++ (50 ∷ feed ∷ [])) ∷
+    -- "   4                  100                    0                    2"
+    (replicate 3 blank ++ (52 ∷ []) ++ replicate 18 blank ++ (49 ∷ 48 ∷ 48 ∷ [])
+    ++ replicate 20 blank ++ (48 ∷ []) ++ replicate 20 blank ++ (50 ∷ feed ∷ [])) ∷
+    -- "   1                   99                   99                    2"
+    (replicate 3 blank ++ (49 ∷ []) ++ replicate 19 blank ++ (57 ∷ 57 ∷ [])
+    ++ replicate 19 blank ++ (57 ∷ 57 ∷ []) ++ replicate 20 blank ++ (50 ∷ feed ∷ [])) ∷
+    -- "   5                    8                    0                    1"
+    (replicate 3 blank ++ (53 ∷ []) ++ replicate 20 blank ++ (56 ∷ [])
+    ++ replicate 20 blank ++ (48 ∷ []) ++ replicate 20 blank ++ (49 ∷ feed ∷ [])) ∷
+    -- "   0                   10                   10                    1"
+    (replicate 3 blank ++ (48 ∷ []) ++ replicate 19 blank ++ (49 ∷ 48 ∷ [])
+    ++ replicate 19 blank ++ (49 ∷ 48 ∷ []) ++ replicate 20 blank ++ (49 ∷ feed ∷ [])) ∷
+    -- "   2                    0                    0                    1"
+    (replicate 3 blank ++ (50 ∷ []) ++ replicate 20 blank ++ (48 ∷ [])
+    ++ replicate 20 blank ++ (48 ∷ []) ++ replicate 20 blank ++ (49 ∷ feed ∷ [])) ∷ []
 
 -- Marks on both sides of 2^63: they compare as numbers of 64 bits, so the cells stand in the order 2, 0, 3, 1.
 abbrev pub highMarks : List ℕ
 highMarks = headerWords 2 (shaped 2) 1 ++ (0 ∷ 0 ∷ 2 ^ 63 ∷ 0 ∷ 0 ∷ 1 ∷ 0 ∷ 0 ∷ []) ++ (0 ∷ 0 ∷ (2 ^ 63 + 1) ∷ 0 ∷ 0 ∷ (2 ^ 63 - 1) ∷ 0 ∷ 0 ∷ [])
+
+-- Cells of one mark: cells 1 and 3 differ from their backups in one bit, the highest and the lowest, so they stand before 0 and 2.
+abbrev pub oneBitApart : List ℕ
+oneBitApart =
+    headerWords 2 (shaped 2) 1 ++ (1 ∷ 1 ∷ 1 ∷ 2 ^ 63 ∷ 0 ∷ 1 ∷ 0 ∷ 0 ∷ [])
+    ++ ((2 ^ 64 - 1) ∷ (2 ^ 64 - 1) ∷ 1 ∷ (2 ^ 64 - 2) ∷ (2 ^ 64 - 1) ∷ 1 ∷ 0 ∷ 0 ∷ [])
 
 -- ---- a table of pages
 
@@ -86,12 +105,13 @@ unfoldable pub noneWritten : List Board → Bool
 noneWritten [] = true
 noneWritten (b ∷ bs) = same (pageLeft b (replicate 400 170)) (replicate 400 170) && noneWritten bs
 
--- The worked page is the second program's, bytes past it stay, a page refused by 12 and by 2, 3 or 4 writes nothing, marks are compared whole, and the table
--- holds.
+-- The worked page is the second program's, bytes past it stay, a page refused by 12 and by 2, 3 or 4 writes nothing, marks are compared whole, records and
+-- backups too, and the table holds.
 pub record PagesHold : Type 0 where
-  pub worked : same (pageText (workedBoard .cache) 4) (flatten workedLines) ≡ true
-  pub past : same (pageLeft workedBoard (replicate 343 170)) (flatten workedLines ++ (170 ∷ 170 ∷ 170 ∷ [])) ≡ true
-  pub refused : same (pageLeft workedBoard (replicate 339 170)) (replicate 339 170) ≡ true
+  pub worked : same (pageText (workedBoard .cache) 6) (flatten workedLines) ≡ true
+  pub past : same (pageLeft workedBoard (replicate 479 170)) (flatten workedLines ++ (170 ∷ 170 ∷ 170 ∷ [])) ≡ true
+  pub refused : same (pageLeft workedBoard (replicate 475 170)) (replicate 475 170) ≡ true
   pub unwritten : noneWritten refusedBoards ≡ true
   pub high : same (cellOrder highMarks 4) (2 ∷ 0 ∷ 3 ∷ 1 ∷ []) ≡ true
+  pub apart : same (cellOrder oneBitApart 4) (1 ∷ 3 ∷ 0 ∷ 2 ∷ []) ≡ true
   pub table : allPages pageTable ≡ true

@@ -132,11 +132,14 @@ pub fn text_row(board: &Board, room: u64) -> Finding {
 fn page_of(board: &Board) -> String {
     let word = |at: usize| board.cache.get(at).copied().unwrap_or(0);
     let mut cells: Vec<usize> = (0..2 * usize::from(board.state.lines)).collect();
-    let unchanged = |cell: usize| word(record_word(cell)) == word(backup_word(cell));
-    cells.sort_unstable_by_key(|&cell| (Reverse(word(mark_word(cell))), unchanged(cell), cell));
+    let words = |cell: usize| [record_word(cell), backup_word(cell), mark_word(cell)].map(word);
+    cells.sort_unstable_by_key(|&cell| {
+        let [record, backup, mark] = words(cell);
+        (Reverse(mark), record == backup, cell)
+    });
     let mut page = format!("{:>4} {:>20} {:>20} {:>20}\n", "cell", "record", "backup", "mark");
     for cell in cells {
-        let [record, backup, mark] = [record_word(cell), backup_word(cell), mark_word(cell)].map(word);
+        let [record, backup, mark] = words(cell);
         page += &format!("{cell:>4} {record:>20} {backup:>20} {mark:>20}\n");
     }
     page
