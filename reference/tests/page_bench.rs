@@ -16,8 +16,8 @@ fn next(mut x: u64) -> u64 {
 /// A cell's mark, from its number and its random number.
 type Mark = fn(u64, u64) -> u64;
 
-/// The checksum of a workload with these marks.
-fn told(mark: Mark, lines: u64, workers: u64, rounds: u64, seed: u64) -> u64 {
+/// The checksum of a workload with these marks, where `mixed` with backups that half of the records are equal to.
+fn told(mark: Mark, mixed: bool, [lines, workers, rounds, seed]: [u64; 4]) -> u64 {
     let mut board = Board::empty(None);
     answer::<Drill>(&mut board, format!("F\t{lines}\t{workers}").as_bytes()).unwrap();
     let cells = 2 * lines;
@@ -25,7 +25,8 @@ fn told(mark: Mark, lines: u64, workers: u64, rounds: u64, seed: u64) -> u64 {
     let mut random = seed;
     for cell in 0..cells {
         random = next(random);
-        board.cache[at(cell)..at(cell) + 3].copy_from_slice(&[random, random >> 32, mark(cell, random)]);
+        let backup = if mixed && random & 1 == 0 { random } else { random >> 32 };
+        board.cache[at(cell)..at(cell) + 3].copy_from_slice(&[random, backup, mark(cell, random)]);
     }
     let mut text = vec![0; 68 * (cells as usize + 1)];
     let mut random = seed;
@@ -40,14 +41,19 @@ fn told(mark: Mark, lines: u64, workers: u64, rounds: u64, seed: u64) -> u64 {
 
 #[test]
 fn the_checksums_are_those_of_the_last_page_and_of_the_reads() {
-    let workloads: [(&str, Mark); 3] =
-        [("page-equal", |_, _| 7), ("page-rising", |cell, _| cell + 1), ("page-random", |_, random| random >> 44)];
+    let workloads: [(&str, Mark); 4] = [
+        ("page-equal", |_, _| 7),
+        ("page-rising", |cell, _| cell + 1),
+        ("page-random", |_, random| random >> 44),
+        ("page-mixed", |_, _| 7),
+    ];
     for (name, mark) in workloads {
         for (lines, workers, n, rounds, seed) in
             [(1, 1, 1, 0, 5), (1, 1, 2, 1, 5), (2, 3, 3, 7, 99), (64, 4, 100, 3, u64::MAX), (511, 8, 8, 2, 1)]
         {
             let sum = run(Workload::named(name).unwrap(), lines, workers, n, rounds, seed);
-            assert_eq!(sum, Some(told(mark, lines, workers, rounds, seed)), "{name} {lines} {workers} {rounds}");
+            let expected = told(mark, name == "page-mixed", [lines, workers, rounds, seed]);
+            assert_eq!(sum, Some(expected), "{name} {lines} {workers} {rounds}");
         }
     }
 }
@@ -64,6 +70,7 @@ fn sizes_are_tested_as_for_other_workloads() {
         "page-equal",
         "page-rising",
         "page-random",
+        "page-mixed",
     ] {
         let workload = Workload::named(name).unwrap();
         assert!(run(workload, 1, 1, 1, 1, 1).is_some(), "{name}");

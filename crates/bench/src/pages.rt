@@ -1,4 +1,4 @@
-// Pages of a board whose marks are equal, rising or random, printed again and again.
+// Pages of a board whose marks are equal, rising or random, or equal with half of the cells unchanged, printed again and again.
 ghost use mathlib.Core.Path.{_≡_};
 ghost use Prim.Native.Nat.{_+_, _≤_, _<_};
 ghost use lib.ListN.{length};
@@ -16,9 +16,21 @@ use line::Field;
 // The mark of a cell whose random number this is.
 fn mark_of(marks: Marks, cell: u16, random: u64) -> u64 {
     match marks {
-        Marks::Equal => 7,
+        Marks::Equal | Marks::Mixed => 7,
         Marks::Rising => cell as u64 + 1,
         Marks::Random => random >> 44,
+    }
+}
+
+// The backup of a cell whose record this is: it differs, but in half of the mixed cells.
+fn backup_of(marks: Marks, record: u64) -> u64 {
+    match marks {
+        Marks::Mixed => if record % 2 == 0 {
+            record
+        } else {
+            record >> 32
+        },
+        _ => record >> 32,
     }
 }
 
@@ -30,11 +42,11 @@ fn put_record(cache: &mut [u64], cell: usize, record: u64)
 }
 
 // The host puts a cell's record, backup and mark.
-fn put_cell(cache: &mut [u64], cell: usize, record: u64, mark: u64)
+fn put_cell(cache: &mut [u64], cell: usize, record: u64, backup: u64, mark: u64)
     requires { ⌜ lineStart (cellLine cell) + 8 ≤ length (now cache) ⌝ }
 {
     line::store_field(cache, cell, Field::Record, record);
-    line::store_field(cache, cell, Field::Backup, record >> 32);
+    line::store_field(cache, cell, Field::Backup, backup);
     line::store_field(cache, cell, Field::Mark, mark);
 }
 
@@ -47,7 +59,13 @@ fn fill(marks: Marks, plan: Plan, cache: &mut [u64])
     let mut cell = 0;
     while cell < n {
         random = setup::next(random);
-        put_cell(cache, cell as usize, random, mark_of(marks, cell, random));
+        put_cell(
+            cache,
+            cell as usize,
+            random,
+            backup_of(marks, random),
+            mark_of(marks, cell, random),
+        );
         cell += 1;
     }
 }

@@ -38,11 +38,12 @@ pub enum Round {
     Reads,
 }
 
-// The marks of the cells of which pages are printed.
+// The marks of the cells of which pages are printed. `Mixed` are equal ones, half of the cells being unchanged.
 pub enum Marks {
     Equal,
     Rising,
     Random,
+    Mixed,
 }
 
 // What a KIND on the command line stands for.
@@ -66,6 +67,7 @@ pub fn numbered(kind: u64) -> Workload {
         9 => Workload::Calls(Round::CheckpointAway),
         10 => Workload::Calls(Round::CheckpointPairs),
         11 => Workload::Calls(Round::Locks),
+        12 => Workload::Pages(Marks::Mixed),
         _ => Workload::Unknown,
     }
 }

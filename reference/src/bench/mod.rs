@@ -67,6 +67,7 @@ impl Workload {
             "page-equal" => Workload::Pages(Marks::Equal),
             "page-rising" => Workload::Pages(Marks::Rising),
             "page-random" => Workload::Pages(Marks::Random),
+            "page-mixed" => Workload::Pages(Marks::Mixed),
             _ => return None,
         })
     }

@@ -1,25 +1,35 @@
-//! Workloads of pages: a board whose marks are equal, rising or random, and its page again and again.
+//! Workloads of pages: a board whose marks are equal, rising or random, or equal with half of the cells unchanged, and its
+//! page again and again.
 
 use super::{draw, next, Board, Plan};
 use crate::board::Lent;
 use crate::line::{backup_at, cells, mark_at, record_at};
 use crate::page::{page, page_bytes};
 
-/// The marks of the cells.
+/// The marks of the cells. `Mixed` are equal ones, half of the cells being unchanged.
 #[derive(Clone, Copy, PartialEq, Eq, Debug)]
 pub enum Marks {
     Equal,
     Rising,
     Random,
+    Mixed,
 }
 
 impl Marks {
     /// The mark of a cell whose random number this is.
     fn of(self, cell: u64, random: u64) -> u64 {
         match self {
-            Marks::Equal => 7,
+            Marks::Equal | Marks::Mixed => 7,
             Marks::Rising => cell + 1,
             Marks::Random => random >> 44,
+        }
+    }
+
+    /// The backup of a cell whose record this is: it differs, but in half of the mixed cells.
+    fn backup(self, record: u64) -> u64 {
+        match self {
+            Marks::Mixed if record.is_multiple_of(2) => record,
+            _ => record >> 32,
         }
     }
 }
@@ -30,7 +40,7 @@ pub(super) fn prepare(marks: Marks, plan: Plan, board: &mut Board) {
     for cell in 0..cells(plan.lines) {
         random = next(random);
         board.cache[record_at(cell as usize)] = random;
-        board.cache[backup_at(cell as usize)] = random >> 32;
+        board.cache[backup_at(cell as usize)] = marks.backup(random);
         board.cache[mark_at(cell as usize)] = marks.of(cell, random);
     }
 }

@@ -20,5 +20,5 @@ put-cell-requires c κs = omega arith
 pub fill-spec : {M : Type 1} → statement M
 fill-spec =
     tie.close
-    (tie.spec Inv-loop μ-loop (search needs) (search needs) (λ c. omega arith) (search needs) (search needs) (search needs) put-cell-requires (search needs) (search needs)
-    (search needs) (search needs) (search needs))
+    (tie.spec Inv-loop μ-loop (search needs) (search needs) (λ c. omega arith) (search needs) (search needs) (search needs) (search needs) put-cell-requires (search needs)
+    (search needs) (search needs) (search needs) (search needs))
