@@ -53,11 +53,12 @@ workedLines =
 abbrev pub highMarks : List ℕ
 highMarks = headerWords 2 (shaped 2) 1 ++ (0 ∷ 0 ∷ 2 ^ 63 ∷ 0 ∷ 0 ∷ 1 ∷ 0 ∷ 0 ∷ []) ++ (0 ∷ 0 ∷ (2 ^ 63 + 1) ∷ 0 ∷ 0 ∷ (2 ^ 63 - 1) ∷ 0 ∷ 0 ∷ [])
 
--- Cells of one mark: cells 1 and 3 differ from their backups in one bit, the highest and the lowest, so they stand before 0 and 2.
+-- Cells 0 and 1 have mark 0, cells 2 and 3 one past the epoch; cells 1 and 3 differ from their backups in one bit, the highest and the lowest, so each stands
+-- before the other of its mark.
 abbrev pub oneBitApart : List ℕ
 oneBitApart =
-    headerWords 2 (shaped 2) 1 ++ (1 ∷ 1 ∷ 1 ∷ 2 ^ 63 ∷ 0 ∷ 1 ∷ 0 ∷ 0 ∷ [])
-    ++ ((2 ^ 64 - 1) ∷ (2 ^ 64 - 1) ∷ 1 ∷ (2 ^ 64 - 2) ∷ (2 ^ 64 - 1) ∷ 1 ∷ 0 ∷ 0 ∷ [])
+    headerWords 2 (shaped 2) 1 ++ (1 ∷ 1 ∷ 0 ∷ 2 ^ 63 ∷ 0 ∷ 0 ∷ 0 ∷ 0 ∷ [])
+    ++ ((2 ^ 64 - 1) ∷ (2 ^ 64 - 1) ∷ 3 ∷ (2 ^ 64 - 2) ∷ (2 ^ 64 - 1) ∷ 3 ∷ 0 ∷ 0 ∷ [])
 
 -- ---- a table of pages
 
@@ -113,5 +114,5 @@ pub record PagesHold : Type 0 where
   pub refused : same (pageLeft workedBoard (replicate 475 170)) (replicate 475 170) ≡ true
   pub unwritten : noneWritten refusedBoards ≡ true
   pub high : same (cellOrder highMarks 4) (2 ∷ 0 ∷ 3 ∷ 1 ∷ []) ≡ true
-  pub apart : same (cellOrder oneBitApart 4) (1 ∷ 3 ∷ 0 ∷ 2 ∷ []) ≡ true
+  pub apart : same (cellOrder oneBitApart 4) (3 ∷ 2 ∷ 1 ∷ 0 ∷ []) ≡ true
   pub table : allPages pageTable ≡ true
