@@ -65,11 +65,13 @@ badRows l b =
     not (eqb (length (b .cache)) (rowWords l))
     || not (eqb (length (b .memory)) (rowWords l))
 
--- "at recovery's start: memory not a multiple of 8 in 16 to 4,096 words, cache of another length".
+-- "at recovery's start: memory not a multiple of 8 in 16 to 4,096 words": a length that recovery does not take.
+abbrev pub badLength : ℕ → Bool
+badLength n = not (eqb (n % 8) 0 && leb 16 n && leb n 4096)
+
+-- "cache of another length".
 abbrev pub badRecoveryRows : Board → Bool
-badRecoveryRows b =
-    not (eqb (length (b .memory) % 8) 0 && leb 16 (length (b .memory)) && leb (length (b .memory)) 4096)
-    || not (eqb (length (b .cache)) (length (b .memory)))
+badRecoveryRows b = badLength (length (b .memory)) || not (eqb (length (b .cache)) (length (b .memory)))
 
 -- ---- cause 5
 

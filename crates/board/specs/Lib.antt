@@ -7,6 +7,7 @@ pub mod Causes
 pub mod Effects
 pub mod Next
 pub mod Page
+pub mod Hex
 pub mod Machine
 pub mod Sequence
 pub mod Statements

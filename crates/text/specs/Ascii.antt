@@ -19,6 +19,9 @@ abbrev pub '0' : ℕ
 abbrev pub '9' : ℕ
 '9' = 57
 
+abbrev pub ':' : ℕ
+':' = 58
+
 abbrev pub '?' : ℕ
 '?' = 63
 
