@@ -12,13 +12,13 @@ use Rattle.board.specs.Causes.{Cause, check, badLength, firstStanding}
 -- ---- how a memory is written
 
 -- "upper-case digits": the character of a hexadecimal digit.
-abbrev pub digitCode : ℕ → ℕ
-digitCode d = cond (ltb d 10) ('0' + d) ('A' + (d - 10))
+abbrev pub hexCharacter : ℕ → ℕ
+hexCharacter d = cond (ltb d 10) ('0' + d) ('A' + (d - 10))
 
 -- Bytes as digits, two each, the high one first.
 unfoldable pub bytesText : List ℕ → List ℕ
 bytesText [] = []
-bytesText (b ∷ bs) = digitCode (b / 16) ∷ digitCode (b % 16) ∷ bytesText bs
+bytesText (b ∷ bs) = hexCharacter (b / 16) ∷ hexCharacter (b % 16) ∷ bytesText bs
 
 -- The sum of bytes.
 unfoldable pub sumOf : List ℕ → ℕ
@@ -61,15 +61,15 @@ hexText memory = hexFrom 0 memory
 -- ---- which texts are read
 
 -- "letters in either case": the digit that a character stands for; 16 for one that is none.
-abbrev pub digitOf : ℕ → ℕ
-digitOf c =
+abbrev pub hexDigit : ℕ → ℕ
+hexDigit c =
     cond (leb '0' c && leb c '9') (c - '0')
     (cond (leb 'A' c && leb c 'F') (c - 'A' + 10)
     (cond (leb 'a' c && leb c 'f') (c - 'a' + 10) 16))
 
 -- The byte that two characters write; 256 where one of them is no digit.
 unfoldable pub byteOf : ℕ → ℕ → ℕ
-byteOf high low = cond (ltb (digitOf high) 16 && ltb (digitOf low) 16) (16 * digitOf high + digitOf low) 256
+byteOf high low = cond (ltb (hexDigit high) 16 && ltb (hexDigit low) 16) (16 * hexDigit high + hexDigit low) 256
 
 -- The first `n` bytes that a text's characters write, two each; past its end there is no digit.
 unfoldable pub bytesIn : ℕ → List ℕ → List ℕ
@@ -182,6 +182,10 @@ isNoFile (file bytes) = false
 abbrev pub readBytes : Parsed → List ℕ
 readBytes noFile = []
 readBytes (file bytes) = bytes
+
+-- How many words a text holds; 0 where it is no file or its bytes are no whole words.
+unfoldable pub hexWords : List ℕ → ℕ
+hexWords text = let n = length (readBytes (parsed text)) in cond (eqb (n % 8) 0) (n / 8) 0
 
 -- "a length that recovery would not take or the lent row doesn't have": a row that recovery takes, and bytes for just its words, leave neither.
 abbrev pub misfits : List ℕ → List ℕ → Bool
