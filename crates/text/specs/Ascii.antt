@@ -99,3 +99,6 @@ abbrev pub 'n' : ℕ
 
 abbrev pub 'p' : ℕ
 'p' = 112
+
+abbrev pub 'z' : ℕ
+'z' = 122
