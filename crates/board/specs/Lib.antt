@@ -8,6 +8,7 @@ pub mod Effects
 pub mod Next
 pub mod Page
 pub mod Hex
+pub mod Quiet
 pub mod Machine
 pub mod Sequence
 pub mod Statements

@@ -16,7 +16,8 @@ use Rattle.board.specs.Effects.{effect}
 use Rattle.board.specs.Page.{pageCause, pageLeft, PageOutcome}
 use Rattle.board.specs.Changes.{Changes, EachCallChanges, pageOf, PageChanges, EightOfEach}
 use Rattle.predicate.proofs.Bools.{chosen, passedOver}
-use Rattle.board.proofs.Laws.Taken.{standsAt, passed, taken-next, page-board, ByEffect, quiet, theFormat, theRecovery, theStep, theUpdate, theRestart, theAdvance, theRequest, theWriteBack, theGoing, theComing, theTaking, theGiving, by-effect}
+use Rattle.board.proofs.Laws.Taken.{standsAt, passed, taken-next, ByEffect, quiet, theFormat, theRecovery, theStep, theUpdate, theRestart, theAdvance, theRequest, theWriteBack, theGoing, theComing, theTaking, theGiving, by-effect}
+use Rattle.board.proofs.Laws.Quiet.{page-board}
 use Rattle.board.proofs.Steps.Theorems.{format-begins, recovery-begins, requests, goes-away, comes-back}
 use Rattle.board.proofs.Locks.Theorems.{takes-lock, gives-lock-back}
 use Rattle.board.proofs.Changes.Rows.{passed-sizes, line-written}

@@ -16,12 +16,13 @@ use Rattle.board.specs.State.{isRunning}
 use Rattle.board.specs.Effects.{effect}
 use Rattle.board.specs.Next.{Taken, valueRead, Kind, startsFormat, startsRecovery, stepping, writing, counting, other, reading, kind, isStart, isStep}
 use Rattle.board.specs.Machine.{Machine, feed, stepped, finishesFormat, beginning, counted, completed, checkpointStep, writeBackSeen, markedCount}
-use Rattle.board.specs.Sequence.{Run, Takes, finished, steps, between, paged, recoverySteps}
+use Rattle.board.specs.Sequence.{Run, Takes, finished, steps, between, stays, recoverySteps}
 use Rattle.board.specs.Statements.{Recovered, SameBoard, Completes}
 use Rattle.predicate.proofs.Bools.{on, split, clash, and-off, and-off-right, passedOver}
 use Rattle.board.proofs.Laws.Takes.{takes-none}
 use Rattle.board.proofs.Invariant.{Inv, RecoveryInv, RecoveryMachine}
-use Rattle.board.proofs.Laws.Taken.{phaseBars, phase-passed, of-kind, performed-taken, performed-refused, page-board, afterTaken}
+use Rattle.board.proofs.Laws.Taken.{phaseBars, phase-passed, of-kind, performed-taken, performed-refused, afterTaken}
+use Rattle.board.proofs.Laws.Quiet.{quiet-board}
 use Rattle.board.proofs.Checkpoint.Run.{Preserved}
 use Rattle.board.proofs.Laws.Reading.{in-phase, read-taken, read-current}
 use Rattle.board.proofs.Recovery.Count.{remaining, remaining-start, remaining-step, remaining-positive}
@@ -177,7 +178,7 @@ module _ (σ : Shape) (w : ℕ) (xs : Location → ℕ) where
       let taken = performed-taken k b p z in
       to-the-end rest (afterTaken k r) (ap (effect k) e ∙ sym (taken .1)) (goes-on (suc n) k r u (subst (Taken k) (sym e) (taken .0)) (f z)))
       (λ t. to-the-end rest r (e ∙ sym (performed-refused k b p (eqb-false number 0 t))) u)
-  to-the-end (paged text left {b = b} p rest) r e u = to-the-end rest r (e ∙ sym (page-board b text p)) u
+  to-the-end (stays q rest) r e u = to-the-end rest r (e ∙ sym (quiet-board q)) u
 
 pub phase-start : (b : Board) → effect RecoveryStart b .state .phase ≡ Recovering
 unfolding effect
