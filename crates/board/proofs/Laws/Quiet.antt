@@ -19,37 +19,45 @@ page-board b text p = ap (λ (o : PageOutcome). o .board) p
 
 module _ (row text : List ℕ) {number : ℕ} {left : List ℕ} (p : HexWritePerformed row text number left) where
   -- The number that writing gave back.
-  pub write-number : number ≡ hexWriteCause row text
-  write-number = ap (λ (o : HexWritten). o .number) p
+  pub hex-write-number : number ≡ hexWriteCause row text
+  hex-write-number = ap (λ (o : HexWritten). o .number) p
 
   -- Refused, it leaves the text row.
-  pub write-refused : (number ≡ 0 → ⊥) → left ≡ text
+  pub hex-write-refused : (number ≡ 0 → ⊥) → left ≡ text
   unfolding hexWriteLeft
-  write-refused o = ap (λ (w : HexWritten). w .text) p ∙ passedOver (eqb (hexWriteCause row text) 0) (put text 0 (hexText row)) text (ne-eqb (hexWriteCause row text) 0 (λ e. o (write-number ∙ e)))
+  hex-write-refused o =
+      let n = hexWriteCause row text in
+      ap (λ (w : HexWritten). w .text) p ∙ passedOver (eqb n 0) (put text 0 (hexText row)) text (ne-eqb n 0 (λ e. o (hex-write-number ∙ e)))
 
   -- Taken, it leaves the text at its front.
-  pub write-taken : number ≡ 0 → left ≡ put text 0 (hexText row)
+  pub hex-write-taken : number ≡ 0 → left ≡ put text 0 (hexText row)
   unfolding hexWriteLeft
-  write-taken e = ap (λ (w : HexWritten). w .text) p ∙ chosen (eqb (hexWriteCause row text) 0) (put text 0 (hexText row)) text (eq-eqb (hexWriteCause row text) 0 (sym write-number ∙ e))
+  hex-write-taken e =
+      let n = hexWriteCause row text in
+      ap (λ (w : HexWritten). w .text) p ∙ chosen (eqb n 0) (put text 0 (hexText row)) text (eq-eqb n 0 (sym hex-write-number ∙ e))
 
 module _ (text row : List ℕ) {number : ℕ} {left : List ℕ} (p : HexReadPerformed text row number left) where
   -- The number that reading gave back.
-  pub read-number : number ≡ hexReadCause text row
-  read-number = ap (λ (o : HexRead). o .number) p
+  pub hex-read-number : number ≡ hexReadCause text row
+  hex-read-number = ap (λ (o : HexRead). o .number) p
 
   -- Refused, it leaves the row.
-  pub read-refused : (number ≡ 0 → ⊥) → left ≡ row
+  pub hex-read-refused : (number ≡ 0 → ⊥) → left ≡ row
   unfolding hexReadLeft
-  read-refused o = ap (λ (r : HexRead). r .row) p ∙ passedOver (eqb (hexReadCause text row) 0) (wordsOf (length row) (readBytes (parsed text))) row (ne-eqb (hexReadCause text row) 0 (λ e. o (read-number ∙ e)))
+  hex-read-refused o =
+      let n = hexReadCause text row in
+      ap (λ (r : HexRead). r .row) p ∙ passedOver (eqb n 0) (wordsOf (length row) (readBytes (parsed text))) row (ne-eqb n 0 (λ e. o (hex-read-number ∙ e)))
 
   -- Taken, it leaves the words of the text.
-  pub read-taken : number ≡ 0 → left ≡ wordsOf (length row) (readBytes (parsed text))
+  pub hex-read-taken : number ≡ 0 → left ≡ wordsOf (length row) (readBytes (parsed text))
   unfolding hexReadLeft
-  read-taken e = ap (λ (r : HexRead). r .row) p ∙ chosen (eqb (hexReadCause text row) 0) (wordsOf (length row) (readBytes (parsed text))) row (eq-eqb (hexReadCause text row) 0 (sym read-number ∙ e))
+  hex-read-taken e =
+      let n = hexReadCause text row in
+      ap (λ (r : HexRead). r .row) p ∙ chosen (eqb n 0) (wordsOf (length row) (readBytes (parsed text))) row (eq-eqb n 0 (sym hex-read-number ∙ e))
 
 -- A quiet thing leaves the board as it was.
 pub quiet-board : {b b′ : Board} → Quiet b b′ → b′ ≡ b
 quiet-board {b} (page text left p) = page-board b text p
 quiet-board (written row text left p) = refl
-quiet-board {b} (memoryRefused text left p o) = ap (λ (row : List ℕ). lent (b .state) row (b .cache)) (read-refused text (b .memory) p o)
-quiet-board {b} (cacheRefused text left p o) = ap (λ (row : List ℕ). lent (b .state) (b .memory) row) (read-refused text (b .cache) p o)
+quiet-board {b} (memoryRefused text left p o) = ap (λ (row : List ℕ). lent (b .state) row (b .cache)) (hex-read-refused text (b .memory) p o)
+quiet-board {b} (cacheRefused text left p o) = ap (λ (row : List ℕ). lent (b .state) (b .memory) row) (hex-read-refused text (b .cache) p o)
