@@ -17,6 +17,7 @@ pub mod Foretold
 pub mod Locks
 pub mod Changes
 pub mod LaterMark
+pub mod HexHistories
 pub mod Bench
 pub mod Refusals
 pub mod Pages
