@@ -137,6 +137,24 @@ pub record ReadInHistory : Type 0 where
   -- so the reading carries no history on
   pub noHistory : History (unfed (lent (run .board .state) words (run .board .cache)) run) → ⊥
 
+-- A reading into the cache ends them too: a read, taken with no cut since the last start, gives another value than the machine's current one.
+pub record CacheReadInHistory : Type 0 where
+  pub run : Run
+  pub reached : History run
+  pub uncut : run .crashed ≡ false
+  -- a taken reading into the cache
+  pub text : List ℕ
+  pub words : List ℕ
+  pub read : HexReadPerformed text (run .board .cache) 0 words
+  -- a taken read of a cell
+  pub cell : ℕ
+  pub value : ℕ
+  pub left : Board
+  pub seen : Performed (Read cell) (lent (run .board .state) (run .board .memory) words) 0 value left
+  pub wrong : value ≡ run .machine .current (locations.cell cell) → ⊥
+  -- so the reading carries no history on
+  pub noHistory : History (unfed (lent (run .board .state) (run .board .memory) words) run) → ⊥
+
 -- ---- 4. the ticket's sentence
 
 -- A reading ends what demands 2 and 3 promise. A recovery's start that takes the memory begins it anew, and so does the end of a format begun afterwards,
@@ -148,3 +166,4 @@ pub record ReadingEndsPromises : Type 0 where
   pub byFormat : BeginsByFormat
   pub formatBefore : FormatBefore
   pub inHistory : ReadInHistory
+  pub cacheInHistory : CacheReadInHistory

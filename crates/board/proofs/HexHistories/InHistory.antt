@@ -1,4 +1,4 @@
--- A reading in the middle of a history: a recovery then reads what no checkpoint held.
+-- A reading in the middle of a history: after one into memory a recovery reads what no checkpoint held; after one into the cache a read gives what the machine does not hold.
 use Prim.Native.Nat.{ℕ, _<_}
 use mathlib.Core.Path.{_≡_, refl, sym, subst, _∙_}
 use mathlib.Core.Logic.{⊎-elim}
@@ -21,19 +21,19 @@ use Rattle.board.specs.Causes.{badRecord, causes, firstStanding, cause}
 use Rattle.board.specs.Location.{Location, cell, undo, changedAt}
 use Rattle.board.specs.Effects.{formatStep, recoveryStep, performAct, performFirst, step, advance, advanceOf, effect}
 use Rattle.board.specs.Checkpoint.{acts, storesEpoch}
-use Rattle.board.specs.Next.{Taken, next, lent, valueOf, Performed}
+use Rattle.board.specs.Next.{Taken, next, lent, valueRead, valueOf, Performed}
 use Rattle.board.specs.Hex.{bytesText, sumOf, recordText, lowBytes, wordBytes, hexFrom, byteOf, bytesIn, allBytes, hasRecord, hasData, hasEnd, parsedFrom, parsed, wordOf, wordsOf, hexReadCauses, hexReadCause, hexReadLeft, HexReadPerformed}
 use Rattle.board.specs.Machine.{beginning, changed, fewer, advanced, checkpointStep, stepped, writeBackSeen, feed}
 use Rattle.board.specs.Sequence.{Begins, formatted, Run, opening, unfed, cutRun, performs, History, begun, further}
 use Rattle.board.specs.Statements.{ReadsCheckpointed, Recovered, CutAndRecovered}
 use Rattle.board.specs.Bench.{blankFor, afterCalls}
-use Rattle.board.specs.HexHistories.{HeldOnce, ReadInHistory}
+use Rattle.board.specs.HexHistories.{HeldOnce, ReadInHistory, CacheReadInHistory}
 use Rattle.predicate.proofs.Bools.{clash, and-left, and-right, not-of}
 use Rattle.board.proofs.Laws.Taken.{performing}
 use Rattle.board.proofs.Laws.Playing.{made, madeAll, stays-up, byKind, takesTest, tested}
 use Rattle.board.proofs.PlayedReads.{garbage}
 use Rattle.board.proofs.Recovery.Finishes.{recovers-taken}
-use Rattle.board.proofs.Theorems.{demand3, recovery-from}
+use Rattle.board.proofs.Theorems.{reads, demand3, recovery-from}
 use Rattle.board.proofs.HexHistories.Begins.{recovered-undo, reads-otherwise}
 use Rattle.board.proofs.HexHistories.Text.{words, text}
 
@@ -149,4 +149,44 @@ in-history =
       reads = reads-six;
       never = reached .1;
       noHistory = λ h. wrong (demand3 readRun readRun h h (left .0) (left .0) after after .0);
+    }
+
+-- ---- the reading into the cache
+
+-- The text is read into the cache.
+cacheRun : Run
+cacheRun = unfed (lent (run .board .state) (run .board .memory) words) run
+
+read-cache : HexReadPerformed text (run .board .cache) 0 words
+unfolding words text run calls fresh hexReadCause hexReadCauses hexReadLeft parsed parsedFrom hasEnd hasData hasRecord allBytes bytesIn byteOf sumOf hexFrom recordText bytesText lowBytes wordBytes wordOf wordsOf made madeAll afterCalls next cause causes firstStanding badRecord anyUnder effect step formatStep recoveryStep acts numbersUnder performAct performFirst storesEpoch advance advanceOf lineOf withLine fieldIndex fieldOf withField feed changed changedAt countUnder fewer advanced checkpointStep stepped writeBackSeen nthFrom nthUnder bitsIn bitOf withBit contains added size nth strays digitOf unheld held holdsAny heldFrom withDigit
+read-cache = refl
+
+-- Cell 3 reads 6, and the machine holds 7.
+seen-cache : Taken (Read 3) (cacheRun .board) × (valueOf (Read 3) (cacheRun .board) ≡ 6) × (run .machine .current (cell 3) ≡ 7)
+unfolding cacheRun words valueOf valueRead run calls fresh made madeAll afterCalls next cause causes firstStanding badRecord anyUnder effect step formatStep recoveryStep acts numbersUnder performAct performFirst storesEpoch advance advanceOf lineOf withLine fieldIndex fieldOf withField feed changed changedAt countUnder fewer advanced checkpointStep stepped writeBackSeen nthFrom nthUnder bitsIn bitOf withBit contains added size nth strays digitOf unheld held holdsAny heldFrom withDigit
+seen-cache = (refl, refl, refl)
+
+cache-read : Performed (Read 3) (cacheRun .board) 0 6 (next (Read 3) (cacheRun .board))
+cache-read = performing (Read 3) (cacheRun .board) (seen-cache .0) (sym (seen-cache .1)) refl
+
+cache-wrong : 6 ≡ run .machine .current (cell 3) → ⊥
+cache-wrong e = omega (arith, e, seen-cache .2)
+
+-- A history would promise the current value.
+pub cache-in-history : CacheReadInHistory
+unfolding cacheRun
+cache-in-history =
+    record {
+      run = run;
+      reached = reached .0;
+      uncut = seen-run .0;
+      text = text;
+      words = words;
+      read = read-cache;
+      cell = 3;
+      value = 6;
+      left = next (Read 3) (cacheRun .board);
+      seen = cache-read;
+      wrong = cache-wrong;
+      noHistory = λ h. cache-wrong (reads cacheRun h (seen-run .0) 3 6 (next (Read 3) (cacheRun .board)) cache-read);
     }

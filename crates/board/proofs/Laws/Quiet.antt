@@ -27,7 +27,7 @@ module _ (row text : List ℕ) {number : ℕ} {left : List ℕ} (p : HexWritePer
   unfolding hexWriteLeft
   hex-write-refused o =
       let n = hexWriteCause row text in
-      ap (λ (w : HexWritten). w .text) p ∙ passedOver (eqb n 0) (put text 0 (hexText row)) text (ne-eqb n 0 (λ e. o (hex-write-number ∙ e)))
+      ap (λ (w : HexWritten). w .text) p ∙ passedOver (eqb n 0) _ text (ne-eqb n 0 (λ e. o (hex-write-number ∙ e)))
 
   -- Taken, it leaves the text at its front.
   pub hex-write-taken : number ≡ 0 → left ≡ put text 0 (hexText row)
@@ -46,7 +46,7 @@ module _ (text row : List ℕ) {number : ℕ} {left : List ℕ} (p : HexReadPerf
   unfolding hexReadLeft
   hex-read-refused o =
       let n = hexReadCause text row in
-      ap (λ (r : HexRead). r .row) p ∙ passedOver (eqb n 0) (wordsOf (length row) (readBytes (parsed text))) row (ne-eqb n 0 (λ e. o (hex-read-number ∙ e)))
+      ap (λ (r : HexRead). r .row) p ∙ passedOver (eqb n 0) _ row (ne-eqb n 0 (λ e. o (hex-read-number ∙ e)))
 
   -- Taken, it leaves the words of the text.
   pub hex-read-taken : number ≡ 0 → left ≡ wordsOf (length row) (readBytes (parsed text))
