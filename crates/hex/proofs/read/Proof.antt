@@ -74,13 +74,14 @@ store-requires c κs =
     let m = sym (fit-test (e .before)) ∙ e .if2 .left in
     let bytes = readBytes (parsed (a .text .now)) in
     let bad = badLength (length (a .row .now)) in
-    let wrong = not (eqb (length bytes) (8 * length (a .row .now))) in
-    (record {
-      bytes = bytes;
-      parses = file-of (parsed (a .text .now)) (is-file (e .before .before .before));
-      fills = eqb-true (length bytes) (8 * length (a .row .now)) (not-off _ (or-right bad wrong m));
-    },
-    good-length (length (a .row .now)) (or-left bad wrong m) .1)
+    let wrong = not (eqb (length bytes) (8 * length (a .row .now))) in (
+      record {
+        bytes = bytes;
+        parses = file-of (parsed (a .text .now)) (is-file (e .before .before .before));
+        fills = eqb-true (length bytes) (8 * length (a .row .now)) (not-off _ (or-right bad wrong m));
+      },
+      good-length (length (a .row .now)) (or-left bad wrong m) .1,
+    )
 
 returns-3 : tie.Need-returns-3
 returns-3 c =
