@@ -1,13 +1,18 @@
 -- The digits that characters stand for, case by case.
 use Prim.Native.Nat.{ℕ, _+_, _*_, _-_, _/_, _%_, _≤_, _<_}
 use mathlib.Core.Path.{_≡_, refl, sym, _∙_}
-use mathlib.Core.Bool.{Bool, true, false, _&&_}
+use mathlib.Core.List.{List}
+use mathlib.Core.Bool.{Bool, true, false, not, _&&_}
 use native.Mathlib.Omega.{arith}
-use lib.Dec.{leb, ltb}
-use borrow.Author.Tests.{leb-true, ltb-true}
-use Rattle.predicate.proofs.Bools.{chosen, passedOver, split, and-left, and-right}
+use lib.Dec.{leb, ltb, eqb}
+use lib.ListN.{getD}
+use borrow.Author.Tests.{leb-true, ltb-true, eqb-true}
+use Rattle.predicate.specs.Passing.{anyUnder}
+use Rattle.predicate.proofs.Bools.{chosen, passedOver, split, and-left, and-right, not-off}
+use Rattle.predicate.proofs.Passing.{none-under}
 use Rattle.text.specs.Ascii.{'0', '9', 'A', 'F', 'a', 'f'}
 use Rattle.board.specs.Hex.{hexDigit, byteOf}
+use Rattle.hex.specs.Storing.{DigitTable}
 
 -- A character stands between two others.
 abbrev pub between : ℕ → ℕ → ℕ → Bool
@@ -47,6 +52,11 @@ module _ (c : ℕ) where
       split (between '0' '9' c) (λ d. omega (arith, inside '0' '9' c d, decimal d))
       (λ d. split (between 'A' 'F' c) (λ u. omega (arith, inside 'A' 'F' c u, upper d u))
       (λ u. split (between 'a' 'f' c) (λ l. omega (arith, inside 'a' 'f' c l, lower d u l)) (λ l. absurd (omega (arith, no-digit d u l)))))
+
+-- A table that passes the test at each byte is that of the digits.
+pub digit-table : {table : List ℕ} → anyUnder 256 (λ c. not (eqb (getD table c 0) (hexDigit c))) ≡ false → DigitTable table
+digit-table {table} t =
+    record { entry = λ c h. eqb-true (getD table c 0) (hexDigit c) (not-off _ (none-under 256 (λ c. not (eqb (getD table c 0) (hexDigit c))) t c h)) }
 
 -- Two digits write a byte.
 pub digits-write : (high low : ℕ) {h l : ℕ} → h ≡ hexDigit high → l ≡ hexDigit low → ltb h 16 && ltb l 16 ≡ true → 16 * h + l ≡ byteOf high low

@@ -14,3 +14,4 @@ pub mod Written
 pub mod Stored
 pub mod Filling
 pub mod Shifting
+pub mod Whole

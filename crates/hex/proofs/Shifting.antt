@@ -57,7 +57,7 @@ module _ (row : List ℕ) (j : ℕ) (inside : j < length row) where
       ∙ ap (λ (r : List ℕ). stored r (8 * j + (k + 1)) bytes) (set-set row j v (shiftedIn v b))
 
   -- All eight bytes.
-  eight : (a b c d e f g h : ℕ) (bytes : List ℕ) → getD row j 0 < 2 ^ 64 →
+  pub eight : (a b c d e f g h : ℕ) (bytes : List ℕ) → getD row j 0 < 2 ^ 64 →
       stored row (8 * j) (a ∷ b ∷ c ∷ d ∷ e ∷ f ∷ g ∷ h ∷ bytes) ≡ stored (set row j (wordOf (a ∷ b ∷ c ∷ d ∷ e ∷ f ∷ g ∷ h ∷ []))) (8 * (j + 1)) bytes
   unfolding wordOf
   eight a b c d e f g h bytes bound =

@@ -78,7 +78,7 @@ word-low (b ∷ bs) e =
     ap₂ (λ (x : ℕ) (l : List ℕ). x ∷ l) low (ap (lowBytes (length bs)) high ∙ word-low bs (bytes-rest b bs e))
 
 -- The number that bytes write has no more bytes than these.
-word-bound : (bs : List ℕ) → allBytes bs ≡ true → wordOf bs < 256 ^ length bs
+pub word-bound : (bs : List ℕ) → allBytes bs ≡ true → wordOf bs < 256 ^ length bs
 unfolding wordOf
 word-bound [] e = omega arith
 word-bound (b ∷ bs) e = omega (arith, bytes-first b bs e, word-bound bs (bytes-rest b bs e), pow-succ' 256 (length bs))

@@ -2,6 +2,7 @@
 // call takes a state record.
 mod reading;
 mod storing;
+mod table;
 mod writing;
 
 ghost use mathlib.Core.Path.{_≡_};

@@ -3,7 +3,7 @@ ghost use mathlib.Core.Path.{_≡_};
 ghost use mathlib.Core.Bool.{true};
 ghost use lib.ListN.{length};
 ghost use Prim.Native.Nat.{_+_, _*_, _<_, _≤_};
-ghost use Rattle.board.specs.Hex.{hexDigit, byteOf, bytesIn, allBytes, countOf, hasRecord, parsed, readBytes, wordsOf};
+ghost use Rattle.board.specs.Hex.{hexDigit, byteOf, bytesIn, allBytes, countOf, hasRecord, parsed, readBytes, wordOf, wordsOf};
 ghost use Rattle.hex.specs.Storing.{stored, Filling};
 
 // The digit that a character stands for, where it is one: letters of either case are in the same places of two rows of 64.
@@ -35,6 +35,45 @@ fn store_bytes(text: &[u8], n: usize, row: &mut [u64], from: usize)
     }
 }
 
+// The word that a text's first sixteen digits write.
+fn word_of(text: &[u8]) -> u64
+    requires { ⌜ (16 ≤ length (now text)) × (allBytes (bytesIn 8 (now text)) ≡ true) ⌝ }
+    ensures { λ r. ⌜ r ≡ wordOf (bytesIn 8 (now (text .entry))) ⌝ }
+{
+    let mut word: u64 = 0;
+    let mut k = 8;
+    while k > 0 {
+        k -= 1;
+        word = word * 256 + byte_of(text[2 * k], text[2 * k + 1]);
+    }
+    word
+}
+
+// The first `n` words that a text's digits write, stored from word `from` of the row on.
+fn store_words(text: &[u8], n: usize, row: &mut [u64], from: usize)
+    requires { ⌜ (16 * n ≤ length (now text)) × (allBytes (bytesIn (8 * n) (now text)) ≡ true) × (from + n ≤ length (now row)) × (length (now row) ≤ 4096) ⌝ }
+    ensures { λ _. ⌜ now (row .exit) ≡ stored (now (row .entry)) (8 * from) (bytesIn (8 * n) (now (text .entry))) ⌝ }
+{
+    let mut i = 0;
+    while i < n {
+        row[from + i] = word_of(&text[16 * i..]);
+        i += 1;
+    }
+}
+
+// The first `n` bytes that a text's digits write, stored from byte `from` of the row on: word by word where there are only
+// whole words.
+fn store_part(text: &[u8], n: usize, row: &mut [u64], from: usize)
+    requires { ⌜ (2 * n ≤ length (now text)) × (allBytes (bytesIn n (now text)) ≡ true) × (from + n ≤ 8 * length (now row)) × (length (now row) ≤ 4096) ⌝ }
+    ensures { λ _. ⌜ now (row .exit) ≡ stored (now (row .entry)) from (bytesIn n (now (text .entry))) ⌝ }
+{
+    if (from % 8 == 0) & (n % 8 == 0) {
+        store_words(text, n / 8, row, from / 8);
+    } else {
+        store_bytes(text, n, row, from);
+    }
+}
+
 // How many bytes of data the record at the text's front has.
 fn count(text: &[u8]) -> usize
     requires { ⌜ hasRecord (now text) ≡ true ⌝ }
@@ -52,7 +91,7 @@ pub fn store(text: &[u8], row: &mut [u64])
     let mut from = 0;
     let mut n = count(text);
     while n > 0 {
-        store_bytes(&text[at + 9..], n, row, from);
+        store_part(&text[at + 9..], n, row, from);
         at += 2 * n + 12;
         from += n;
         n = count(&text[at..]);

@@ -6,6 +6,12 @@ use Rattle.hex.proofs.Fronts.{front-address}
 use Rattle.hex.proofs.reading.address_of.Statement.{statement}
 use Rattle.hex.proofs.reading.address_of.Tie as tie
 
+byte-of-requires : tie.Need-byte-of-requires
+byte-of-requires c κs = c .before .before .before .pre .0
+
+byte-of-requires-2 : tie.Need-byte-of-requires-2
+byte-of-requires-2 c κs = c .before .before .before .before .before .before .pre .0
+
 returns : tie.Need-returns
 returns c =
     let a = c .before .before .before .before .before .before .before .args in
@@ -13,4 +19,4 @@ returns c =
 
 pub address-of-spec : {M : Type 1} → statement M
 address-of-spec =
-    tie.close (tie.spec (search needs) (search needs) (search needs) (search needs) (search needs) (search needs) (search needs) (search needs) returns)
+    tie.close (tie.spec (search needs) (search needs) byte-of-requires (search needs) (search needs) (search needs) byte-of-requires-2 (search needs) returns)

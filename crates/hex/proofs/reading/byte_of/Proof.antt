@@ -5,6 +5,12 @@ use Rattle.hex.proofs.Digits.{digits-write, none-written, byte-most}
 use Rattle.hex.proofs.reading.byte_of.Statement.{statement}
 use Rattle.hex.proofs.reading.byte_of.Tie as tie
 
+digit-requires : tie.Need-digit-requires
+digit-requires c κs = c .pre
+
+digit-requires-2 : tie.Need-digit-requires-2
+digit-requires-2 c κs = c .before .pre
+
 returns : tie.Need-returns
 returns c =
     let a = c .before .before .before .args in
@@ -17,4 +23,4 @@ returns-2 c =
     (none-written (a .high) (a .low) (c .before .before .digit .ensures) (c .before .digit2 .ensures) (c .if1 .left), omega arith)
 
 pub byte-of-spec : {M : Type 1} → statement M
-byte-of-spec = tie.close (tie.spec (search needs) (search needs) (search needs) (search needs) (search needs) (search needs) returns returns-2)
+byte-of-spec = tie.close (tie.spec digit-requires (search needs) digit-requires-2 (search needs) (search needs) (search needs) returns returns-2)

@@ -11,8 +11,17 @@ returns c =
     let a = c .before .before .args in
     front-short (a .address) (a .text .now) (c .if1 .taken)
 
+byte-of-requires : tie.Need-byte-of-requires
+byte-of-requires c κs = c .before .before .before .before .pre
+
+byte-of-requires-2 : tie.Need-byte-of-requires-2
+byte-of-requires-2 c κs = c .before .before .before .before .before .before .before .before .before .pre
+
+address-of-requires : tie.Need-address-of-requires
+address-of-requires c κs = (c .before .before .before .before .before .before .before .before .before .before .pre, search needs)
+
 has-record-requires : tie.Need-has-record-requires
-has-record-requires c κs = (search needs, c .byte-of .ensures .0, c .byte-of .ensures .1)
+has-record-requires c κs = (c .before .before .before .before .before .pre, search needs, c .byte-of .ensures .0, c .byte-of .ensures .1)
 
 returns-2 : tie.Need-returns-2
 returns-2 c =
@@ -44,4 +53,4 @@ returns-5 c = front-other _ _ (parts (c .before .before)) (c .before .if3 .left)
 pub front-spec : {M : Type 1} → statement M
 front-spec =
     tie.close
-    (tie.spec returns (search needs) (search needs) (search needs) has-record-requires returns-2 (search needs) (search needs) (search needs) (search needs) returns-3 returns-4 returns-5)
+    (tie.spec returns (search needs) (search needs) byte-of-requires has-record-requires returns-2 (search needs) (search needs) byte-of-requires-2 address-of-requires returns-3 returns-4 returns-5)

@@ -16,7 +16,7 @@ use Rattle.hex.proofs.reading.has_record.Tie as tie
 returns : tie.Need-returns
 returns c =
     let s = c .before .before in
-    no-room (s .args .text .now) (s .pre .1) (c .if1 .taken)
+    no-room (s .args .text .now) (s .pre .2) (c .if1 .taken)
 
 shared-slice-read-if2-2 : tie.Need-shared-slice-read-if2-2
 shared-slice-read-if2-2 c =
@@ -26,23 +26,23 @@ shared-slice-read-if2-2 c =
 returns-2 : tie.Need-returns-2
 returns-2 c =
     let s = c .before .before .before .before .before in
-    no-frame (s .args .text .now) (s .pre .1) (c .if2 .taken)
+    no-frame (s .args .text .now) (s .pre .2) (c .if2 .taken)
 
 sum-requires : tie.Need-sum-requires
 sum-requires c κs =
     let s = c .before .before .before .before .before .before in
     let t = s .args .text .now in
     let room = some-room t {count = s .args .count} (c .before .before .before .before .if1 .left) in
-    (omega (arith, ap length (tail 1 t), length-drop 1 t, room), omega (arith, room))
+    (s .pre .0, omega (arith, ap length (tail 1 t), length-drop 1 t, room), omega (arith, room))
 
 returns-3 : tie.Need-returns-3
 returns-3 c =
     let s = c .before .before .before .before .before .before .before .before .before in
     let t = s .args .text .now in
     let sum = c .before .before .sum in
-    let all = ap (bytesIn (s .args .count + 5)) (tail 1 t) ∙ ap (λ (n : ℕ). bytesIn (n + 5) (drop 1 t)) (s .pre .1) in
+    let all = ap (bytesIn (s .args .count + 5)) (tail 1 t) ∙ ap (λ (n : ℕ). bytesIn (n + 5) (drop 1 t)) (s .pre .2) in
     (λ i. sum .ensures .1 i && eqb (sum .ensures .0 i % 256) 0) ∙ ap (λ (l : List ℕ). allBytes l && eqb (sumOf l % 256) 0) all
-    ∙ frame t (s .pre .1) (c .before .before .before .before .if2 .left)
+    ∙ frame t (s .pre .2) (c .before .before .before .before .if2 .left)
 
 pub has-record-spec : {M : Type 1} → statement M
 has-record-spec =

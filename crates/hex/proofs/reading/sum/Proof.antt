@@ -7,16 +7,19 @@ use Rattle.hex.proofs.reading.sum.Statement.{statement}
 use Rattle.hex.proofs.reading.sum.Tie as tie
 
 abbrev Inv-loop : tie.InvT-loop
-Inv-loop text n bytes₀ good₀ k₀ bytes good k = Summing n text k bytes good
+Inv-loop digits text n bytes₀ good₀ k₀ bytes good k = Summing n text k bytes good
 
 abbrev μ-loop : tie.MeasureT-loop
-μ-loop text n bytes₀ good₀ k₀ bytes good k = n - k
+μ-loop digits text n bytes₀ good₀ k₀ bytes good k = n - k
 
 loop-holds : tie.Need-loop-holds Inv-loop μ-loop
 loop-holds c = summing-begins _ _
 
 shared-slice-read-byte-of : tie.Need-shared-slice-read-byte-of Inv-loop μ-loop
 shared-slice-read-byte-of c = omega (arith, c .before .before .before .before .pre, c .before .before .loop .inv .within)
+
+byte-of-requires : tie.Need-byte-of-requires Inv-loop μ-loop
+byte-of-requires c κs = c .before .before .before .before .before .pre .0
 
 add-bytes : tie.Need-add-bytes Inv-loop μ-loop
 add-bytes c =
@@ -35,4 +38,4 @@ returns c = summing-ends (c .before .loop .inv) (omega arith)
 pub sum-spec : {M : Type 1} → statement M
 sum-spec =
     tie.close
-    (tie.spec Inv-loop μ-loop loop-holds (search needs) shared-slice-read-byte-of (search needs) (search needs) (search needs) (search needs) add-bytes (search needs) (search needs) loop-again returns)
+    (tie.spec Inv-loop μ-loop loop-holds (search needs) shared-slice-read-byte-of (search needs) (search needs) (search needs) byte-of-requires add-bytes (search needs) (search needs) loop-again returns)

@@ -34,20 +34,20 @@ ends c = storing-within (c .before .loop .inv)
 fits : (c : tie.In-loop Inv-loop μ-loop) → c .before .loop .from + c .before .loop .n ≤ 8 * length (c .before .loop .row)
 fits c = storing-fits (c .before .loop .inv) (c .loop-test .taken) .1
 
-add-store-bytes : tie.Need-add-store-bytes Inv-loop μ-loop
-add-store-bytes c = record { fits = omega (arith, ends c) }
+add-store-part : tie.Need-add-store-part Inv-loop μ-loop
+add-store-part c = record { fits = omega (arith, ends c) }
 
-sub-store-bytes : tie.Need-sub-store-bytes Inv-loop μ-loop
-sub-store-bytes c = omega (arith, ends c)
+sub-store-part : tie.Need-sub-store-part Inv-loop μ-loop
+sub-store-part c = omega (arith, ends c)
 
-part-store-bytes-start : tie.Need-part-store-bytes-start Inv-loop μ-loop
-part-store-bytes-start c = omega (arith, ends c)
+part-store-part-start : tie.Need-part-store-part-start Inv-loop μ-loop
+part-store-part-start c = omega (arith, ends c)
 
-part-store-bytes-end : tie.Need-part-store-bytes-end Inv-loop μ-loop
-part-store-bytes-end c = search needs
+part-store-part-end : tie.Need-part-store-part-end Inv-loop μ-loop
+part-store-part-end c = search needs
 
-store-bytes-requires : tie.Need-store-bytes-requires Inv-loop μ-loop
-store-bytes-requires c κs =
+store-part-requires : tie.Need-store-part-requires Inv-loop μ-loop
+store-part-requires c κs =
     let i = c .before .before in
     let l = i .before .loop in
     let t = i .before .before .before .before .before .args .text .now in (
@@ -90,7 +90,7 @@ loop-again : tie.Need-loop-again Inv-loop μ-loop
 loop-again c =
     let l = c .before .before .before .before .before .before .before .before .loop in
     let t = c .before .before .before .before .before .before .before .before .before .before .before .before .args .text .now in
-    storing-more (l .inv) (c .before .before .before .before .before .before .before .loop-test .taken) (c .before .before .before .before .store-bytes .ensures ∙ ap (λ (u : List ℕ). stored (l .row) (l .from) (bytesIn (l .n) u)) (tail (l .at + 9) t))
+    storing-more (l .inv) (c .before .before .before .before .before .before .before .loop-test .taken) (c .before .before .before .before .store-part .ensures ∙ ap (λ (u : List ℕ). stored (l .row) (l .from) (bytesIn (l .n) u)) (tail (l .at + 9) t))
     (c .count2 .ensures ∙ ap countOf (tail (l .at + (2 * l .n + 12)) t))
 
 same-length : tie.Need-same-length Inv-loop μ-loop
@@ -110,4 +110,4 @@ returns c =
 pub store-spec : {M : Type 1} → statement M
 store-spec =
     tie.close
-    (tie.spec Inv-loop μ-loop count-requires loop-holds add-store-bytes sub-store-bytes part-store-bytes-start part-store-bytes-end store-bytes-requires mul-at add-at add-at-2 add-from sub-count part-count-start part-count-end count-requires-2 loop-less loop-again same-length returns)
+    (tie.spec Inv-loop μ-loop count-requires loop-holds add-store-part sub-store-part part-store-part-start part-store-part-end store-part-requires mul-at add-at add-at-2 add-from sub-count part-count-start part-count-end count-requires-2 loop-less loop-again same-length returns)
