@@ -1,9 +1,11 @@
-# Proving and building, for bin/build and bin/run-program. Sourced, with bin/lib/signals.sh before it; needs `top` (the
-# tree) and `name` (who speaks). A program counts as built where target/built/PROGRAM has the hash of these very sources,
-# of the toolchain and of target/bin/PROGRAM; that stamp is written only after `rt check` has succeeded.
+# Proving and building, for bin/build, bin/run-program and bin/library. Sourced, with bin/lib/signals.sh before it; needs
+# `top` (the tree) and `name` (who speaks). A program counts as built where target/built/PROGRAM has the hash of these very
+# sources, of the toolchain and of target/bin/PROGRAM; that stamp is written only after `rt check` has succeeded.
 . "$top/bin/lib/progress.sh"
 now=''  # the hash of the sources and the toolchain
 kit=''  # the toolchain's line about itself
+unbuilt="the programs are not built here" # what is said where nothing can be written
+none_left="no program is run"             # what is said where the proof fails
 
 # What the programs are made of: every source, the list of crates, and the toolchain.
 sources() {
@@ -40,8 +42,8 @@ as_called() { # CRATE..
 # Waits until no other build works in this tree, and keeps others out until descriptor 9 is closed.
 lock() {
   if ! mkdir -p "$top/target/built" 2>/dev/null || ! { : >>"$top/target/built/.lock"; } 2>/dev/null; then
-    say "the programs are not built here, and nothing can be written to $top/target"
-    refuse "build them where you can write: cp -r $top to a folder of your own, and call bin/$name there"
+    say "$unbuilt, and nothing can be written to $top/target"
+    refuse "build where you can write: cp -r $top to a folder of your own, and call bin/$name there"
   fi
   exec 9>>"$top/target/built/.lock"
   local status=0
@@ -64,10 +66,12 @@ distrust() { # CRATE..
   done
 }
 
-# Removes what a crate that is not proved may have left: a library or a program that rt was about to write.
+# Removes what a crate that is not proved may have left: a library or a program that rt was about to write. An archive for
+# C is not yet where bin/library puts it, so it may be half-written whatever is proved.
 half_written() {
   local c
   for c in "${crates[@]}"; do
+    rm -f "$top/target/staticlib/lib$c.a"
     if [ -f "$top/target/stamp/$c" ]; then continue; fi
     rm -rf "$top/target/rlib/$c.rlib" "$top/target/rlib/$c.rlib.tmp-"* "$top/target/obj/$c.o"* "$top/target/bin/$c"
   done
@@ -82,7 +86,7 @@ width() {
 }
 
 # rt, in a process group of its own and with a folder for its temporary files that goes away.
-rt_alone() { cd "$top" && TMPDIR=$lent exec setsid rt check "$@"; } # CRATE..
+rt_alone() { cd "$top" && TMPDIR=$lent exec setsid rt "$@"; } # check | staticlib CRATE..
 
 # Has rt prove and build, and tells of it.
 prove() { # CRATE..
@@ -97,7 +101,7 @@ prove() { # CRATE..
   mkfifo "$room/pipe"
   watch_signals
   stage=proving
-  rt_alone "$@" >"$room/pipe" 2>&1 </dev/null &
+  rt_alone check "$@" >"$room/pipe" 2>&1 </dev/null &
   child=$!
   exec 4<"$room/pipe"
   follow
@@ -111,16 +115,28 @@ prove() { # CRATE..
 # Says why a build failed, and ends: 2 where the toolchain failed, else 1.
 failed() { # STATUS
   NAME=$name TOP=$top WIDTH=$(width) STATUS=$1 LC_ALL=C awk -f "$top/bin/lib/failure.awk" "$room/log" >&2 || :
-  say "no program is run"
+  say "$none_left"
   if [ "$1" -eq 1 ] || [ "$1" -eq 3 ]; then exit 1; fi
   exit 2
 }
 
-# Proves and builds a program where its sources have changed since that was last done, and with it those that belong to it.
-build() { # CRATE..
-  local before p status=0 wanted
+# Finds the toolchain.
+find_kit() {
   command -v rt >/dev/null || refuse "the Rattle toolchain's command rt is not on the PATH"
   kit=$(rt version 2>&1) || refuse "the toolchain does not work: ${kit:-rt version says nothing}"
+}
+
+# Ends where the sources were changed while they were proved.
+unchanged_since() {
+  local before=$now
+  now=$(sources | sha256sum) || refuse "the sources in $top cannot be read"
+  if [ "$now" != "$before" ]; then say "the sources were changed while they were proved: run it again"; exit 1; fi
+}
+
+# Proves and builds a program where its sources have changed since that was last done, and with it those that belong to it.
+build() { # CRATE..
+  local p status=0 wanted
+  find_kit
   if built "$@"; then return 0; fi
   make_room
   lock
@@ -130,9 +146,7 @@ build() { # CRATE..
   : >"$room/log"
   prove "${wanted[@]}" || status=$?
   if [ "$status" -ne 0 ]; then failed "$status"; fi
-  before=$now
-  now=$(sources | sha256sum) || refuse "the sources in $top cannot be read"
-  if [ "$now" != "$before" ]; then say "the sources were changed while they were proved: run it again"; exit 1; fi
+  unchanged_since
   for p in "${wanted[@]}"; do stamp_of "$p" >"$top/target/built/$p"; done
   exec 9>&-
 }
