@@ -37,7 +37,7 @@ pagePrinted input = printedOf (lastBoard Page input)
 
 -- However an input is cut into pieces, what is printed of the board that they leave is what is printed for the whole input.
 abbrev pub AnyPiecesPrinted : Type 0
-AnyPiecesPrinted = (pieces : List (List ℕ)) → printedOf (fedAll Page first pieces .after .board) ≡ pagePrinted (flatten pieces)
+AnyPiecesPrinted = (pieces : List (List ℕ)) → printedOf (fedAll Page first pieces .after .desk .board) ≡ pagePrinted (flatten pieces)
 
 -- A script leaves the board that it leaves in the drill.
 abbrev pub BoardOfDrill : Type 0

@@ -26,12 +26,12 @@ pub struct LastPage {
 }
 
 // The page of the board, put at the front of a text row as long as the largest page.
-fn print(session: Session, memory: &[u64], cache: &[u64], text: &mut [u8; 69564]) -> Paged
+fn print(session: Session, memory: &[u64], cache: &[u64], row: &mut [u8; 69564]) -> Paged
     requires { ⌜ Fits session (now memory) (now cache) ⌝ }
-    ensures prints { λ r. ⌜ printing (r .number) (take (r .bytes) (now (text .exit))) ≡ printedOf (boardOf session (now (memory .entry)) (now (cache .entry))) ⌝ }
+    ensures prints { λ r. ⌜ printing (r .number) (take (r .bytes) (now (row .exit))) ≡ printedOf (boardOf session (now (memory .entry)) (now (cache .entry))) ⌝ }
     ensures within { λ r. ⌜ r .bytes ≤ 69564 ⌝ }
 {
-    let number = session::put_page(session, memory, cache, text);
+    let number = session::put_page(session, memory, cache, row);
     if number != 0 {
         return Paged { number, bytes: 0 };
     }
@@ -48,20 +48,21 @@ pub fn last_page(
     progress: Ongoing,
     memory: &mut [u64; 4104],
     cache: &mut [u64; 4104],
+    text: &mut [u8; 90200],
     line: &mut [u8],
     out: &mut [u8; 65536],
-    text: &mut [u8; 69564],
+    row: &mut [u8; 69564],
 ) -> LastPage
     requires { ⌜ Ready progress × (length (now line) ≡ 80) ⌝ }
-    ensures prints { λ r. ⌜ printing (r .number) (take (r .bytes) (now (text .exit))) ≡ printedOf (finished Program.Page (carriedBy progress (now (memory .entry)) (now (cache .entry)) (now (line .entry))) .after .board) ⌝ }
+    ensures prints { λ r. ⌜ printing (r .number) (take (r .bytes) (now (row .exit))) ≡ printedOf (finished Program.Page (carriedBy progress (now (memory .entry)) (now (cache .entry)) (now (text .entry)) (now (line .entry))) .after .desk .board) ⌝ }
     ensures within { λ r. ⌜ r .bytes ≤ 69564 ⌝ }
-    ensures notes { λ r. ⌜ r .misread ≡ finished Program.Page (carriedBy progress (now (memory .entry)) (now (cache .entry)) (now (line .entry))) .after .misread ⌝ }
+    ensures notes { λ r. ⌜ r .misread ≡ finished Program.Page (carriedBy progress (now (memory .entry)) (now (cache .entry)) (now (text .entry)) (now (line .entry))) .after .misread ⌝ }
 {
-    let last = answer_last(Program::Page, progress, memory, cache, line, out);
+    let last = answer_last(Program::Page, progress, memory, cache, text, line, out);
     let left = last.progress;
     let session = left.session;
     let misread = left.misread;
-    let page = print(session, memory, cache, text);
+    let page = print(session, memory, cache, row);
     LastPage {
         number: page.number,
         bytes: page.bytes,
