@@ -8,19 +8,20 @@ use lib.ListN.{length, take}
 use native.Mathlib.Omega.{arith}
 use borrow.Author.Tests.{ne-eqb}
 use Rattle.predicate.proofs.Bools.{passedOver}
+use Rattle.board.specs.Board.{Board}
 use Rattle.text.specs.Ascii.{feed}
 use Rattle.script.specs.Grammar.{joined, meaning}
 use Rattle.script.specs.Answers.{headerText}
 use Rattle.script.specs.declared.Program.{Program}
-use Rattle.script.specs.declared.Program.the-variants.{Drill, Page}
+use Rattle.script.specs.declared.Program.the-variants.{Drill, Page, Hex}
 use Rattle.script.specs.declared.Line.{Line}
-use Rattle.script.proofs.NumberLaws.{meaning-page}
+use Rattle.script.proofs.NumberLaws.{meaning-page, meaning-hex}
 use Rattle.session.specs.Session.{Desk, firstDesk}
 use Rattle.session.specs.Lines.{carriedOut}
 use Rattle.console.specs.declared.answers.Misread.{Misread}
-use Rattle.console.specs.Transcript.{linesOf, following, lineText, answers, deskAfter, noneMisread, lineTallied, misreadAfter}
+use Rattle.console.specs.Transcript.{linesOf, following, lineText, answers, deskAfter, lastBoard, noneMisread, lineTallied, misreadAfter}
 use Rattle.console.specs.Pieces.{Carried, carried, first, Fed, leaving, kept, ended, andThen, fed, finished, fedAll, AnyPieces, AnyPiecesBoard, AnyPiecesMisread}
-use Rattle.console.specs.Printing.{printedOf, AnyPiecesPrinted, BoardOfDrill}
+use Rattle.console.specs.Printing.{printedOf, hexPrintedOf, AnyPiecesPrinted, AnyPiecesHexPrinted, BoardOfDrill}
 use Rattle.console.proofs.LineEnds.{ended-kept}
 use Rattle.console.proofs.Pieces.{take-again, fed-append}
 
@@ -184,19 +185,27 @@ pub any-pieces-misread : AnyPiecesMisread
 any-pieces-misread program pieces =
     ap (λ (f : Fed). f .after .misread) (all-lines program pieces) ∙ lines-misread program 0 firstDesk noneMisread (linesOf (flatten pieces))
 
--- ---- the page program
+-- ---- the page program and the HEX program
 
 -- What is printed is the page of the board that the whole input leaves.
 pub any-pieces-printed : AnyPiecesPrinted
 any-pieces-printed pieces = ap printedOf (any-pieces-board Page pieces)
 
--- Lines leave what they leave in the drill.
-after-drill : (d : Desk) (ls : List (List ℕ)) → deskAfter Page d ls ≡ deskAfter Drill d ls
-unfolding deskAfter
-after-drill d [] = refl
-after-drill d (line ∷ more) =
-    ap (λ (k : Line). deskAfter Page (carriedOut k d .desk) more) (meaning-page line) ∙ after-drill (carriedOut (meaning Drill line) d .desk) more
+-- What is printed is the HEX text of the memory that the whole input leaves.
+pub any-pieces-hex-printed : AnyPiecesHexPrinted
+any-pieces-hex-printed pieces = ap (λ (b : Board). hexPrintedOf (b .memory)) (any-pieces-board Hex pieces)
 
--- So does a whole input.
+module _ (program : Program) (same : (s : List ℕ) → meaning program s ≡ meaning Drill s) where
+  -- Lines that mean what they mean in the drill leave what they leave there.
+  after-drill : (d : Desk) (ls : List (List ℕ)) → deskAfter program d ls ≡ deskAfter Drill d ls
+  unfolding deskAfter
+  after-drill d [] = refl
+  after-drill d (line ∷ more) =
+      ap (λ (k : Line). deskAfter program (carriedOut k d .desk) more) (same line) ∙ after-drill (carriedOut (meaning Drill line) d .desk) more
+
+  -- So does a whole input.
+  last-drill : (input : List ℕ) → lastBoard program input ≡ lastBoard Drill input
+  last-drill input = ap (λ (d : Desk). d .board) (after-drill firstDesk (linesOf input))
+
 pub board-of-drill : BoardOfDrill
-board-of-drill input = ap (λ (d : Desk). d .board) (after-drill firstDesk (linesOf input))
+board-of-drill input = (last-drill Page meaning-page input, last-drill Hex meaning-hex input)

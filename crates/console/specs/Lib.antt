@@ -1,4 +1,4 @@
--- `Transcript` says what is written for a whole input and which board it leaves, `Pieces` that it may come in any pieces, `Printing` what the page program prints.
+-- `Transcript` says what is written for a whole input and which board it leaves, `Pieces` that it may come in any pieces, `Printing` what the page and HEX programs print.
 pub mod Transcript
 pub mod Pieces
 pub mod Printing
