@@ -6,3 +6,5 @@ pub mod Pages
 pub mod HexPrinted
 pub mod Theorems
 pub mod Sample
+pub mod Recovered
+pub mod Displays

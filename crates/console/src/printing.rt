@@ -26,7 +26,7 @@ pub struct LastPrintout {
 }
 
 // The page of the board, put at the front of a text row as long as the largest page.
-fn print(session: Session, memory: &[u64], cache: &[u64], row: &mut [u8; 69564]) -> Printout
+pub fn print(session: Session, memory: &[u64], cache: &[u64], row: &mut [u8; 69564]) -> Printout
     requires { ⌜ Fits session (now memory) (now cache) ⌝ }
     ensures prints { λ r. ⌜ printing (r .number) (take (r .bytes) (now (row .exit))) ≡ printedOf (boardOf session (now (memory .entry)) (now (cache .entry))) ⌝ }
     ensures within { λ r. ⌜ r .bytes ≤ 69564 ⌝ }
