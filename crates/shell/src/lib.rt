@@ -5,6 +5,7 @@
 // the transcript of the whole input, or what is printed of the board that it leaves, however it was cut into pieces, is
 // proved (`AnyPieces`, `AnyPiecesPrinted`, `AnyPiecesHexPrinted`); that what is carried of lines that were no calls is
 // the whole input's, `AnyPiecesMisread`.
+mod display;
 mod messages;
 
 ghost use mathlib.Core.Path.{_≡_};
@@ -16,6 +17,7 @@ use console::answers;
 use console::answers::Ongoing;
 use console::printing;
 use console::printing::LastPrintout;
+pub use display::show_input;
 use libc::STDIN_FILENO;
 use libc::STDOUT_FILENO;
 use script::Program;

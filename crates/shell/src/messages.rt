@@ -51,7 +51,10 @@ pub fn refused(program: Program, number: u8) {
         2 => say(b"refused by cause 2: phase doesn't allow the call\n"),
         3 => say(b"refused by cause 3: state record\n"),
         4 => say(b"refused by cause 4: rows\n"),
+        5 => say(b"refused by cause 5: header\n"),
         12 => say(b"refused by cause 12: text row too short\n"),
+        14 => say(b"refused by cause 14: a mark greater than the epoch\n"),
+        19 => say(b"refused by cause 19: text that isn't such a file\n"),
         20 => say(b"refused by cause 20: length\n"),
         _ => say(b"refused\n"),
     }
