@@ -116,12 +116,14 @@ impl Rows<'_> {
     }
 }
 
-/// A board that owns its rows, and the mistake it was built with, if any.
+/// A board that owns its rows, the HEX text that the fault program's host has of it, and the mistake it was built with, if
+/// any.
 #[derive(Clone, PartialEq, Eq, Debug)]
 pub struct Board {
     pub state: State,
     pub memory: Vec<u64>,
     pub cache: Vec<u64>,
+    pub text: Vec<u8>,
     pub mistake: Option<Mistake>,
 }
 
@@ -129,7 +131,7 @@ impl Board {
     /// "before one they are empty and the phase is off"
     pub fn empty(mistake: Option<Mistake>) -> Board {
         let state = State::started(Phase::Off, 0, 0);
-        Board { state, memory: Vec::new(), cache: Vec::new(), mistake }
+        Board { state, memory: Vec::new(), cache: Vec::new(), text: Vec::new(), mistake }
     }
 
     /// Rows that fit a board of so many lines.
@@ -148,6 +150,7 @@ impl Board {
         self.state = other.state;
         self.memory.clone_from(&other.memory);
         self.cache.clone_from(&other.cache);
+        self.text.clone_from(&other.text);
         self.mistake = other.mistake;
     }
 }

@@ -4,7 +4,7 @@
 use crate::board::{Condition, Lent, Phase, State};
 use crate::call::Call;
 use crate::effects::writes;
-use crate::line::{cells, sizes_allowed, LINE_WORDS};
+use crate::line::{cells, row_length_allowed, sizes_allowed, LINE_WORDS};
 use crate::locks::{holds, holds_any, lock_of, LOCKS, NOBODY};
 use crate::mistake::Mistake;
 use crate::page::{page_bytes, page_lines};
@@ -47,11 +47,10 @@ fn format_cause(lines: u64, workers: u64, rows: &Lent) -> u8 {
 
 /// Recovery's start: causes 4, 5 and 14.
 fn recovery_cause(rows: &Lent, mistake: Option<Mistake>) -> u8 {
-    let words = rows.memory.len();
-    if !words.is_multiple_of(LINE_WORDS) || !(16..=4096).contains(&words) {
+    if !row_length_allowed(rows.memory.len()) {
         return 4;
     }
-    if rows.cache.len() != words {
+    if rows.cache.len() != rows.memory.len() {
         return 4;
     }
     if mistake == Some(Mistake::Cause14First) && marked_past_epoch(rows, mistake) {

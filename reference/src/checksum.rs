@@ -18,7 +18,7 @@ pub fn of_board(board: &Board) -> u64 {
     of_numbers(fields.chain(workers).chain(bits).chain(holders).chain(rows))
 }
 
-/// "For `p` they are the bytes of the text row."
+/// "For `p` and `h` they are the bytes of the text."
 pub fn of_bytes(text: &[u8]) -> u64 {
     of_numbers(text.iter().map(|byte| u64::from(*byte)))
 }

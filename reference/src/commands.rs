@@ -1,13 +1,13 @@
 //! The commands: each reads its words, does its work and says how it ended.
 
 use std::fmt::Write;
-use std::io;
+use std::io::{self, Read};
 
 use reference::explore::check::Check;
 use reference::explore::{exhaustive, explore, Caught, Options};
 use reference::misread::Misread;
 use reference::mistake::Mistake;
-use reference::{bench, drill, fault, fault_script, page, page_script, reached, script};
+use reference::{bench, drill, fault, fault_script, hex, hex_program, page, page_script, reached, script, texts};
 
 use crate::help;
 use crate::streams::{input, output, print, tell};
@@ -20,7 +20,7 @@ pub enum Stop {
     Failed(io::Error),
     /// An exploration caught a violation, which is printed.
     Violated,
-    /// The page was refused, or its script has lines that are no calls; what to say of it.
+    /// A page or a HEX text was refused, or its script has lines that are no calls; what to say of it.
     Refused(String),
 }
 
@@ -43,10 +43,16 @@ pub fn run(words: &[&str]) -> Ended {
         ["fault"] => answered("fault", fault::run(input()?, output()?)?),
         ["fault", "--reached", numbers @ ..] => print_reached(numbers),
         ["page"] => print_page(),
+        ["hex"] => print_hex(),
+        ["hex", "--show"] => show_hex(),
+        ["texts", "--answers", numbers @ ..] => print_seeded(|seed, count| texts::answers(seed, count).into(), numbers),
+        ["texts", "--kinds", numbers @ ..] => print_seeded(|seed, count| texts::counted(seed, count).into(), numbers),
+        ["texts", numbers @ ..] => print_seeded(texts::framed, numbers),
         ["script", "--fault", numbers @ ..] => print_seeded(fault_script::script, numbers),
         ["script", "--bits", numbers @ ..] => print_seeded(fault_script::bits_script, numbers),
         ["script", "--locks", numbers @ ..] => print_seeded(fault_script::locks_script, numbers),
         ["script", "--foreign", numbers @ ..] => print_seeded(fault_script::foreign_script, numbers),
+        ["script", "--hex", numbers @ ..] => print_seeded(fault_script::hex_script, numbers),
         ["script", "--page", numbers @ ..] => print_seeded(page_script::script, numbers),
         ["script", numbers @ ..] => print_script(numbers),
         ["explore", rest @ ..] => run_exploration(rest),
@@ -77,15 +83,36 @@ fn answered(name: &str, misread: Misread) -> Ended {
     Ok(())
 }
 
-/// reference page: the page of the board that a script leads to; it ends well if there is nothing to say.
+/// reference page: the page of the board that a script leads to.
 fn print_page() -> Ended {
     let (page, misread) = page::after_script(input()?)?;
+    let page = page.map_err(|number| (number, page::words(number)));
+    print_text("page", page, misread.note("page"))
+}
+
+/// reference hex: the memory that a script leads to.
+fn print_hex() -> Ended {
+    let (text, misread) = hex_program::after_script(input()?)?;
+    let text = text.map_err(|number| (number, hex::words(number)));
+    print_text("hex", text, misread.note("hex"))
+}
+
+/// reference hex --show: the memory that a text has, recovered.
+fn show_hex() -> Ended {
+    let mut text = Vec::new();
+    input()?.read_to_end(&mut text)?;
+    let shown = hex_program::show(&text).map_err(|number| (number, hex::words(number)));
+    print_text("hex", shown, None)
+}
+
+/// A text, or its cause and the words for it; then a note. It ends well if there is nothing to say.
+fn print_text(name: &str, text: Result<Vec<u8>, (u8, &str)>, note: Option<String>) -> Ended {
     let mut said = Vec::new();
-    match page {
+    match text {
         Ok(text) => print(&text)?,
-        Err(number) => said.push(format!("page: refused by cause {number}: {}", page::words(number))),
+        Err((number, words)) => said.push(format!("{name}: refused by cause {number}: {words}")),
     }
-    said.extend(misread.note("page"));
+    said.extend(note);
     if said.is_empty() {
         Ok(())
     } else {
@@ -93,10 +120,11 @@ fn print_page() -> Ended {
     }
 }
 
-/// reference script --fault SEED LINES, and the same with --bits, --foreign, --locks and --page
-fn print_seeded(script: fn(u64, u64) -> Vec<u8>, words: &[&str]) -> Ended {
-    let &[seed, lines] = numbers(words)?.as_slice() else { return Err(misused()) };
-    Ok(print(&script(seed, lines))?)
+/// reference script --fault SEED LINES, and the same with --bits, --foreign, --hex, --locks and --page; reference texts
+/// SEED COUNT, and the same with --answers and --kinds
+fn print_seeded(made: fn(u64, u64) -> Vec<u8>, words: &[&str]) -> Ended {
+    let &[seed, count] = numbers(words)?.as_slice() else { return Err(misused()) };
+    Ok(print(&made(seed, count))?)
 }
 
 /// reference script SEED LINES [L W]

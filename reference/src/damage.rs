@@ -25,6 +25,8 @@ pub enum Damage {
     Worker { worker: u64, numbers: [u64; 4] },
     /// `O k h`
     Holder { lock: u64, holder: u64 },
+    /// `Y i v`
+    Text { at: u64, byte: u64 },
 }
 
 impl Damage {
@@ -43,6 +45,10 @@ impl Damage {
             Damage::Holder { lock, holder } => {
                 let at = usize::try_from(lock).map_err(|_| Unread::NoSuchPlace)?;
                 *board.state.holders.get_mut(at).ok_or(Unread::NoSuchPlace)? = holder_numbered(holder)?;
+            }
+            Damage::Text { at, byte } => {
+                let byte = u8::try_from(byte).map_err(|_| Unread::TooLarge)?;
+                *place(&mut board.text, at)? = byte;
             }
         }
         Ok(())
@@ -66,6 +72,10 @@ impl Damage {
                 let known = board.state.holders.get(lock as usize).copied();
                 Damage::Holder { lock, holder: known.unwrap_or(NOBODY).into() }
             }
+            Damage::Text { at, .. } => {
+                let known = board.text.get(at as usize).copied();
+                Damage::Text { at, byte: known.unwrap_or(0).into() }
+            }
         }
     }
 }
@@ -86,7 +96,7 @@ fn set_lengths(board: &mut Board, memory: u64, cache: u64) -> Result<(), Unread>
 }
 
 /// "i the row's length or more: `?`"
-fn place(row: &mut [u64], at: u64) -> Result<&mut u64, Unread> {
+fn place<T>(row: &mut [T], at: u64) -> Result<&mut T, Unread> {
     let at = usize::try_from(at).map_err(|_| Unread::PastRow)?;
     row.get_mut(at).ok_or(Unread::PastRow)
 }

@@ -6,8 +6,8 @@ use crate::board::{Board, Phase};
 use crate::call::{Answer, Call};
 use crate::line::sizes_allowed;
 use crate::misread::Misread;
-use crate::program::{self, Program, Reply};
-use crate::text::{Fields, Unread};
+use crate::program::{self, answer, Program, Reply};
+use crate::text::{next_line, Fields, Unread, MOST_BYTES};
 
 /// One line of a script.
 #[derive(Clone, Copy, PartialEq, Eq, Debug)]
@@ -94,6 +94,21 @@ fn format(board: &mut Board, lines: u64, workers: u64) -> Answer {
         (0..lines + 2).for_each(|_| assert_eq!(board.perform(&Call::Step).number, 0));
     }
     answer
+}
+
+/// The board that a script leads to, and its lines that are no calls.
+pub fn after_script(mut input: impl BufRead) -> Done<(Board, Misread)> {
+    let mut board = Board::empty(None);
+    let mut line = Vec::with_capacity(MOST_BYTES + 1);
+    let mut at = 0u64;
+    let mut misread = Misread::default();
+    while next_line(&mut input, &mut line)? {
+        at += 1;
+        if answer::<Drill>(&mut board, &line).is_err() {
+            misread.add::<Drill>(at, &line);
+        }
+    }
+    Ok((board, misread))
 }
 
 /// Run a whole script; its lines that are no calls.

@@ -16,12 +16,16 @@ use crate::text::{Fields, Unread};
 pub enum Command {
     /// A letter of the drill, or a call that the drill has no letter for: `f`, a format's start alone, `a`, `b` and `n`.
     Drill(drill::Command),
-    /// `W M N Q B K O`
+    /// `W M N Q B K O Y`
     Damage(Damage),
     /// `T`
     Checksum,
     /// `p room`
     Page { room: u64 },
+    /// `h room`
+    WriteHex { room: u64 },
+    /// `y n`
+    ReadHex { bytes: u64 },
 }
 
 impl Command {
@@ -38,11 +42,14 @@ impl Command {
 /// "over 70,000: `?`"
 pub const MOST_ROOM: u64 = 70_000;
 
+/// "over 90,200: `?`"
+pub const MOST_HEX_ROOM: u64 = 90_200;
+
 /// "each 0xAA before"
 pub const BYTE_BEFORE: u8 = 0xAA;
 
 /// The letters that the drill has not, and how many numbers each has.
-pub const FORMS: [(u8, usize); 13] = [
+pub const FORMS: [(u8, usize); 16] = [
     (b'f', 2),
     (b'W', 2),
     (b'M', 2),
@@ -56,6 +63,9 @@ pub const FORMS: [(u8, usize); 13] = [
     (b'a', 1),
     (b'b', 1),
     (b'n', 0),
+    (b'h', 1),
+    (b'Y', 2),
+    (b'y', 1),
 ];
 
 /// The fault program as a program.
@@ -78,6 +88,9 @@ impl Program for Fault {
             (b'T', 0) => return Ok(Command::Checksum),
             (b'p', 1) if a > MOST_ROOM => return Err(Unread::NoRoom),
             (b'p', 1) => return Ok(Command::Page { room: a }),
+            (b'h', 1) if a > MOST_HEX_ROOM => return Err(Unread::NoRoom),
+            (b'h', 1) => return Ok(Command::WriteHex { room: a }),
+            (b'y', 1) => return Ok(Command::ReadHex { bytes: a }),
             (b'W', 2) => Damage::Lengths { memory: a, cache: b },
             (b'M', 2) => Damage::Memory { at: a, word: b },
             (b'N', 2) => Damage::Cache { at: a, word: b },
@@ -85,6 +98,7 @@ impl Program for Fault {
             (b'B', 2) => Damage::Field { k: a, number: b },
             (b'K', 5) => Damage::Worker { worker: a, numbers: [b, c, d, e] },
             (b'O', 2) => Damage::Holder { lock: a, holder: b },
+            (b'Y', 2) => Damage::Text { at: a, byte: b },
             (letter, _) if FORMS.iter().any(|(known, _)| *known == letter) => return Err(fields.other_form(&FORMS)),
             _ => return Ok(Command::Drill(Drill::command(fields)?)),
         };
@@ -101,8 +115,29 @@ impl Program for Fault {
                 let number = board.page(&mut text);
                 Ok(Reply { number, value: Some(of_bytes(&text)) })
             }
+            Command::WriteHex { room } => Ok(write_hex(board, *room as usize)),
+            Command::ReadHex { bytes } => read_hex(board, *bytes),
         }
     }
+}
+
+/// "the text becomes `room` bytes, each 0xAA, and memory is written into it as HEX"
+fn write_hex(board: &mut Board, room: usize) -> Reply {
+    let mut text = vec![BYTE_BEFORE; room];
+    let number = board.write_hex(&mut text);
+    board.text = text;
+    Reply { number, value: Some(of_bytes(&board.text)) }
+}
+
+/// "the first n bytes of the text are read into memory; n over the text's length: `?`"
+fn read_hex(board: &mut Board, bytes: u64) -> Result<Reply, Unread> {
+    if bytes > board.text.len() as u64 {
+        return Err(Unread::PastRow);
+    }
+    let text = std::mem::take(&mut board.text);
+    let number = board.read_hex(&text[..bytes as usize]);
+    board.text = text;
+    Ok(Reply { number, value: None })
 }
 
 /// A line that is one call.

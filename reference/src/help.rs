@@ -8,19 +8,25 @@ pub const USAGE: &str = "usage: reference drill
        reference fault
        reference fault --reached SEEDS LINES
        reference page
+       reference hex
+       reference hex --show
        reference script SEED LINES [L W]
        reference script --fault SEED LINES
        reference script --bits SEED LINES
        reference script --foreign SEED LINES
+       reference script --hex SEED LINES
        reference script --locks SEED LINES
        reference script --page SEED LINES
+       reference texts SEED COUNT
+       reference texts --answers SEED COUNT
+       reference texts --kinds SEED COUNT
        reference explore SEED COUNT [--mistake NAME] [--only CHECK]
        reference explore --exhaustive [--mistake NAME] [--only CHECK]
        reference bench WORKLOAD L W N ROUNDS SEED
        reference help";
 
 /// Every command in a few words.
-const COMMANDS: [(&str, &str); 13] = [
+const COMMANDS: [(&str, &str); 19] = [
     ("drill", "01's drill: a script on standard input, its answers on standard output"),
     ("fault", "the same with damage, as fault.md says"),
     (
@@ -29,12 +35,21 @@ const COMMANDS: [(&str, &str); 13] = [
          memory, of line bits and of locks, and each ?",
     ),
     ("page", "the page of the board that a drill script on standard input leads to"),
+    ("hex", "the Intel HEX of the memory that a drill script on standard input leads to"),
+    (
+        "hex --show",
+        "the epoch, L, W and page of the board whose memory is the HEX text on standard input, recovered to its end",
+    ),
     ("script", "a random script for the drill, on boards of any size or of L and W"),
     ("script --fault", "a random script for the fault program"),
     ("script --bits", "one of nothing but line bits: counts, checkpoints of several lines, bits that must not be set"),
     ("script --foreign", "one of nothing but memory from another kiosk: refused by 5 and 14, taken and worked on"),
+    ("script --hex", "one of nothing but HEX texts: written, changed byte by byte, read back and recovered"),
     ("script --locks", "one of nothing but locks: taken and given back, updates with and without them, holders W or more"),
     ("script --page", "a random script for the page, mostly ending on a board that runs"),
+    ("texts", "COUNT cases of a text read into a row (r WORDS BYTES, the bytes) or memory written (w WORDS BYTES SEED)"),
+    ("texts --answers", "the answer's number of each case, and the checksum of the row's words or the text's bytes"),
+    ("texts --kinds", "how many cases of each kind these are, and how many of them are taken"),
     (
         "explore",
         "COUNT calls in random sequences with cuts, from a format or from a recovery's start on foreign memory, every \
@@ -44,14 +59,14 @@ const COMMANDS: [(&str, &str); 13] = [
     (
         "bench",
         "a workload's checksum: update, again, checkpoint, checkpoint-pairs, checkpoint-away, recovery, write-back, locks, \
-         page-equal, page-rising or page-random",
+         page-equal, page-rising, page-random, page-mixed, hex-write or hex-read",
     ),
 ];
 
-/// What drill, fault program and page say of lines that are no calls.
+/// What drill, fault program, page and HEX say of lines that are no calls.
 const NOTE: &str =
-    "drill, fault and page say on standard error, at the end, how many lines are no calls, and why the first
-is none; page then ends with status 1";
+    "drill, fault, page and hex say on standard error, at the end, how many lines are no calls, and why the first
+is none; page and hex then end with status 1";
 
 /// The commands, the checks and the mistakes.
 pub fn help() -> String {

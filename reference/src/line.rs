@@ -19,6 +19,11 @@ pub fn row_words(lines: u64) -> u64 {
     LINE_WORDS as u64 * (lines + 1)
 }
 
+/// "a multiple of 8 in 16 to 4,096 words": the lengths of memory that recovery takes.
+pub fn row_length_allowed(words: usize) -> bool {
+    words.is_multiple_of(LINE_WORDS) && (16..=4096).contains(&words)
+}
+
 /// "L ... is 1 to 511", "W ... is 1 to 8, and W < 2L"
 pub fn sizes_allowed(lines: u64, workers: u64) -> bool {
     (1..=MOST_LINES).contains(&lines) && (1..=MOST_WORKERS as u64).contains(&workers) && workers < cells(lines)

@@ -190,10 +190,26 @@ pub enum Mistake {
     CheckpointResetsUndo,
     /// A page is sized by the L of the cache's header.
     PageByHeader,
+    /// A text's checksums are not tested.
+    HexChecksumUntested,
+    /// A data record's address is not tested.
+    HexAddressUntested,
+    /// A text is written with lower-case digits.
+    HexLowerCase,
+    /// A word's high byte comes first, written and read.
+    HexHighByteFirst,
+    /// A text without its end record is read.
+    HexEndNotNeeded,
+    /// Anything may stand after the end record.
+    HexAfterEnd,
+    /// A refused read stores what it could read.
+    HexRefusedStores,
+    /// 20 by the row's length is tested before 19.
+    Hex20First,
 }
 
 /// Every mistake with its name and a few words.
-pub const MISTAKES: [(&str, Mistake, &str); 93] = [
+pub const MISTAKES: [(&str, Mistake, &str); 101] = [
     ("mark-first", Mistake::MarkFirst, "an update stores the mark before the backup"),
     ("recovery-mark-first", Mistake::RecoveryMarkFirst, "recovery clears a mark before it restores the record"),
     ("recovery-cache-only", Mistake::RecoveryCacheOnly, "recovered lines are not written back"),
@@ -287,6 +303,14 @@ pub const MISTAKES: [(&str, Mistake, &str); 93] = [
     ("format-resets-undo", Mistake::FormatResetsUndo, "a format's step resets recovery's step"),
     ("checkpoint-resets-undo", Mistake::CheckpointResetsUndo, "a checkpoint's step resets recovery's step"),
     ("page-by-header", Mistake::PageByHeader, "a page is sized by the cache's header"),
+    ("hex-checksum-untested", Mistake::HexChecksumUntested, "a text with a wrong checksum is read"),
+    ("hex-address-untested", Mistake::HexAddressUntested, "a data record at another address is read"),
+    ("hex-lower-case", Mistake::HexLowerCase, "a text is written with lower-case digits"),
+    ("hex-high-byte-first", Mistake::HexHighByteFirst, "a word's high byte is written and read first"),
+    ("hex-end-not-needed", Mistake::HexEndNotNeeded, "a text without its end record is read"),
+    ("hex-after-end", Mistake::HexAfterEnd, "a text with something after its end record is read"),
+    ("hex-refused-stores", Mistake::HexRefusedStores, "a refused read stores what it could read"),
+    ("hex-20-first", Mistake::Hex20First, "20 by the row's length is tested before 19"),
 ];
 
 impl Mistake {

@@ -7,12 +7,10 @@ use std::io::{BufRead, Result as Done, Write};
 use crate::board::{Board, Lent, State};
 use crate::call::Call;
 use crate::causes::cause;
-use crate::drill::Drill;
+use crate::drill;
 use crate::line::{backup_at, cells, mark_at, record_at, row_words, MOST_LINES};
 use crate::misread::Misread;
 use crate::mistake::Mistake;
-use crate::program::answer;
-use crate::text::{next_line, MOST_BYTES};
 
 /// "in columns of 4, 20, 20 and 20"
 const COLUMNS: [usize; 4] = [4, 20, 20, 20];
@@ -65,6 +63,18 @@ impl Board {
     /// A page of this board.
     pub fn page(&self, text: &mut [u8]) -> u8 {
         page(&self.state, &self.lent(), text, self.mistake)
+    }
+
+    /// A page of this board by itself, or the number that turns it down.
+    pub fn page_text(&self) -> Result<Vec<u8>, u8> {
+        let mut text = vec![0; page_bytes(MOST_LINES) as usize];
+        let number = self.page(&mut text);
+        text.truncate(page_bytes(self.state.lines.into()) as usize);
+        if number == 0 {
+            Ok(text)
+        } else {
+            Err(number)
+        }
     }
 }
 
@@ -139,21 +149,9 @@ fn put_right(column: &mut [u8], field: impl Display) {
 }
 
 /// The page of the board that a drill script leads to, or the number that turns it down; and the lines that are no calls.
-pub fn after_script(mut input: impl BufRead) -> Done<(Result<Vec<u8>, u8>, Misread)> {
-    let mut board = Board::empty(None);
-    let mut line = Vec::with_capacity(MOST_BYTES + 1);
-    let mut at = 0u64;
-    let mut misread = Misread::default();
-    while next_line(&mut input, &mut line)? {
-        at += 1;
-        if answer::<Drill>(&mut board, &line).is_err() {
-            misread.add::<Drill>(at, &line);
-        }
-    }
-    let mut text = vec![0; page_bytes(MOST_LINES) as usize];
-    let number = board.page(&mut text);
-    text.truncate(page_bytes(board.state.lines.into()) as usize);
-    Ok((if number == 0 { Ok(text) } else { Err(number) }, misread))
+pub fn after_script(input: impl BufRead) -> Done<(Result<Vec<u8>, u8>, Misread)> {
+    let (board, misread) = drill::after_script(input)?;
+    Ok((board.page_text(), misread))
 }
 
 /// A page's causes in words.

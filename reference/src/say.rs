@@ -46,6 +46,7 @@ pub fn damage_line(damage: &Damage) -> Vec<u8> {
         Damage::Field { k, number } => line('B', &[k, number]),
         Damage::Worker { worker, numbers: [c, n, a, v] } => line('K', &[worker, c, n, a, v]),
         Damage::Holder { lock, holder } => line('O', &[lock, holder]),
+        Damage::Text { at, byte } => line('Y', &[at, byte]),
     }
 }
 

@@ -29,6 +29,8 @@ fn random_sequences_hold() {
         locks_are_met(&tally);
         assert!(tally.foretold > 1000 && tally.in_pairs > 300, "{tally}");
         assert!(tally.in_words > 10 && tally.in_eighth > 0, "{tally}");
+        assert!([0, 12, 20].iter().all(|number| tally.written[*number] > 100), "{tally}");
+        assert!([0, 19, 20].iter().all(|number| tally.read[*number] > 100), "{tally}");
     }
 }
 

@@ -9,11 +9,11 @@ use reference::explore::answered;
 use reference::explore::check::Checks;
 use reference::explore::table::parts;
 use reference::fault::{Command, Fault};
-use reference::fault_script::{bits_script, foreign_script, locks_script, script};
+use reference::fault_script::{bits_script, foreign_script, hex_script, locks_script, script};
 use reference::mistake::{Mistake, MISTAKES};
 use reference::program::{answer, Program};
 use reference::reached::{orders, reached, CASES, CAUSES, KEPT, LINES, LOCKS, MEMORIES};
-use reference::say::{call_line, damage_line, drill_line};
+use reference::say::{call_line, damage_line, drill_line, line as say};
 use reference::text::{fields, UNREAD};
 
 /// The lines of a script.
@@ -32,8 +32,12 @@ fn two_hundred_scripts_reach_every_cause_of_every_call_and_every_kind_of_questio
             assert!(!possible || *count >= 20, "{} answers {number} only {count} times", letter as char);
         }
     }
-    for letter in *b"XWMNQBKOT" {
+    for letter in *b"XWMNQBKOTYhy" {
         assert!(reached.answers[letter as usize][0] >= 100, "{}", letter as char);
+    }
+    for (letter, number) in [(b'h', 12), (b'y', 19), (b'y', 20)] {
+        let count = reached.answers[letter as usize][number];
+        assert!(count >= 10, "{} answers {number} only {count} times", letter as char);
     }
     for number in [0, 2, 3, 4, 12] {
         let count = reached.answers[b'p' as usize][number];
@@ -203,7 +207,7 @@ fn a_script_of_foreign_memories_has_no_format_and_takes_and_refuses_them() {
 
 #[test]
 fn a_script_is_a_function_of_seed_and_lines() {
-    for script in [script, bits_script, foreign_script, locks_script] {
+    for script in [script, bits_script, foreign_script, hex_script, locks_script] {
         made_the_same_again(script);
     }
 }
@@ -268,6 +272,8 @@ fn a_command_said_is_the_command_read() {
                 Command::Damage(damage) => damage_line(damage),
                 Command::Checksum => b"T".to_vec(),
                 Command::Page { room } => call_line(&Call::Page { room: *room }),
+                Command::WriteHex { room } => say('h', &[*room]),
+                Command::ReadHex { bytes } => say('y', &[*bytes]),
             };
             assert_eq!(fields(&said).and_then(|fields| Fault::command(&fields)), Ok(command));
         }
@@ -334,7 +340,9 @@ const SELDOM: [Mistake; 5] = [
 #[test]
 fn every_mistake_shows_in_many_scripts() {
     let scripts: Vec<Vec<u8>> = (1..=200).map(|seed| script(seed, 500)).collect();
+    let of_texts = |name: &str| name.starts_with("hex-"); // `script --hex` shows them: tests/fault_hex.rs
     let of_boards = MISTAKES.iter().filter(|(_, mistake, _)| *mistake != Mistake::BeginWithRecords);
+    let of_boards = of_boards.filter(|(name, ..)| !of_texts(name));
     for (name, mistake, _) in of_boards {
         let mistake = *mistake;
         let shows = |text: &&Vec<u8>| answers(text, None) != answers(text, Some(mistake));

@@ -25,12 +25,15 @@ fn help_lists_commands_checks_and_mistakes() {
         assert_eq!(ended(words), (Some(0), help.clone(), String::new()), "{words:?}");
     }
     let names = CHECKS.iter().map(|check| check.0).chain(MISTAKES.iter().map(|mistake| mistake.0));
-    let scripts = ["script --fault", "script --bits", "script --foreign", "script --locks", "script --page"];
-    let commands = ["drill", "fault", "fault --reached", "page", "explore --exhaustive", "bench"];
-    for name in names.chain(scripts).chain(commands) {
+    let scripts = ["script --fault", "script --bits", "script --foreign", "script --hex", "script --locks"];
+    let commands = ["drill", "fault", "fault --reached", "page", "explore --exhaustive", "bench", "script --page"];
+    let texts = ["hex", "hex --show", "texts", "texts --answers", "texts --kinds"];
+    for name in names.chain(scripts).chain(commands).chain(texts) {
         assert!(help.contains(&format!("\n  {name} ")), "{name}");
     }
-    assert!(help.contains("\ndrill, fault and page say on standard error, at the end, how many lines are no calls"));
+    assert!(
+        help.contains("\ndrill, fault, page and hex say on standard error, at the end, how many lines are no calls")
+    );
 }
 
 #[test]
@@ -45,13 +48,18 @@ fn an_unknown_check_or_mistake_lists_the_known_ones() {
 
 #[test]
 fn an_unknown_command_prints_the_usage() {
-    let unknown: [&[&str]; 21] = [
+    let unknown: [&[&str]; 26] = [
         &[],
         &["dril"],
         &["drill", "1"],
         &["fault", "x"],
         &["fault", "--reached", "1"],
         &["page", "1"],
+        &["hex", "1"],
+        &["hex", "--show", "1"],
+        &["texts", "1"],
+        &["texts", "--kinds", "1"],
+        &["script", "--hex", "1"],
         &["script", "--page", "1"],
         &["script", "--page", "1", "2", "3"],
         &["script"],
@@ -85,6 +93,8 @@ fn scripts_and_counts_are_printed() {
     assert_eq!(script, reference::fault_script::bits_script(5, 40));
     let script = run(&["script", "--locks", "5", "40"]).stdout;
     assert_eq!(script, reference::fault_script::locks_script(5, 40));
+    let script = run(&["script", "--hex", "5", "40"]).stdout;
+    assert_eq!(script, reference::fault_script::hex_script(5, 40));
     let script = run(&["script", "--page", "5", "40"]).stdout;
     assert_eq!(script, reference::page_script::script(5, 40));
     let (code, counts, _) = ended(&["fault", "--reached", "3", "40"]);

@@ -110,7 +110,7 @@ fn letters_and_fields() {
     all_say(
         &ALL,
         &[
-            (b"Y", LETTER),
+            (b"Z", LETTER),
             (b"XX", LETTER),
             (b"x\t1", LETTER),
             (b"\t", LETTER),
@@ -155,10 +155,10 @@ fn of_several_reasons_the_first() {
             (b"F 1 1\r", RETURN),
             (b"\r", RETURN),
             (b"\r\xEF\xBB\xBF", RETURN),
-            (b"Y\t1\t2 ", BLANKS),
+            (b"Z\t1\t2 ", BLANKS),
             (b" \tone", BLANKS),
-            (b"Y\tone\t18446744073709551616", LETTER),
-            (b"Y\t", LETTER),
+            (b"Z\tone\t18446744073709551616", LETTER),
+            (b"Z\t", LETTER),
             (b"F\t18446744073709551616\tone", PAST),
             (b"F\t18446744073709551616\t", PAST),
             (b"F\tone\t18446744073709551616", NO_NUMBER),
@@ -181,18 +181,28 @@ fn seventy_nine_bytes_have_another_reason_than_eighty() {
 
 #[test]
 fn letters_of_the_fault_program_alone() {
-    let lines: [&[u8]; 6] =
-        [b"B\t0\t9", b"p\t70001", b"T\t0", b"p\tone", b"K\t0\t0\t0\t0", b"M\t0\t18446744073709551616"];
-    let reasons = [NO_PLACE, NO_PLACE, COUNT, NO_NUMBER, COUNT, PAST];
-    all_say(&["drill", "page"], &lines.map(|line| (line, LETTER)));
-    all_say(&["fault"], &std::array::from_fn::<_, 6, _>(|at| (lines[at], reasons[at])));
+    let lines: [(&[u8], &str); 11] = [
+        (b"B\t0\t9", NO_PLACE),
+        (b"p\t70001", NO_PLACE),
+        (b"T\t0", COUNT),
+        (b"p\tone", NO_NUMBER),
+        (b"K\t0\t0\t0\t0", COUNT),
+        (b"M\t0\t18446744073709551616", PAST),
+        (b"h\t90201", NO_PLACE),
+        (b"Y\t0\t0", NO_PLACE),
+        (b"y\t1", NO_PLACE),
+        (b"Y\t0", COUNT),
+        (b"y\t18446744073709551616", PAST),
+    ];
+    all_say(&["drill", "page"], &lines.map(|(line, _)| (line, LETTER)));
+    all_say(&["fault"], &lines);
 }
 
 #[test]
 fn numbers_that_cannot_be_put_there() {
     let lines =
         "W 4105 0,W 0 4105,M 16 1,N 16 1,Q 8 1,B 0 4,B 3 0,B 7 0,K 8 0 0 0 0,K 0 4 0 0 0,K 0 0 1 0 0,O 16 0,O 0 9,\
-        p 70001,p 18446744073709551615";
+        p 70001,p 18446744073709551615,h 90201,h 18446744073709551615,Y 0 0,Y 0 256,y 1,y 18446744073709551615";
     for line in lines.split(',').map(|line| line.trim().replace(' ', "\t")) {
         all_say(&["fault"], &[(line.as_bytes(), NO_PLACE)]);
     }
@@ -229,14 +239,14 @@ fn one_line_and_several() {
         let note = |text: &str| format!("{program}: note: {text}\n");
         assert_eq!(run(program, b"\n"), answered("1\t?\t?\t-\n", &note("line 1 is no call: an empty line")));
         let two = note("2 lines are no calls, the first is line 1: unknown letter");
-        assert_eq!(run(program, b"Y\n\n"), answered("1\t?\t?\t-\n2\t?\t?\t-\n", &two));
-        assert_eq!(run(program, b"Y\n\r"), answered("1\t?\t?\t-\n2\t?\t?\t-\n", &two));
+        assert_eq!(run(program, b"Z\n\n"), answered("1\t?\t?\t-\n2\t?\t?\t-\n", &two));
+        assert_eq!(run(program, b"Z\n\r"), answered("1\t?\t?\t-\n2\t?\t?\t-\n", &two));
         let three = note("3 lines are no calls, the first is line 2: a carriage return");
         let answers = "1\tX\t0\t-\n2\t?\t?\t-\n3\tC\t2\t-\n4\t?\t?\t-\n5\tX\t0\t-\n6\t?\t?\t-\n";
         assert_eq!(run(program, b"X\nX\r\nC\nF 1 1\nX\nG\t"), answered(answers, &three));
     }
     for (script, note) in [
-        (&b"Y\nF\t1\t1"[..], "line 1 is no call: unknown letter"),
+        (&b"Z\nF\t1\t1"[..], "line 1 is no call: unknown letter"),
         (b"F\t1\t1\nF", "line 2 is no call: too few or too many numbers"),
         (b"F\t1\t1\n\n\n", "2 lines are no calls, the first is line 2: an empty line"),
         (b"G\tone\nF\t1\t1\nF 1 1", "2 lines are no calls, the first is line 1: a field that is no number"),
@@ -279,7 +289,7 @@ fn nothing_is_said_of_calls_refused_or_taken() {
 
 #[test]
 fn lines_are_counted_to_the_last() {
-    let script = [b"X\n".repeat(70_000), b"Y\n".repeat(100_000), b"X\n".repeat(3), b"\n".to_vec()].concat();
+    let script = [b"X\n".repeat(70_000), b"Z\n".repeat(100_000), b"X\n".repeat(3), b"\n".to_vec()].concat();
     let note = "drill: note: 100001 lines are no calls, the first is line 70001: unknown letter";
     assert_eq!(reference::drill::run(&script[..], std::io::sink()).unwrap().note("drill").as_deref(), Some(note));
 }

@@ -10,7 +10,7 @@ use reference::explore::{exhaustive, explore, Options};
 use reference::mistake::{Mistake, MISTAKES};
 
 /// Each mistake with the checks that must each catch it when made alone.
-const CATCHERS: [(Mistake, &[Check]); 93] = [
+const CATCHERS: [(Mistake, &[Check]); 101] = [
     (Mistake::MarkFirst, &[Outcome, Recovery, TwoBoards, Invariant, Changes]),
     (Mistake::RecoveryMarkFirst, &[Outcome, Recovery, TwoBoards, Invariant, Changes]),
     (Mistake::RecoveryCacheOnly, &[Outcome, Recovery, TwoBoards, Invariant, Changes]),
@@ -125,6 +125,14 @@ const CATCHERS: [(Mistake, &[Check]); 93] = [
     (Mistake::FormatResetsUndo, &[Outcome, Changes]),
     (Mistake::CheckpointResetsUndo, &[Outcome, Changes]),
     (Mistake::PageByHeader, &[Causes, Page, Changes]),
+    (Mistake::HexChecksumUntested, &[Hex]),
+    (Mistake::HexAddressUntested, &[Hex]),
+    (Mistake::HexLowerCase, &[Hex]),
+    (Mistake::HexHighByteFirst, &[Hex]),
+    (Mistake::HexEndNotNeeded, &[Hex]),
+    (Mistake::HexAfterEnd, &[Hex]),
+    (Mistake::HexRefusedStores, &[Hex]),
+    (Mistake::Hex20First, &[Hex]),
 ];
 
 /// The check that so many calls on a mistaken board violate.
@@ -174,9 +182,9 @@ const HIDDEN: [Mistake; 12] = [
 ];
 
 /// Mistakes that need more than the smallest board as well: a mark of 2^63 or more, a line past 1, a limit that is
-/// another one at L = 2, a second worker, or a record or rows that no call makes. That it shows none of them is not
-/// tried, for the time it takes.
-const LARGER: [Mistake; 13] = [
+/// another one at L = 2, a second worker, a record or rows that no call makes, or HEX texts, which are not tried there.
+/// That it shows none of them is not tried, for the time it takes.
+const LARGER: [Mistake; 21] = [
     Mistake::PageMarksMod63,
     Mistake::WriteBackTo2L,
     Mistake::WriteBackPast1,
@@ -190,6 +198,14 @@ const LARGER: [Mistake; 13] = [
     Mistake::FormatResetsUndo,
     Mistake::CheckpointResetsUndo,
     Mistake::PageByHeader,
+    Mistake::HexChecksumUntested,
+    Mistake::HexAddressUntested,
+    Mistake::HexLowerCase,
+    Mistake::HexHighByteFirst,
+    Mistake::HexEndNotNeeded,
+    Mistake::HexAfterEnd,
+    Mistake::HexRefusedStores,
+    Mistake::Hex20First,
 ];
 
 #[test]

@@ -1,4 +1,4 @@
--- An inhabited example: a history with a cut in the middle of a checkpoint, pages of it taken and refused, and a recovery with write-backs and a refused call among its steps.
+-- An inhabited example: a history with a cut in the middle of a checkpoint, pages and texts of it taken and refused, refused readings, and a recovery with write-backs and a refused call among its steps.
 use Prim.Native.Nat.{ℕ}
 use mathlib.Core.Path.{_≡_, refl}
 use mathlib.Core.List.{List, [], _∷_}
@@ -19,7 +19,9 @@ use Rattle.board.specs.Checkpoint.{acts, storesEpoch}
 use Rattle.board.specs.Next.{next, Performed}
 use Rattle.board.specs.Page.{pageCauses, pageCause, pageLeft}
 use Rattle.board.specs.Machine.{beginning, changed, fewer, advanced, checkpointStep, stepped, writeBackSeen, feed}
-use Rattle.board.specs.Sequence.{Begins, formatted, Run, opening, pages, History, begun, further, undoSteps}
+use Rattle.board.specs.Hex.{hexWriteCauses, hexWriteCause, hexWriteLeft, hexReadCauses, hexReadCause, hexReadLeft, parsedFrom, parsed}
+use Rattle.board.specs.Quiet.{page, written, memoryRefused, cacheRefused}
+use Rattle.board.specs.Sequence.{Begins, formatted, Run, opening, stays, History, begun, further, undoSteps}
 use Rattle.board.specs.Bench.{blankFor, afterCalls}
 use Rattle.board.proofs.Laws.Taken.{performing}
 use Rattle.board.proofs.Laws.Playing.{made, madeAll, calls-history, byKind, takesTest, tested}
@@ -69,12 +71,28 @@ run-history = calls-history calls (opening fresh (beginning (shaped 1))) refl (b
 
 -- A page of it carries the history on and leaves the run as it was.
 pub paged-history : (text : List ℕ) → History run
-paged-history text = further run-history (pages text (pageLeft (run .board) text) (pageCause (run .board) text) (run .board) refl)
+paged-history text = further run-history (stays (page text (pageLeft (run .board) text) refl))
+
+-- So does a text written of its memory, taken or refused.
+pub written-history : (text : List ℕ) → History run
+written-history text = further run-history (stays (written (run .board .memory) text (hexWriteLeft (run .board .memory) text) refl))
+
+-- So do a refused reading into memory and then one into the cache: an empty text is no file.
+pub unread-history : History run
+unfolding hexReadLeft hexReadCause hexReadCauses parsed parsedFrom firstStanding
+unread-history =
+    further (further run-history (stays (memoryRefused {number = 19} [] (run .board .memory) refl (λ e. omega arith))))
+    (stays (cacheRefused {number = 19} [] (run .board .cache) refl (λ e. omega arith)))
 
 -- With 204 bytes the page is taken, with one fewer it is refused.
 pub paged : (pageCause (run .board) (replicate 204 170) ≡ 0) × (pageCause (run .board) (replicate 203 170) ≡ 12)
 unfolding run calls fresh made madeAll afterCalls next cause causes firstStanding badRecord anyUnder effect step formatStep recoveryStep acts numbersUnder performAct performFirst storesEpoch advance advanceOf lineOf withLine fieldIndex fieldOf withField feed changed changedAt countUnder fewer advanced checkpointStep stepped writeBackSeen pageCause pageCauses nthFrom nthUnder bitsIn bitOf withBit contains added size nth strays digitOf unheld held holdsAny heldFrom withDigit
 paged = (refl, refl)
+
+-- With 364 bytes the text is written, with one fewer it is refused.
+pub wrote : (hexWriteCause (run .board .memory) (replicate 364 170) ≡ 0) × (hexWriteCause (run .board .memory) (replicate 363 170) ≡ 12)
+unfolding run calls fresh made madeAll afterCalls next cause causes firstStanding badRecord anyUnder effect step formatStep recoveryStep acts numbersUnder performAct performFirst storesEpoch advance advanceOf lineOf withLine fieldIndex fieldOf withField feed changed changedAt countUnder fewer advanced checkpointStep stepped writeBackSeen hexWriteCause hexWriteCauses nthFrom nthUnder bitsIn bitOf withBit contains added size nth strays digitOf unheld held holdsAny heldFrom withDigit
+wrote = (refl, refl)
 
 -- The recovery's start is taken, and then six steps, with two taken write-backs and a refused read among them.
 run-takes : PlayedRecovery run garbage cutCache recoveryCalls 6

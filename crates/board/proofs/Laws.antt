@@ -5,6 +5,7 @@ pub mod View
 pub mod Only
 pub mod Rows
 pub mod Taken
+pub mod Quiet
 pub mod Workers
 pub mod Locks
 pub mod Idle

@@ -22,3 +22,4 @@ pub mod Example
 pub mod AwayExample
 pub mod ForeignExample
 pub mod LaterMark
+pub mod HexHistories

@@ -15,7 +15,7 @@ use Rattle.board.specs.Next.{Taken, next, valueOf}
 use Rattle.board.specs.Location.{Location, cell, Has}
 use Rattle.board.specs.Machine.{Machine, beginning, formatSteps}
 use Rattle.board.specs.Sequence.{Begins, formatted, recoveryStarted, Run, cutRun, cuts, History, begun, further, rose, lastCheckpoint, recoverySteps}
-use Rattle.board.specs.Statements.{Reads, ReadsAll, ReadsCheckpointed, Recovery, CutAndRecovered, AlikeWhere, Demand3, Demand3ByCheckpoints, LastCheckpoint, HeaderSizes, RecoveredSizes, Completes, formatStepIn, Completion, stepsFrom, FormatEnds, RecoveryEnds, CheckpointEnds, AwayHoldsUpNone, GoesAndComes, RecoveryStarts, OwnMemory, RequestAnswers, WriteBackAnswers, ReadAnswers, HistoryBegins, HasRecovery, UpdateEnds, SingleStores, SpareWords, FormatSpare}
+use Rattle.board.specs.Statements.{Reads, ReadsAll, ReadsCheckpointed, Recovered, Recovery, CutAndRecovered, AlikeWhere, Demand3, Demand3ByCheckpoints, LastCheckpoint, HeaderSizes, RecoveredSizes, Completes, formatStepIn, Completion, stepsFrom, FormatEnds, RecoveryEnds, CheckpointEnds, AwayHoldsUpNone, GoesAndComes, RecoveryStarts, OwnMemory, RequestAnswers, WriteBackAnswers, ReadAnswers, HistoryBegins, HasRecovery, UpdateEnds, SingleStores, SpareWords, FormatSpare}
 use Rattle.predicate.proofs.Bools.{on, not-off}
 use Rattle.board.proofs.Invariant.{Inv}
 use Rattle.board.proofs.Laws.Taken.{standsAt, passed, performed-number, performed-value, performed-taken, performing, same-lines}
@@ -61,7 +61,7 @@ reads r h d c value b p =
 -- ---- 2. recovery
 
 -- What a recovered board's reads return.
-done-reads : (m : Machine) {σ : Shape} {w : ℕ} (b : Board) → RecoveryDone σ w (m .checkpointed) b → ReadsCheckpointed m b
+pub done-reads : (m : Machine) {σ : Shape} {w : ℕ} (b : Board) → RecoveryDone σ w (m .checkpointed) b → ReadsCheckpointed m b
 unfolding valueOf
 done-reads m b d c h number value b′ p =
     let r = d .reads c (subst (λ (τ : Shape). c < cells τ) (d .shape) h) in
@@ -216,12 +216,15 @@ history-begins = (by-format, λ b t. recoveryStarted _ b _ (performing RecoveryS
         let start = next (FormatStart l w) b in
         (stepsFrom (formatSteps l) start, formatted l w _ b start _ (performing (FormatStart l w) b t refl refl) (all-takes (formatSteps l) start (format-ends l w b t .0)))
 
-pub has-recovery : HasRecovery
-has-recovery r h e =
-    let t = recovery-starts r h e in
+-- Where a recovery's start is taken there is a finished recovery.
+pub recovery-from : (r : Run) → Taken RecoveryStart (r .board) → (b : Board) × Recovered r b
+recovery-from r t =
     let start = next RecoveryStart (r .board) in
     let n = recoverySteps (r .board .memory) in
     (stepsFrom n start, record { value = valueOf RecoveryStart (r .board); start = start; begun = performing RecoveryStart (r .board) t refl refl; ended = all-takes n start (recovery-ends (r .board) t .0) })
+
+pub has-recovery : HasRecovery
+has-recovery r h e = recovery-from r (recovery-starts r h e)
 
 -- ---- 5. single stores
 

@@ -1,4 +1,4 @@
--- What is claimed of every taken call on any board: exactly what it changes, word by word and field by field. `proofs/Changes/Theorems.antt` proves it.
+-- What is claimed of every taken call on any board, of every page and of every HEX text: exactly what it changes, word by word and field by field. `proofs/Changes/Theorems.antt` proves it.
 use Prim.Native.Nat.{ℕ, _+_, _*_, _/_, _≤_, _<_}
 use mathlib.Core.Path.{_≡_}
 use mathlib.Core.List.{List, _∷_, _++_}
@@ -22,6 +22,7 @@ use Rattle.board.specs.Board.{Board}
 use Rattle.board.specs.State.{conditionOf, dirtyCount}
 use Rattle.board.specs.Next.{next, Taken}
 use Rattle.board.specs.Page.{pageText, PagePerformed}
+use Rattle.board.specs.Hex.{hexText, HexWritePerformed, file, parsed, wordsOf, HexReadPerformed}
 use Rattle.board.specs.Steps.{OnlyLineInBoth, MustWait, Begun, Asked, Opened, Released, OnlyCondition, OnlyWorker, recordWord, backupWord, markWord}
 use Rattle.board.specs.Foretold.{LineSet}
 use Rattle.board.specs.Locks.{OthersHeld, OnlyHolders}
@@ -207,3 +208,24 @@ abbrev pub PageChanges : Type 0
 PageChanges =
     (b b′ : Board) (text left : List ℕ) (number : ℕ) → PagePerformed b text number b′ left →
     (b′ ≡ b) × ((number ≡ 0 → ⊥) → left ≡ text) × (number ≡ 0 → left ≡ pageOf b ++ drop (length (pageOf b)) text)
+
+-- ---- 8. HEX text
+
+-- Writing changes the text row alone. Refused, by whatever cause, it leaves every byte; taken, it leaves the memory's text and then the bytes that were there.
+abbrev pub HexWriteChanges : Type 0
+HexWriteChanges =
+    (memory text left : List ℕ) (number : ℕ) → HexWritePerformed memory text number left →
+    ((number ≡ 0 → ⊥) → left ≡ text) × (number ≡ 0 → left ≡ hexText memory ++ drop (length (hexText memory)) text)
+
+-- A row holds just the words of a text, which is a file of eight bytes for each of them.
+pub record HoldsText (text row : List ℕ) : Type 0 where
+  pub bytes : List ℕ
+  pub isFile : parsed text ≡ file bytes
+  pub fits : length bytes ≡ 8 * length row
+  pub words : row ≡ wordsOf (length row) bytes
+
+-- Reading changes the row alone, and not its length. Refused, by whatever cause, it leaves every word; taken, the row holds just the words of the text.
+abbrev pub HexReadChanges : Type 0
+HexReadChanges =
+    (text row left : List ℕ) (number : ℕ) → HexReadPerformed text row number left →
+    (length left ≡ length row) × ((number ≡ 0 → ⊥) → left ≡ row) × (number ≡ 0 → HoldsText text left)

@@ -16,7 +16,7 @@ use Rattle.board.specs.Board.{Board}
 use Rattle.board.specs.State.{conditionOf, isRunning}
 use Rattle.board.specs.Effects.{writtenBack}
 use Rattle.board.specs.Next.{Taken, next, Performed, profile, kind, isStart, isStep}
-use Rattle.board.specs.Page.{PagePerformed}
+use Rattle.board.specs.Quiet.{Quiet}
 use Rattle.board.specs.Machine.{markedLine}
 use Rattle.board.specs.Sequence.{Run, History}
 use Rattle.board.specs.Statements.{AllWaitOrAway}
@@ -67,12 +67,12 @@ CountLeaves = (b : Board) → next Count b ≡ b
 abbrev pub comesBack : Call → Bool
 comesBack k = profile k .comesBack
 
--- `ToRelease n b b′`: calls and pages lead from board `b` to board `b′`. `n` steps among them returned 0, the last call being the last of them and a release: it alone leaves no request. No start and no coming back returned 0.
+-- `ToRelease n b b′`: calls and quiet things lead from board `b` to board `b′`. `n` steps among them returned 0, the last call being the last of them and a release: it alone leaves no request. No start and no coming back returned 0.
 pub data ToRelease : ℕ → Board → Board → Type 0 where
   releases : {value : ℕ} {b b′ : Board} → Performed Step b 0 value b′ → b′ .state .requested ≡ false → ToRelease 1 b b′
   steps : {n value : ℕ} {b d b′ : Board} → Performed Step b 0 value d → d .state .requested ≡ true → ToRelease n d b′ → ToRelease (suc n) b b′
   between : {n number value : ℕ} (k : Call) {b d b′ : Board} → Performed k b number value d → (number ≡ 0 → isStart (kind k) || isStep (kind k) || comesBack k ≡ false) → ToRelease n d b′ → ToRelease n b b′
-  paged : {n number : ℕ} (text left : List ℕ) {b d b′ : Board} → PagePerformed b text number d left → ToRelease n d b′ → ToRelease n b b′
+  stays : {n : ℕ} {b d b′ : Board} → Quiet b d → ToRelease n d b′ → ToRelease n b b′
 
 -- No step of a checkpoint was taken: no request stands, or the place is 0.
 abbrev pub BeforeFirstStep : State → Type 0
@@ -112,7 +112,7 @@ StepsWrite (releases p off) (w ∷ v ∷ ws) = ⊥
 StepsWrite (steps p on rest) [] = ⊥
 StepsWrite (steps {b = b} {d = d} p on rest) (w ∷ ws) = Wrote w b d × StepsWrite rest ws
 StepsWrite (between k p a rest) ws = StepsWrite rest ws
-StepsWrite (paged text left p rest) ws = StepsWrite rest ws
+StepsWrite (stays q rest) ws = StepsWrite rest ws
 
 -- The dirty lines, rising.
 abbrev pub risingLines : State → List ℕ

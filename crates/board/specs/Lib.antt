@@ -8,6 +8,7 @@ pub mod Effects
 pub mod Next
 pub mod Page
 pub mod Hex
+pub mod Quiet
 pub mod Machine
 pub mod Sequence
 pub mod Statements
@@ -16,6 +17,7 @@ pub mod Foretold
 pub mod Locks
 pub mod Changes
 pub mod LaterMark
+pub mod HexHistories
 pub mod Bench
 pub mod Refusals
 pub mod Pages

@@ -15,18 +15,19 @@ use Rattle.board.specs.Board.{Board}
 use Rattle.board.specs.State.{conditionOf, isOff, isRecovering, isRunning}
 use Rattle.board.specs.Causes.{cause}
 use Rattle.board.specs.Next.{Taken, next, Performed, Kind, startsFormat, startsRecovery, stepping, writing, counting, other, reading, kind, isStart}
-use Rattle.board.specs.Page.{PagePerformed, pageCause}
+use Rattle.board.specs.Page.{pageCause}
+use Rattle.board.specs.Quiet.{Quiet}
 use Rattle.board.specs.Sequence.{Run, History}
 use Rattle.board.specs.Statements.{HoldsNone}
 
 -- ---- 1. no conflict
 
--- `FromStart b`: a start of format or recovery returned 0, on any board whatever its record and rows were; from there calls and pages, taken or refused, led
--- to board `b`, with no cut between.
+-- `FromStart b`: a start of format or recovery returned 0, on any board whatever its record and rows were; from there calls, taken or refused, and quiet things
+-- led to board `b`, with no cut between.
 pub data FromStart : Board → Type 0 where
   starts : (k : Call) {value : ℕ} (b : Board) {b′ : Board} → isStart (kind k) ≡ true → Performed k b 0 value b′ → FromStart b′
   performs : (k : Call) {number value : ℕ} {b b′ : Board} → FromStart b → Performed k b number value b′ → FromStart b′
-  pages : (text left : List ℕ) {number : ℕ} {b b′ : Board} → FromStart b → PagePerformed b text number b′ left → FromStart b′
+  stays : {b b′ : Board} → FromStart b → Quiet b b′ → FromStart b′
 
 -- "Cause 9 remains only for a state record that no calls from a taken start lead to": there no call is answered by 9.
 abbrev pub NoConflict : Type 0

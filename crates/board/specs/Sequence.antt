@@ -11,17 +11,17 @@ use Rattle.board.specs.declared.Call.the-variants.{FormatStart, Recovery
 use Rattle.board.specs.Board.{Board, Shape, shaped, shapeIn, epochOf}
 use Rattle.board.specs.Location.{Location, undo, stops, stopAt, undoes}
 use Rattle.board.specs.Next.{kind, isStart, isStep, Performed}
-use Rattle.board.specs.Page.{PagePerformed}
+use Rattle.board.specs.Quiet.{Quiet}
 use Rattle.board.specs.Machine.{Machine, beginning, recoveryBeginning, feed, formatSteps, finishesFormat}
 
 -- ---- where a history begins
 
--- `Takes n b b′`: calls and pages lead from board `b` to board `b′`; `n` steps among them returned 0, the last call being the last of them, and no start did.
+-- `Takes n b b′`: calls and quiet things lead from board `b` to board `b′`; `n` steps among them returned 0, the last call being the last of them, and no start did.
 pub data Takes : ℕ → Board → Board → Type 0 where
   finished : {b : Board} → Takes zero b b
   steps : {n value : ℕ} {b d b′ : Board} → Performed Step b 0 value d → Takes n d b′ → Takes (suc n) b b′
   between : {n number value : ℕ} (k : Call) {b d b′ : Board} → Performed k b number value d → (number ≡ 0 → isStart (kind k) || isStep (kind k) ≡ false) → Takes (suc n) d b′ → Takes (suc n) b b′
-  paged : {n number : ℕ} (text left : List ℕ) {b d b′ : Board} → PagePerformed b text number d left → Takes (suc n) d b′ → Takes (suc n) b b′
+  stays : {n : ℕ} {b d b′ : Board} → Quiet b d → Takes (suc n) d b′ → Takes (suc n) b b′
 
 -- "A sequence begins with state and rows as a finished format left them, whatever they were before its start"; 02, ticket 4: or as a recovery's start left them that took the memory,
 -- whatever memory, state and cache were: there the machine begins with the undo of that memory.
@@ -51,7 +51,7 @@ abbrev pub takenCall : Call → Board → Run → Run
 takenCall k b r =
     record { board = b; machine = feed k (r .machine); crashed = r .crashed && not (isStart (kind k)); erased = erasedBy k (r .machine) (r .erased) }
 
--- After what the machine is not fed: a call that returned another number, since "turned-down calls change nothing", or a page.
+-- After what the machine is not fed: a call that returned another number, since "turned-down calls change nothing", or a quiet thing.
 abbrev pub unfed : Board → Run → Run
 unfed b r = record { board = b; machine = r .machine; crashed = r .crashed; erased = r .erased }
 
@@ -72,10 +72,10 @@ cutRun s cache r =
 abbrev pub KeepsLength : List ℕ → Board → Type 0
 KeepsLength cache b = length cache ≡ length (b .cache)
 
--- `Happens r r′`: a call leads from run `r` to run `r′`, where "after a cut its next taken call is a start of format or recovery"; or a page does, taken or refused, even after a cut; or a cut does.
+-- `Happens r r′`: a call leads from run `r` to run `r′`, where "after a cut its next taken call is a start of format or recovery"; or a quiet thing does, even after a cut; or a cut does.
 pub data Happens : Run → Run → Type 0 where
   performs : {r : Run} (k : Call) (number value : ℕ) (b : Board) → Performed k (r .board) number value b → (r .crashed ≡ true → number ≡ 0 → isStart (kind k) ≡ true) → Happens r (called k number b r)
-  pages : {r : Run} (text left : List ℕ) (number : ℕ) (b : Board) → PagePerformed (r .board) text number b left → Happens r (unfed b r)
+  stays : {r : Run} {b : Board} → Quiet (r .board) b → Happens r (unfed b r)
   cuts : {r : Run} (s : State) (cache : List ℕ) → KeepsLength cache (r .board) → Happens r (cutRun s cache r)
 
 -- `History r`: from one of the two beginnings on, one thing after the other led to run `r`, "each call getting what the last one left and nobody else writing it".

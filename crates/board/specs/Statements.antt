@@ -19,7 +19,7 @@ use Rattle.board.specs.Location.{Location, cell, Has, undo}
 use Rattle.board.specs.Effects.{writtenBack}
 use Rattle.board.specs.Next.{Taken, next, Kind, startsFormat, startsRecovery, stepping, writing, counting, other, reading, kind, isStep, Performed}
 use Rattle.board.specs.Machine.{Machine, beginning, recoveryBeginning, formatSteps}
-use Rattle.board.specs.Sequence.{Takes, Begins, Run, cutRun, KeepsLength, Happens, performs, pages, cuts, History, begun, further, lastCheckpoint, recoverySteps}
+use Rattle.board.specs.Sequence.{Takes, Begins, Run, cutRun, KeepsLength, Happens, performs, stays, cuts, History, begun, further, lastCheckpoint, recoverySteps}
 
 -- ---- 1. reads
 
@@ -113,7 +113,7 @@ RecoveredSizes =
 -- What happens is a taken step of a format.
 unfoldable pub formatStepIn : {r r′ : Run} → Happens r r′ → Bool
 formatStepIn (performs {r = r} k number value b p a) = eqb number 0 && isStep (kind k) && isFormatting (r .board .state .phase)
-formatStepIn (pages text left number b p) = false
+formatStepIn (stays q) = false
 formatStepIn (cuts s cache p) = false
 
 -- Words 6 and 7 of every cell line of a row are the given ones.

@@ -36,7 +36,11 @@ pub const CONFLICT: u8 = 9;
 pub const CHECKPOINT: u8 = 10;
 // "the cache's epoch 2^64 − 1, at a request or at the epoch's store"
 pub const EPOCH: u8 = 11;
-// "12 where the row is too short": a page's text row
+// "19 for text that isn't such a file", before 20 and 12
+pub const FILE: u8 = 19;
+// "20 for a length that recovery would not take or the lent row doesn't have", after 19
+pub const LENGTH: u8 = 20;
+// "12 where the row is too short": a page's text row; "12 for a text row too short", after 20
 pub const TEXT: u8 = 12;
 
 // Which causes stand.

@@ -8,7 +8,7 @@ ghost use Prim.Native.Nat.{ℕ};
 ghost use lib.Dec.{ltb};
 ghost use lib.ListN.{length};
 ghost use Rattle.board.specs.declared.State.{State};
-ghost use Rattle.board.specs.Causes.{badRows, badRecoveryRows, badHeader, epochSpent, storesSpentEpoch};
+ghost use Rattle.board.specs.Causes.{badRows, badLength, badRecoveryRows, badHeader, epochSpent, storesSpentEpoch};
 ghost use Rattle.board.specs.Board.{shaped, restNotZero};
 ghost use Rattle.board.specs.Next.{lent};
 ghost use Rattle.board.specs.Page.{pageBytes};
@@ -32,13 +32,20 @@ pub fn short_text(lines: u16, text: &[u8]) -> bool
     text.len() < board::page_bytes(lines)
 }
 
-// "at recovery's start: memory not a multiple of 8 in 16 to 4,096 words, cache of another length"
+// "at recovery's start: memory not a multiple of 8 in 16 to 4,096 words"
+pub fn bad_length(words: usize) -> bool
+    ensures { λ r. ⌜ r ≡ badLength words ⌝ }
+{
+    !((words % 8 == 0) & (16 <= words) & (words <= 4096))
+}
+
+// "cache of another length"
 pub fn bad_recovery_rows(memory: &[u64], cache: &[u64]) -> bool
     ensures { λ r. ⌜ ((s : State) →
         r ≡ badRecoveryRows (lent s (now (memory .entry)) (now (cache .entry)))) ⌝ }
 {
     let words = memory.len();
-    !((words % 8 == 0) & (16 <= words) & (words <= 4096)) | !(cache.len() == words)
+    bad_length(words) | !(cache.len() == words)
 }
 
 // "words 3 to 7 not all zero"

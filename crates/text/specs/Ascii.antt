@@ -108,3 +108,6 @@ abbrev pub 'p' : ℕ
 
 abbrev pub 'y' : ℕ
 'y' = 121
+
+abbrev pub 'z' : ℕ
+'z' = 122

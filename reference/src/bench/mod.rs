@@ -1,5 +1,6 @@
 //! Workloads for measuring: the same as those of the proved program in crates/bench, with the same checksum.
 
+mod hex;
 mod page;
 
 use crate::bits::NO_LINES;
@@ -7,6 +8,7 @@ use crate::board::{Phase, Rows, State};
 use crate::call::{perform, Answer, Call};
 use crate::line::{cells, line_of, mark_at, row_words, sizes_allowed};
 use crate::locks::lock_of;
+pub use hex::Direction;
 pub use page::Marks;
 
 /// What one round is.
@@ -50,6 +52,7 @@ pub enum Round {
 pub enum Workload {
     Rounds(Round),
     Pages(Marks),
+    Texts(Direction),
 }
 
 impl Workload {
@@ -68,6 +71,8 @@ impl Workload {
             "page-rising" => Workload::Pages(Marks::Rising),
             "page-random" => Workload::Pages(Marks::Random),
             "page-mixed" => Workload::Pages(Marks::Mixed),
+            "hex-write" => Workload::Texts(Direction::Write),
+            "hex-read" => Workload::Texts(Direction::Read),
             _ => return None,
         })
     }
@@ -321,6 +326,10 @@ pub fn run(workload: Workload, lines: u64, workers: u64, n: u64, rounds: u64, se
         Workload::Pages(marks) => {
             page::prepare(marks, plan, &mut board);
             page::play(plan, rounds, &mut board)
+        }
+        Workload::Texts(direction) => {
+            hex::prepare(plan, &mut board);
+            hex::play(direction, plan, rounds, &mut board)
         }
     };
     let reads = play(Round::Reads, plan, 1, &mut board);

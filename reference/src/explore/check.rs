@@ -43,10 +43,12 @@ pub enum Check {
     Changes,
     /// With no cut since the last taken start a write-back is taken exactly to line L, a read exactly below cell 2L.
     Answers,
+    /// Ticket 9: what a text read and a memory written answer and leave, on random texts and memories.
+    Hex,
 }
 
 /// Every check with its name and a few words.
-pub const CHECKS: [(&str, Check, &str); 20] = [
+pub const CHECKS: [(&str, Check, &str); 21] = [
     ("causes", Check::Causes, "the table of causes; a refused call leaves all as it was"),
     ("outcome", Check::Outcome, "the complete outcome of a taken call"),
     ("reads", Check::Reads, "a taken read gives the machine's current value"),
@@ -71,6 +73,7 @@ pub const CHECKS: [(&str, Check, &str); 20] = [
     ("conflict", Check::Conflict, "from a taken start on no call is answered by 9"),
     ("changes", Check::Changes, "what a taken call changes, each field and word, and nothing else; a page's text row"),
     ("answers", Check::Answers, "a write-back is taken exactly to line L, a read exactly below cell 2L"),
+    ("hex", Check::Hex, "HEX texts: what is written, what is read, what is refused, and the one text of a memory"),
 ];
 
 impl Check {

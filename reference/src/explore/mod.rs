@@ -11,6 +11,7 @@ mod differs;
 pub mod exhaustive;
 pub mod foreign;
 pub(crate) mod garbage;
+mod hex;
 mod invariant;
 mod key;
 mod locks;
@@ -69,6 +70,8 @@ struct Explorer {
     random: Random,
     /// Chooses what further damages made-up boards, and moves no sequence.
     aside: Random,
+    /// Chooses HEX texts and their memories, and moves no sequence either.
+    texts: Random,
     checks: Checks,
     mistake: Option<Mistake>,
     tally: Tally,
@@ -84,6 +87,7 @@ pub fn explore(options: &Options) -> Result<Tally, Caught> {
     let mut explorer = Explorer {
         random: Random::new(options.seed),
         aside: Random::new(!options.seed),
+        texts: Random::new(options.seed.rotate_left(32)),
         checks: Checks { only: options.only },
         mistake: options.mistake,
         tally: Tally::default(),
@@ -252,7 +256,21 @@ impl Explorer {
         garbage::board(&self.random, &mut self.scratch);
         let call = garbage::call(&self.random, &self.scratch.state);
         let call = garbage::damage_more(&self.aside, &mut self.scratch, call);
-        self.probe_call(&call)
+        self.probe_call(&call)?;
+        if self.texts.chance(1, 3) {
+            self.hex_texts()?;
+        }
+        Ok(())
+    }
+
+    /// Ticket 9 holds of any memory and any text.
+    fn hex_texts(&mut self) -> Result<(), Violation> {
+        let (texts, mistake, tally) = (&self.texts, self.mistake, &mut self.tally);
+        self.checks.run(Check::Hex, || {
+            tally.written[hex::writing(texts, mistake)? as usize] += 1;
+            tally.read[hex::reading(texts, mistake)? as usize] += 1;
+            Ok(())
+        })
     }
 
     /// Demand 1, the complete outcome and statement 6 hold of any board.

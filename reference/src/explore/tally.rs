@@ -11,6 +11,9 @@ use crate::line::{mark_at, LINE_WORDS};
 /// How many answers there are: 0, and the causes 1 to 16.
 const ANSWERS: usize = 17;
 
+/// How many answers a write of memory as HEX and a read of it have: up to 20.
+const HEX_ANSWERS: usize = 21;
+
 /// The first and the last epochs.
 pub const EDGES: [u64; 4] = [1, 2, u64::MAX - 1, u64::MAX];
 
@@ -54,6 +57,9 @@ pub struct Tally {
     pub in_words: u64,
     pub in_eighth: u64,
     pub in_pairs: u64,
+    /// The answers to memories written as HEX and to texts read.
+    pub written: [u64; HEX_ANSWERS],
+    pub read: [u64; HEX_ANSWERS],
 }
 
 impl Tally {
@@ -147,12 +153,14 @@ impl fmt::Display for Tally {
         writeln!(out, "starts on made-up boards followed {wild}, calls after them {calls}")?;
         let (words, eighth, pairs) = (self.in_words, self.in_eighth, self.in_pairs);
         writeln!(out, "checkpoints foretold {}, of them with lines in several words {words},", self.foretold)?;
-        writeln!(out, "with a line in the eighth word {eighth}, with both cells of a line marked {pairs}")
+        writeln!(out, "with a line in the eighth word {eighth}, with both cells of a line marked {pairs}")?;
+        writeln!(out, "memories written as HEX: {}", met(&self.written))?;
+        writeln!(out, "HEX texts read: {}", met(&self.read))
     }
 }
 
 /// The answers that were met, each with its count.
-fn met(answers: &[u64; ANSWERS]) -> String {
+fn met(answers: &[u64]) -> String {
     let counts = answers.iter().enumerate().filter(|(_, count)| **count > 0);
     counts.map(|(number, count)| format!("answer {number} {count}")).collect::<Vec<_>>().join(", ")
 }

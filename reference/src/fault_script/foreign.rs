@@ -22,7 +22,7 @@ impl Script {
     }
 
     /// Rows that fit, a header, cells with marks up to its epoch, and anything in words 6 and 7.
-    fn swap_memory(&mut self) {
+    pub(super) fn swap_memory(&mut self) {
         let lines = if self.random.chance(1, 16) { self.some_lines() } else { self.random.pick(&[1, 1, 1, 2, 2, 3]) };
         let workers = some_workers(&self.random, lines);
         let words = row_words(lines);
@@ -119,7 +119,7 @@ impl Script {
     }
 
     /// Recovery to its end, work with a checkpoint, a cut, and the recovery of what is then its own memory.
-    fn work_on_it(&mut self) {
+    pub(super) fn work_on_it(&mut self) {
         self.recover_with_write_backs();
         self.sum();
         let leave = Leave { away: self.random.pick(&[0, 100]), back: 100 };

@@ -5,6 +5,7 @@ mod aim;
 mod away;
 mod bits;
 mod foreign;
+mod hex;
 mod locks;
 mod odd;
 mod other_form;
@@ -54,6 +55,11 @@ pub fn bits_script(seed: u64, lines: u64) -> Vec<u8> {
 /// A script of nothing but locks: taken, given back, updates with and without them, holders that must not be.
 pub fn locks_script(seed: u64, lines: u64) -> Vec<u8> {
     write(seed, lines, |_| {}, Script::locks)
+}
+
+/// A script of nothing but HEX texts: written, changed, read back, and the boards that come of them.
+pub fn hex_script(seed: u64, lines: u64) -> Vec<u8> {
+    write(seed, lines, |_| {}, Script::hex_texts)
 }
 
 /// So many lines, the last a checksum; those of odd seeds end without a line feed.

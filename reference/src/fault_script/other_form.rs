@@ -11,7 +11,7 @@ use crate::text::MOST_BYTES;
 impl Script {
     /// One line that prints `?`, or in a few cases one that just does not.
     pub(super) fn another_form(&mut self) {
-        let text = match self.random.below(17) {
+        let text = match self.random.below(18) {
             0 => Vec::new(),
             1 => self.long(),
             2 => self.unknown_letter(),
@@ -23,6 +23,7 @@ impl Script {
             12 => self.no_room(),
             13 | 14 => self.unused(),
             15 => return self.page_of_another_form(),
+            16 => return self.text_of_another_form(),
             _ => {
                 let known = self.known();
                 spoil(&self.random, known)
@@ -62,7 +63,7 @@ impl Script {
 
     /// A letter that no line has today: one of a later ticket, of the other case, or of two bytes.
     fn unknown_letter(&self) -> Vec<u8> {
-        let letter = self.random.pick(b"hvouxcsegrtwmqkLZ09?\xff");
+        let letter = self.random.pick(b"dvouxcsegrtwmqkLZ09?\xff");
         let mut text = self.small(letter, self.random.below(3) as usize);
         if self.random.chance(1, 4) {
             text.insert(1, self.form().0);

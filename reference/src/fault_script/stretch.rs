@@ -12,7 +12,7 @@ use crate::work::{good_call_with_away, some_workers, Leave};
 impl Script {
     /// One stretch, and a checksum after it.
     pub(super) fn stretch(&mut self) {
-        match self.random.below(72) {
+        match self.random.below(80) {
             0..=5 => self.work(40),
             6..=23 | 58..=66 | 71 => self.aimed(),
             24 | 25 => self.odd_record(),
@@ -20,12 +20,13 @@ impl Script {
             29 => self.foreign_board(),
             30 => self.broken_format(),
             31 | 32 => self.other_forms(),
-            33 | 34 | 46 | 69 => self.pages(),
+            33 | 34 | 46 | 69 | 79 => self.pages(),
             35 | 36 => self.leaving(),
             37 | 68 => self.odd_away(),
             38 | 39 | 67 | 70 => self.foreign_memory(),
             40..=45 => self.line_bits(),
-            51..=57 => self.locks(),
+            51..=57 | 77..=78 => self.locks(),
+            72..=76 => self.some_text(),
             _ => self.odd_places(),
         }
         self.sum();

@@ -20,6 +20,7 @@ impl Origin {
     pub fn note(&mut self, command: &Command, number: u8) {
         match command {
             Command::Damage(Damage::Memory { .. }) => self.swapped = true,
+            Command::ReadHex { .. } if number == 0 => self.swapped = true,
             Command::Drill(drill::Command::Call(Call::Recovery)) if number == 0 => {
                 self.foreign |= self.swapped;
                 self.swapped = false;

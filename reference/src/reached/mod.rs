@@ -43,8 +43,8 @@ pub const CAUSES: [(u8, &[u8]); 16] = [
     (b'V', &[0, 2, 3, 4, 6, 15, 8, 16]),
 ];
 
-/// How many answers there are: 0, and the causes 1 to 16.
-const ANSWERS: usize = 17;
+/// How many answers there are: 0, and the causes 1 to 20.
+const ANSWERS: usize = 21;
 
 /// The counts over some scripts.
 #[derive(Clone, PartialEq, Eq, Debug)]

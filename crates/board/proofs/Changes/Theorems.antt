@@ -1,4 +1,4 @@
--- THE THEOREMS about every taken call on any board, and every page: `specs/Changes.antt`, proved.
+-- THE THEOREMS about every taken call on any board, every page and every HEX text: `specs/Changes.antt`, proved.
 use Prim.Native.Nat.{ℕ, _+_}
 use mathlib.Core.Path.{_≡_, refl, sym, ap, subst, _∙_}
 use mathlib.Core.List.{_++_}
@@ -14,14 +14,16 @@ use Rattle.board.specs.declared.Call.the-variants.{WriteBack}
 use Rattle.board.specs.Causes.{causes}
 use Rattle.board.specs.Effects.{effect}
 use Rattle.board.specs.Page.{pageCause, pageLeft, PageOutcome}
-use Rattle.board.specs.Changes.{Changes, EachCallChanges, pageOf, PageChanges, EightOfEach}
+use Rattle.board.specs.Changes.{Changes, EachCallChanges, pageOf, PageChanges, HexWriteChanges, HexReadChanges, EightOfEach}
 use Rattle.predicate.proofs.Bools.{chosen, passedOver}
-use Rattle.board.proofs.Laws.Taken.{standsAt, passed, taken-next, page-board, ByEffect, quiet, theFormat, theRecovery, theStep, theUpdate, theRestart, theAdvance, theRequest, theWriteBack, theGoing, theComing, theTaking, theGiving, by-effect}
+use Rattle.board.proofs.Laws.Taken.{standsAt, passed, taken-next, ByEffect, quiet, theFormat, theRecovery, theStep, theUpdate, theRestart, theAdvance, theRequest, theWriteBack, theGoing, theComing, theTaking, theGiving, by-effect}
+use Rattle.board.proofs.Laws.Quiet.{page-board}
 use Rattle.board.proofs.Steps.Theorems.{format-begins, recovery-begins, requests, goes-away, comes-back}
 use Rattle.board.proofs.Locks.Theorems.{takes-lock, gives-lock-back}
 use Rattle.board.proofs.Changes.Rows.{passed-sizes, line-written}
 use Rattle.board.proofs.Changes.Workers.{update-notes, restart-notes, advance-changes}
 use Rattle.board.proofs.Changes.Steps.{step-changes}
+use Rattle.board.proofs.Changes.Hex.{write-changes, read-changes}
 
 -- A taken call changes what is said of it, and nothing else.
 call-changes : {k : Call} → ByEffect k → (b : Board) → EightOfEach (b .state) → Taken k b → Changes k b (next k b)
@@ -58,3 +60,11 @@ page-changes b b′ text left number p =
       λ o. kept ∙ passedOver ok _ text (ne-eqb (pageCause b text) 0 (λ e. o (n ∙ e))),
       λ e. kept ∙ chosen ok (put text 0 (pageOf b)) text (eq-eqb (pageCause b text) 0 (sym n ∙ e)) ∙ ap (λ (k : ℕ). pageOf b ++ drop k text) front,
     )
+
+-- Writing changes the text row alone, and that only where it is taken.
+pub hex-write-changes : HexWriteChanges
+hex-write-changes = write-changes
+
+-- Reading changes the row of words alone, and that only where it is taken.
+pub hex-read-changes : HexReadChanges
+hex-read-changes = read-changes

@@ -20,8 +20,9 @@ use Rattle.board.specs.Checkpoint.{Act, storeEpoch, writeHeader, release
 use Rattle.board.specs.Causes.{causes}
 use Rattle.board.specs.Effects.{performAct, performFirst, effect}
 use Rattle.board.specs.Next.{Taken, kind, isStart, isStep}
-use Rattle.board.specs.Foretold.{ToRelease, releases, steps, between, paged, comesBack, Wrote, StepsWrite}
-use Rattle.board.proofs.Laws.Taken.{standsAt, passed, performed-taken, performed-refused, page-board, ByEffect, quiet, theFormat, theRecovery, theStep, theUpdate, theRestart, theAdvance, theRequest, theWriteBack, theGoing, theComing, theTaking, theGiving, by-effect}
+use Rattle.board.specs.Foretold.{ToRelease, releases, steps, between, stays, comesBack, Wrote, StepsWrite}
+use Rattle.board.proofs.Laws.Taken.{standsAt, passed, performed-taken, performed-refused, ByEffect, quiet, theFormat, theRecovery, theStep, theUpdate, theRestart, theAdvance, theRequest, theWriteBack, theGoing, theComing, theTaking, theGiving, by-effect}
+use Rattle.board.proofs.Laws.Quiet.{quiet-board}
 use Rattle.board.proofs.Invariant.{AllQuiescent}
 use Rattle.board.proofs.Checkpoint.Acts.{Remains, lineNext, epochNext, headerNext, releaseNext, acts-next, effect-acts, Stepping, step-ready}
 use Rattle.board.proofs.Foretold.Rising.{writes}
@@ -176,7 +177,7 @@ follow (between {number = number} k {b = b} {d = d} p a rest) y =
     ] in
     let both = after-stay rest stay (follow rest (stay .waits)) in
     record { count = both .0; written = both .1 }
-follow (paged text left {b = b} {d = d} p rest) y =
-    let stay = stays-there b d y (page-board b text p) in
+follow (stays {b = b} {d = d} q rest) y =
+    let stay = stays-there b d y (quiet-board q) in
     let both = after-stay rest stay (follow rest (stay .waits)) in
     record { count = both .0; written = both .1 }

@@ -13,11 +13,12 @@ use Rattle.board.specs.State.{isOff, isFormatting, isRunning}
 use Rattle.board.specs.Next.{Taken, Kind, startsFormat, startsRecovery, stepping, writing, counting, other, reading, kind, isStart, isStep, Performed}
 use Rattle.board.specs.Location.{undo}
 use Rattle.board.specs.Machine.{Machine, recoveryBeginning, formatSteps}
-use Rattle.board.specs.Sequence.{Takes, finished, steps, between, paged, Begins, formatted, recoveryStarted, opening}
+use Rattle.board.specs.Sequence.{Takes, finished, steps, between, stays, Begins, formatted, recoveryStarted, opening}
 use Rattle.predicate.proofs.Bools.{clash}
 use Rattle.board.proofs.Laws.Takes.{takes-none}
 use Rattle.board.proofs.Invariant.{Inv}
-use Rattle.board.proofs.Laws.Taken.{phaseBars, phase-passed, performed-taken, performed-refused, page-board}
+use Rattle.board.proofs.Laws.Taken.{phaseBars, phase-passed, performed-taken, performed-refused}
+use Rattle.board.proofs.Laws.Quiet.{quiet-board}
 use Rattle.board.proofs.Format.Board.{InFormat, Fresh, format-begins, erasing-step, format-erases, finishing-step, format-finishes}
 use Rattle.board.proofs.Keeps.FormatStep.{fresh-inv}
 use Rattle.board.proofs.Keeps.RecoveryStart.{recovery-begins}
@@ -63,8 +64,8 @@ format-taken σ (steps {n = n} {b = b} p rest) f e =
 format-taken σ (between {n = n} {number = number} k {b = b} p o rest) f e =
     let same = performed-refused k b p (λ z. format-refuses k b (f .phase) (o z) (performed-taken k b p z .0)) in
     format-taken σ rest (subst (λ (d : Board). InFormat σ d) (sym same) f) (ap (λ (d : Board). d .state .place + suc n) same ∙ e)
-format-taken σ (paged {n = n} text left {b = b} p rest) f e =
-    let same = page-board b text p in
+format-taken σ (stays {n = n} q rest) f e =
+    let same = quiet-board q in
     format-taken σ rest (subst (λ (d : Board). InFormat σ d) (sym same) f) (ap (λ (d : Board). d .state .place + suc n) same ∙ e)
 
 -- A started format and its steps leave a fresh board.

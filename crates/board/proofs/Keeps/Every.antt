@@ -13,11 +13,12 @@ use Rattle.board.specs.Effects.{effect}
 use Rattle.board.specs.Next.{Taken, kind, isStart, isStep}
 use Rattle.board.specs.Causes.{causes}
 use Rattle.board.specs.Machine.{feed}
-use Rattle.board.specs.Sequence.{Run, takenCall, unfed, Happens, performs, pages, cuts, History, begun, further}
+use Rattle.board.specs.Sequence.{Run, takenCall, unfed, Happens, performs, stays, cuts, History, begun, further}
 use Rattle.board.specs.Statements.{formatStepIn}
 use Rattle.predicate.proofs.Bools.{split, clash, decide}
 use Rattle.board.proofs.Invariant.{Inv}
-use Rattle.board.proofs.Laws.Taken.{standsAt, passed, performed-taken, performed-refused, page-board, afterTaken, ByEffect, quiet, theFormat, theRecovery, theStep, theUpdate, theRestart, theAdvance, theRequest, theWriteBack, theGoing, theComing, theTaking, theGiving, by-effect}
+use Rattle.board.proofs.Laws.Taken.{standsAt, passed, performed-taken, performed-refused, afterTaken, ByEffect, quiet, theFormat, theRecovery, theStep, theUpdate, theRestart, theAdvance, theRequest, theWriteBack, theGoing, theComing, theTaking, theGiving, by-effect}
+use Rattle.board.proofs.Laws.Quiet.{quiet-board}
 use Rattle.board.proofs.Format.Begins.{begins-inv}
 use Rattle.board.proofs.Checkpoint.Run.{Preserved, quietly}
 use Rattle.board.proofs.Keeps.FormatStart.{carried-format-start}
@@ -83,8 +84,7 @@ carried i (performs {r = r} k number value b p a) =
     let done = performed-taken k (r .board) p z in
     subst (λ (d : Board). Preserved (isStep (kind k) && isFormatting (r .board .state .phase)) r (takenCall k d r)) (sym (done .1)) (carried-call (by-effect k) r i (λ c. a c z) (done .0)))
     (λ t. subst (λ (d : Board). Preserved false r (unfed d r)) (sym (performed-refused k (r .board) p (eqb-false number 0 t))) (quietly i refl refl (λ c. refl)))
-carried i (pages {r = r} text left number b p) =
-    subst (λ (d : Board). Preserved false r (unfed d r)) (sym (page-board (r .board) text p)) (quietly i refl refl (λ c. refl))
+carried i (stays {r = r} q) = subst (λ (d : Board). Preserved false r (unfed d r)) (sym (quiet-board q)) (quietly i refl refl (λ c. refl))
 carried i (cuts {r = r} s cache p) =
     quietly
     (record {

@@ -28,7 +28,7 @@ madeAll [] r = r
 madeAll (k ∷ ks) r = madeAll ks (made k r)
 
 -- A call is no cut.
-stays-up : (k : Call) (r : Run) → r .crashed ≡ false → made k r .crashed ≡ false
+pub stays-up : (k : Call) (r : Run) → r .crashed ≡ false → made k r .crashed ≡ false
 unfolding made
 stays-up k r d =
     on (λ (x : Run). x .crashed ≡ false) (eqb (cause k (r .board)) 0) (takenCall k (next k (r .board)) r) (unfed (next k (r .board)) r) (λ t. and-off (r .crashed) (not (isStart (kind k))) d) (λ t. d)

@@ -20,7 +20,6 @@ use Rattle.board.specs.Board.{Board, Shape, shapeOf, shapeIn, cells, row
 use Rattle.board.specs.State.{conditionOf, updates, anyWorker, isRunning}
 use Rattle.board.specs.Causes.{Cause, check, guarded, noCell, causes, firstStanding, cause, badRecord, badRows, laterMark, placePast, notOn, notRecoveringOrRunning, notRunning}
 use Rattle.board.specs.Effects.{effect}
-use Rattle.board.specs.Page.{PageOutcome, PagePerformed}
 use Rattle.board.specs.Machine.{feed}
 use Rattle.board.specs.Sequence.{Run, takenCall}
 use Rattle.board.specs.Locks.{allows}
@@ -265,10 +264,6 @@ module _ (k : Call) (b : Board) {b′ : Board} {number value : ℕ} (p : Perform
   -- The board left where it is not.
   pub performed-refused : (number ≡ 0 → ⊥) → b′ ≡ b
   performed-refused o = ap (λ (o : Outcome). o .board) p ∙ refused-next k b (λ t. o (performed-number ∙ t))
-
--- A page leaves the board as it was.
-pub page-board : (b : Board) (text : List ℕ) {left : List ℕ} {number : ℕ} {b′ : Board} → PagePerformed b text number b′ left → b′ ≡ b
-page-board b text p = ap (λ (o : PageOutcome). o .board) p
 
 -- A call is performed where its outcome is the one it must have.
 pub performing : (k : Call) (b : Board) → Taken k b → {value : ℕ} {b′ : Board} → value ≡ valueOf k b → b′ ≡ next k b → Performed k b 0 value b′

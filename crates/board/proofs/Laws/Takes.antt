@@ -5,7 +5,7 @@ use native.Mathlib.Omega.{arith}
 use Rattle.board.specs.declared.Call.the-variants.{Step}
 use Rattle.board.specs.Board.{Board}
 use Rattle.board.specs.Next.{next}
-use Rattle.board.specs.Sequence.{Takes, finished, steps, between, paged}
+use Rattle.board.specs.Sequence.{Takes, finished, steps, between, stays}
 use Rattle.board.specs.Statements.{stepsFrom, AllTaken}
 use Rattle.board.proofs.Laws.Taken.{performing}
 
@@ -14,7 +14,7 @@ pub takes-none : {n : ℕ} {b b′ : Board} → Takes n b b′ → n ≡ 0 → b
 takes-none finished e = refl
 takes-none (steps p rest) e = absurd (omega arith)
 takes-none (between k p o rest) e = absurd (omega arith)
-takes-none (paged text left p rest) e = absurd (omega arith)
+takes-none (stays q rest) e = absurd (omega arith)
 
 -- Undisturbed steps that are all taken are one way to take them.
 pub all-takes : (n : ℕ) (b : Board) → AllTaken n b → Takes n b (stepsFrom n b)

@@ -21,10 +21,11 @@ use Rattle.board.specs.State.{allFree, conditionOf, conditioned, isFree,
 use Rattle.board.specs.Causes.{causes, badRecord}
 use Rattle.board.specs.Effects.{firstStore, afterLast, advance, advanceOf, effect}
 use Rattle.board.specs.Next.{Taken, Kind, startsFormat, startsRecovery, stepping, writing, counting, other, reading, kind, isStart}
-use Rattle.board.specs.Locks.{FromStart, starts, performs, pages}
+use Rattle.board.specs.Locks.{FromStart, starts, performs, stays}
 use Rattle.predicate.proofs.Bools.{on, split, clash, or-left, and-left, and-both, not-off}
 use Rattle.board.proofs.Laws.Count.{at-each}
-use Rattle.board.proofs.Laws.Taken.{standsAt, passed, of-kind, performed-taken, performed-refused, page-board, eight-within, ByEffect, quiet, theFormat, theRecovery, theStep, theUpdate, theRestart, theAdvance, theRequest, theWriteBack, theGoing, theComing, theTaking, theGiving, by-effect}
+use Rattle.board.proofs.Laws.Taken.{standsAt, passed, of-kind, performed-taken, performed-refused, eight-within, ByEffect, quiet, theFormat, theRecovery, theStep, theUpdate, theRestart, theAdvance, theRequest, theWriteBack, theGoing, theComing, theTaking, theGiving, by-effect}
+use Rattle.board.proofs.Laws.Quiet.{quiet-board}
 use Rattle.board.proofs.Laws.Workers.{is-free, condition-at, condition-other, busy-within, free-condition, released-condition}
 use Rattle.board.proofs.Laws.Locks.{unheld-under, taken-under, given-back-under}
 use Rattle.board.proofs.Invariant.{HeldUnder}
@@ -237,4 +238,4 @@ locks-inv (performs k {number = number} {b = b} f p) =
     split (eqb number 0)
     (λ t. let done = performed-taken k b p (eqb-true number 0 t) in subst (λ (d : Board). LockInv (d .state)) (sym (done .1)) (keeps-locks (by-effect k) b (locks-inv f) (done .0)))
     (λ t. subst (λ (d : Board). LockInv (d .state)) (sym (performed-refused k b p (eqb-false number 0 t))) (locks-inv f))
-locks-inv (pages text left {b = b} f p) = subst (λ (d : Board). LockInv (d .state)) (sym (page-board b text p)) (locks-inv f)
+locks-inv (stays f q) = subst (λ (d : Board). LockInv (d .state)) (sym (quiet-board q)) (locks-inv f)

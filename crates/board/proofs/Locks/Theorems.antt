@@ -26,7 +26,7 @@ use Rattle.board.specs.Page.{pageCauses, pageCause}
 use Rattle.board.specs.Sequence as sequence
 use Rattle.board.specs.Machine.{Machine}
 use Rattle.board.specs.Sequence.{Run, Takes, Begins, History, called, takenCall, unfed}
-use Rattle.board.specs.Locks.{FromStart, starts, performs, pages, NoConflict, LocksHeld, OneHolder, HeldOrFree, StrayHolder, allows, StrayHolders, FreeWorker, NoneUnder, LockAnswers, OnlyHolders, TakesLock, GivesLockBack}
+use Rattle.board.specs.Locks.{FromStart, starts, performs, stays, NoConflict, LocksHeld, OneHolder, HeldOrFree, StrayHolder, allows, StrayHolders, FreeWorker, NoneUnder, LockAnswers, OnlyHolders, TakesLock, GivesLockBack}
 use Rattle.predicate.proofs.Bools.{chosen, passedOver, decide, split, clash, or-left, or-right, or-none, and-both, and-if, not-off, not-on}
 use Rattle.board.proofs.Laws.Taken.{Clear, take, standsAt, passed, performed-number, taken-next, record-within, eight-within, ByEffect, quiet, theFormat, theRecovery, theStep, theUpdate, theRestart, theAdvance, theRequest, theWriteBack, theGoing, theComing, theTaking, theGiving, by-effect}
 use Rattle.board.proofs.Laws.Workers.{is-free}
@@ -124,7 +124,7 @@ from-takes : {n : ℕ} {b b′ : Board} → FromStart b → Takes n b b′ → F
 from-takes f sequence.finished = f
 from-takes f (sequence.steps p t) = from-takes (performs _ f p) t
 from-takes f (sequence.between k p a t) = from-takes (performs k f p) t
-from-takes f (sequence.paged text left p t) = from-takes (pages text left f p) t
+from-takes f (sequence.stays q t) = from-takes (stays f q) t
 
 -- The beginning of a history.
 from-begins : {b : Board} {m : Machine} → Begins b m → FromStart b
@@ -146,7 +146,7 @@ from-call r k number value b before p a =
 from-history : (r : Run) → History r → r .crashed ≡ false → FromStart (r .board)
 from-history r (sequence.begun h) d = from-begins h
 from-history r (sequence.further {r = q} h (sequence.performs k number value b p a)) d = from-call q k number value b (λ c. from-history q h c) p a d
-from-history r (sequence.further {r = q} h (sequence.pages text left number b p)) d = pages text left (from-history q h d) p
+from-history r (sequence.further {r = q} h (sequence.stays x)) d = stays (from-history q h d) x
 from-history r (sequence.further h (sequence.cuts s cache p)) d = absurd (true≢false d)
 
 -- ---- when a call is taken

@@ -10,22 +10,23 @@ use Rattle.board.specs.declared.Phase.{Phase}
 use Rattle.board.specs.declared.Phase.the-variants.{Recovering, Running}
 use Rattle.board.specs.declared.Call.{Call}
 use Rattle.board.specs.declared.Call.the-variants.{RecoveryStart, Step, WriteBack, Read}
-use Rattle.board.specs.Board.{Board, Shape, shapeOf, cells, workersOf}
-use Rattle.board.specs.Location.{Location, cell, stops}
+use Rattle.board.specs.Board.{Board, Shape, shapeOf, shapeIn, cells, workersOf}
+use Rattle.board.specs.Location.{Location, cell, undo, stops}
 use Rattle.board.specs.State.{isRunning}
 use Rattle.board.specs.Effects.{effect}
 use Rattle.board.specs.Next.{Taken, valueRead, Kind, startsFormat, startsRecovery, stepping, writing, counting, other, reading, kind, isStart, isStep}
-use Rattle.board.specs.Machine.{Machine, feed, stepped, finishesFormat, beginning, counted, completed, checkpointStep, writeBackSeen, markedCount}
-use Rattle.board.specs.Sequence.{Run, Takes, finished, steps, between, paged, recoverySteps}
+use Rattle.board.specs.Machine.{Machine, feed, stepped, finishesFormat, beginning, recoveryBeginning, counted, completed, checkpointStep, writeBackSeen, markedCount}
+use Rattle.board.specs.Sequence.{Run, opening, Takes, finished, steps, between, stays, recoverySteps}
 use Rattle.board.specs.Statements.{Recovered, SameBoard, Completes}
 use Rattle.predicate.proofs.Bools.{on, split, clash, and-off, and-off-right, passedOver}
 use Rattle.board.proofs.Laws.Takes.{takes-none}
 use Rattle.board.proofs.Invariant.{Inv, RecoveryInv, RecoveryMachine}
-use Rattle.board.proofs.Laws.Taken.{phaseBars, phase-passed, of-kind, performed-taken, performed-refused, page-board, afterTaken}
+use Rattle.board.proofs.Laws.Taken.{phaseBars, phase-passed, of-kind, performed-taken, performed-refused, afterTaken}
+use Rattle.board.proofs.Laws.Quiet.{quiet-board}
 use Rattle.board.proofs.Checkpoint.Run.{Preserved}
 use Rattle.board.proofs.Laws.Reading.{in-phase, read-taken, read-current}
 use Rattle.board.proofs.Recovery.Count.{remaining, remaining-start, remaining-step, remaining-positive}
-use Rattle.board.proofs.Keeps.RecoveryStart.{keeps-recovery-start}
+use Rattle.board.proofs.Keeps.RecoveryStart.{keeps-recovery-start, recovery-begins}
 use Rattle.board.proofs.Keeps.RecoveryStep.{carried-recovery-step}
 use Rattle.board.proofs.Keeps.WriteBack.{carried-write-back}
 
@@ -177,7 +178,7 @@ module _ (σ : Shape) (w : ℕ) (xs : Location → ℕ) where
       let taken = performed-taken k b p z in
       to-the-end rest (afterTaken k r) (ap (effect k) e ∙ sym (taken .1)) (goes-on (suc n) k r u (subst (Taken k) (sym e) (taken .0)) (f z)))
       (λ t. to-the-end rest r (e ∙ sym (performed-refused k b p (eqb-false number 0 t))) u)
-  to-the-end (paged text left {b = b} p rest) r e u = to-the-end rest r (e ∙ sym (page-board b text p)) u
+  to-the-end (stays q rest) r e u = to-the-end rest r (e ∙ sym (quiet-board q)) u
 
 pub phase-start : (b : Board) → effect RecoveryStart b .state .phase ≡ Recovering
 unfolding effect
@@ -203,3 +204,15 @@ pub recovers : (r : Run) → Inv r → (b : Board) → Recovered r b → Recover
 recovers r i b e =
     let (t, same) = performed-taken RecoveryStart (r .board) (e .begun) refl in
     to-the-end (r .machine .shape) (workersOf (r .board .memory)) (r .machine .checkpointed) (e .ended) (afterTaken RecoveryStart r) (sym same) (started r i t)
+
+-- It reads the undo of the memory that its start took, whatever the run was before.
+pub recovers-taken : (r : Run) (b : Board) → Recovered r b →
+    RecoveryDone (shapeIn (r .board .memory)) (workersOf (r .board .memory)) (undo (r .board .memory)) b
+unfolding effect
+recovers-taken r b e =
+    let d = r .board in
+    let σ = shapeIn (d .memory) in
+    let values = undo (d .memory) in
+    let (t, same) = performed-taken RecoveryStart d (e .begun) refl in
+    to-the-end σ (workersOf (d .memory)) values (e .ended) (opening (effect RecoveryStart d) (recoveryBeginning σ values)) (sym same)
+    (record { inv = recovery-begins d t; uncut = refl; phase = refl; left = remaining-start d; shape = refl; workers = refl; values = λ c. refl })

@@ -1,0 +1,3 @@
+-- `Statements` says what is claimed of HEX text; the text itself is `Hex` of crate `board`. `Storing` has what only private functions' contracts cite.
+pub mod Statements
+pub mod Storing

@@ -1,0 +1,26 @@
+-- What the contracts of the private functions that look a text through and store its words cite.
+use Prim.Native.Nat.{ℕ, _+_, _*_, _/_, _^_}
+use mathlib.Core.List.{List, [], _∷_}
+use mathlib.Core.Bool.{cond}
+use mathlib.Core.Path.{_≡_}
+use lib.ListN.{length, getD, set}
+use Rattle.board.specs.Hex.{file, countOf, hasData, hasEnd, parsed}
+
+-- What stands at a text's front: 0 for the end record, else how many bytes the data record there has, 256 where there is neither.
+unfoldable pub frontOf : ℕ → List ℕ → ℕ
+frontOf address text = cond (hasEnd text) 0 (cond (hasData address text) (countOf text) 256)
+
+-- A byte shifted into a word from above: after eight of them nothing of the old word is left.
+abbrev pub shiftedIn : ℕ → ℕ → ℕ
+shiftedIn w b = w / 256 + b * 2 ^ 56
+
+-- A row with bytes shifted into its words, the first of them into the word that has byte `at`.
+unfoldable pub stored : List ℕ → ℕ → List ℕ → List ℕ
+stored row at [] = row
+stored row at (b ∷ bs) = stored (set row (at / 8) (shiftedIn (getD row (at / 8) 0) b)) (at + 1) bs
+
+-- The text is a file of just as many bytes as the row has.
+pub record Filling (text row : List ℕ) : Type 0 where
+  pub bytes : List ℕ
+  pub parses : parsed text ≡ file bytes
+  pub fills : length bytes ≡ 8 * length row
