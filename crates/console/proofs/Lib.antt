@@ -8,3 +8,4 @@ pub mod Theorems
 pub mod Sample
 pub mod Recovered
 pub mod Displays
+pub mod AlwaysShown
