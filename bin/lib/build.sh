@@ -29,14 +29,14 @@ built() { # CRATE..
 # The programs that are built together with one: what a script can be run through is built at once.
 together() { # CRATE
   case $1 in
-    drill | fault | print_page) echo drill fault print_page ;;
+    drill | fault | print_page | print_hex | show_hex) echo drill fault print_page print_hex show_hex ;;
     *) echo "$1" ;;
   esac
 }
 
-# Programs as a user calls them, in words: the crate print_page is behind bin/page.
+# Programs as a user calls them, in words: the crate print_page is behind bin/page, print_hex and show_hex behind bin/hex.
 as_called() { # CRATE..
-  echo "$*" | sed -e 's/print_page/page/' -e 's/ /, /g' -e 's/, \([^ ]*\)$/ and \1/'
+  echo "$*" | sed -e 's/print_page/page/' -e 's/print_hex show_hex/hex/' -e 's/ /, /g' -e 's/, \([^ ]*\)$/ and \1/'
 }
 
 # Waits until no other build works in this tree, and keeps others out until descriptor 9 is closed.

@@ -8,7 +8,6 @@ use lib.Dec.{eqb}
 use lib.ListN.{length, take, getD}
 use lib.Seq.{getD-take}
 use Rattle.predicate.proofs.Bools.{on, chosen, passedOver}
-use Rattle.board.specs.Board.{Board}
 use Rattle.script.specs.declared.Line.{Line}
 use Rattle.script.specs.Grammar.{meaning}
 use Rattle.script.specs.declared.Reason.{Reason}
@@ -25,7 +24,7 @@ use Rattle.console.specs.declared.answers.LineAsked.{LineAsked}
 use Rattle.console.specs.declared.answers.Misread.{Misread}
 use Rattle.console.specs.declared.answers.Ongoing.{Ongoing}
 use Rattle.session.specs.declared.Session.{Session}
-use Rattle.session.specs.Session.{Within}
+use Rattle.session.specs.Session.{Desk, Within}
 use Rattle.session.specs.Lines.{Done, carriedOut}
 use Rattle.console.specs.Transcript.{following, lineText, misread, tallied}
 use Rattle.console.specs.Pieces.{Carried, carried, Fed, leaving, ended, afterLine, Ready, LineRead, LineEnds}
@@ -41,30 +40,30 @@ tallied-why m number w v shown.Unknown same =
 tallied-why m number w v shown.Nothing same = refl
 tallied-why m number w v (shown.Number x) same = refl
 
-module _ (program : Program) (b : Board) (n : ℕ) (m : Misread) (text : List ℕ) (number letter : ℕ) (k : Line) (why : ℕ) (d : Done)
+module _ (program : Program) (desk : Desk) (n : ℕ) (m : Misread) (text : List ℕ) (number letter : ℕ) (k : Line) (why : ℕ) (d : Done)
     (counts : number ≡ following n) (means : k ≡ meaning program text)
-    (reasons : eqb (m .lines) 0 ≡ true → why ≡ reasonNumber (reason program text (meaning program text))) (did : d ≡ carriedOut k b) where
+    (reasons : eqb (m .lines) 0 ≡ true → why ≡ reasonNumber (reason program text (meaning program text))) (did : d ≡ carriedOut k desk) where
   -- The text of an answer whose parts are the line's.
-  line-text : letter ≡ letterOf (getD text 0 0) (d .answer) → answerText number letter (d .answer) (d .value) ≡ lineText program (following n) b text
+  line-text : letter ≡ letterOf (getD text 0 0) (d .answer) → answerText number letter (d .answer) (d .value) ≡ lineText program (following n) desk text
   line-text heads =
       ap (λ (x : ℕ). answerText x letter (d .answer) (d .value)) counts
       ∙ ap (λ (x : ℕ). answerText (following n) x (d .answer) (d .value)) heads
-      ∙ ap (λ (x : Done). answerText (following n) (letterOf (getD text 0 0) (x .answer)) (x .answer) (x .value)) (did ∙ ap (λ (x : Line). carriedOut x b) means)
+      ∙ ap (λ (x : Done). answerText (following n) (letterOf (getD text 0 0) (x .answer)) (x .answer) (x .value)) (did ∙ ap (λ (x : Line). carriedOut x desk) means)
 
   -- What a line leaves.
-  line-leaves : carried (d .board) number (tallied m number why (d .answer)) [] ≡ ended program (carried b n m text) .after
+  line-leaves : carried (d .desk) number (tallied m number why (d .answer)) [] ≡ ended program (carried desk n m text) .after
   line-leaves =
-      let same : d ≡ carriedOut (meaning program text) b = did ∙ ap (λ (x : Line). carriedOut x b) means in
-      ap (λ (x : Done). carried (x .board) number (tallied m number why (x .answer)) []) same
-      ∙ ap (λ (x : ℕ). carried (carriedOut (meaning program text) b .board) x (tallied m x why (carriedOut (meaning program text) b .answer)) [])
+      let same : d ≡ carriedOut (meaning program text) desk = did ∙ ap (λ (x : Line). carriedOut x desk) means in
+      ap (λ (x : Done). carried (x .desk) number (tallied m number why (x .answer)) []) same
+      ∙ ap (λ (x : ℕ). carried (carriedOut (meaning program text) desk .desk) x (tallied m x why (carriedOut (meaning program text) desk .answer)) [])
       counts
-      ∙ ap (λ (x : Misread). carried (carriedOut (meaning program text) b .board) (following n) x [])
-      (tallied-why m (following n) why (reasonNumber (reason program text (meaning program text))) (carriedOut (meaning program text) b .answer) reasons)
+      ∙ ap (λ (x : Misread). carried (carriedOut (meaning program text) desk .desk) (following n) x [])
+      (tallied-why m (following n) why (reasonNumber (reason program text (meaning program text))) (carriedOut (meaning program text) desk .answer) reasons)
 
   -- A line's end, once its answer is written behind the others.
   pub line-ends : letter ≡ letterOf (getD text 0 0) (d .answer) → {out written : List ℕ} {at end : ℕ} →
       Put out at (answerText number letter (d .answer) (d .value)) written end → end ≤ at + 65 → at + 80 ≤ length out →
-      LineEnds (ended program (carried b n m text)) (carried (d .board) number (tallied m number why (d .answer)) []) out at written end
+      LineEnds (ended program (carried desk n m text)) (carried (d .desk) number (tallied m number why (d .answer)) []) out at written end
   line-ends heads {out} {written} {at} {end} puts short room =
       record {
         leaves = line-leaves;
@@ -92,16 +91,16 @@ reads-kept {program} {wanted} {text} {asked} r =
     }
 
 -- A line's end by its first 80 bytes.
-pub ended-kept : (program : Program) (b : Board) (n : ℕ) (m : Misread) (text : List ℕ) →
-    ended program (carried b n m (take 80 text)) ≡ ended program (carried b n m text)
-ended-kept program b n m text =
+pub ended-kept : (program : Program) (desk : Desk) (n : ℕ) (m : Misread) (text : List ℕ) →
+    ended program (carried desk n m (take 80 text)) ≡ ended program (carried desk n m text)
+ended-kept program desk n m text =
     let end : ℕ → ℕ → Done → Fed =
-    λ letter why d. leaving (carried (d .board) (following n) (tallied m (following n) why (d .answer)) [])
+    λ letter why d. leaving (carried (d .desk) (following n) (tallied m (following n) why (d .answer)) [])
     (answerText (following n) letter (d .answer) (d .value)) in
-    let d = carriedOut (meaning program text) b in
+    let d = carriedOut (meaning program text) desk in
     let why = reasonNumber (reason program text (meaning program text)) in
     let kept = reasonNumber (reason program (take 80 text) (meaning program (take 80 text))) in
-    ap (λ (k : Line). end (letterOf (getD (take 80 text) 0 0) (carriedOut k b .answer)) kept (carriedOut k b)) (meaning-kept program text)
+    ap (λ (k : Line). end (letterOf (getD (take 80 text) 0 0) (carriedOut k desk .answer)) kept (carriedOut k desk)) (meaning-kept program text)
     ∙ ap (λ (r : ℕ). end (letterOf (getD (take 80 text) 0 0) (d .answer)) r d) (reason-of-kept program text)
     ∙ ap (λ (first : ℕ). end (letterOf first (d .answer)) why d) (getD-take 80 text 0 0 (omega arith))
 

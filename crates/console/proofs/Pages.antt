@@ -24,12 +24,12 @@ cause-by-length b s t e =
     ap (λ (n : ℕ). firstStanding (guarded (notRunning b) b (check 12 (ltb n (pageBytes (shapeOf (b .state)))) ∷ []))) e
 
 -- The row that is lent has the largest page's length.
-largest-size : length largestRow ≡ pageBytes (shaped 511)
+pub largest-size : length largestRow ≡ pageBytes (shaped 511)
 unfolding largestRow
 largest-size = length-replicate {A = ℕ} (pageBytes (shaped 511)) 0
 
 -- A record that is not bad has its lines within the limits.
-lines-fine : (b : Board) → badRecord (b .state) ≡ false → b .state .lines ≤ 511
+pub lines-fine : (b : Board) → badRecord (b .state) ≡ false → b .state .lines ≤ 511
 unfolding badRecord
 lines-fine b e =
     let s = b .state in

@@ -15,7 +15,7 @@ use Rattle.script.specs.declared.Program.{Program}
 use Rattle.session.specs.declared.Session.{Session}
 use Rattle.console.specs.declared.answers.Misread.{Misread}
 use Rattle.console.specs.declared.answers.Ongoing.{Ongoing}
-use Rattle.session.specs.Session.{boardOf}
+use Rattle.session.specs.Session.{deskOf}
 use Rattle.console.specs.Pieces.{Carried, carried, Fed, leaving, kept, ended, byteFed, andThen, fed, finished, carriedBy, Ready, LineEnds, Stops}
 
 -- ---- the bytes kept of a line
@@ -29,7 +29,7 @@ take-again (suc n) (a ∷ u) z = ap (λ (l : List ℕ). a ∷ l) (take-again n u
 -- Bytes kept one after the other.
 kept-kept : (p : Carried) (x y : List ℕ) → kept (kept p x) y ≡ kept p (x ++ y)
 kept-kept p x y =
-    ap (carried (p .board) (p .number) (p .misread)) (take-again 80 (p .begun ++ x) y ∙ ap (take 80) (append-assoc (p .begun) x y))
+    ap (carried (p .desk) (p .number) (p .misread)) (take-again 80 (p .begun ++ x) y ∙ ap (take 80) (append-assoc (p .begun) x y))
 
 -- At most 80 bytes are kept of a line that goes on.
 kept-short : (p : Carried) (x : List ℕ) → length (kept p x .begun) ≤ 80
@@ -37,7 +37,7 @@ kept-short p x = omega (arith, length-take 80 (p .begun ++ x))
 
 -- No bytes more.
 pub kept-none : (p : Carried) → length (p .begun) ≤ 80 → kept p [] ≡ p
-kept-none p h = ap (carried (p .board) (p .number) (p .misread)) (ap (take 80) (append-nil (p .begun)) ∙ take-all 80 (p .begun) h)
+kept-none p h = ap (carried (p .desk) (p .number) (p .misread)) (ap (take 80) (append-nil (p .begun)) ∙ take-all 80 (p .begun) h)
 
 -- ---- pieces
 
@@ -144,14 +144,14 @@ used-more program first reached after piece used more so-far fits e =
     ∙ sym (ap (λ (f : Fed). f .after) (ap (fed program first) (take-add used more piece) ∙ fed-append program first (take used piece) (take more rest)))
 
 -- What is carried once more bytes of a line are kept.
-pub kept-by : (k p : Ongoing) (m c line after rest : List ℕ) →
+pub kept-by : (k p : Ongoing) (m c t line after rest : List ℕ) →
     (k .session ≡ p .session) × (k .number ≡ p .number) × (k .misread ≡ p .misread) × (take (k .begun) after ≡ take 80 (take (p .begun) line ++ rest)) →
-    carriedBy k m c after ≡ kept (carriedBy p m c line) rest
-kept-by k p m c line after rest w =
-    ap (λ (s : Session). carried (boardOf s m c) (k .number) (k .misread) (take (k .begun) after)) (w .0)
-    ∙ ap (λ (n : ℕ). carried (boardOf (p .session) m c) n (k .misread) (take (k .begun) after)) (w .1)
-    ∙ ap (λ (x : Misread). carried (boardOf (p .session) m c) (p .number) x (take (k .begun) after)) (w .2)
-    ∙ ap (carried (boardOf (p .session) m c) (p .number) (p .misread)) (w .3)
+    carriedBy k m c t after ≡ kept (carriedBy p m c t line) rest
+kept-by k p m c t line after rest w =
+    ap (λ (s : Session). carried (deskOf s m c t) (k .number) (k .misread) (take (k .begun) after)) (w .0)
+    ∙ ap (λ (n : ℕ). carried (deskOf (p .session) m c t) n (k .misread) (take (k .begun) after)) (w .1)
+    ∙ ap (λ (x : Misread). carried (deskOf (p .session) m c t) (p .number) x (take (k .begun) after)) (w .2)
+    ∙ ap (carried (deskOf (p .session) m c t) (p .number) (p .misread)) (w .3)
 
 -- At most 80 bytes are kept.
 pub begun-short : {p : Ongoing} → Ready p → (line : List ℕ) → length (take (p .begun) line) ≤ 80
@@ -160,19 +160,19 @@ begun-short {p} r line = omega (arith, r .line-within, length-take (p .begun) li
 -- ---- after the input
 
 -- No line is begun.
-pub none-last : (program : Program) (p : Ongoing) (m c line : List ℕ) → p .begun ≡ 0 →
-    leaving (carriedBy p m c line) [] ≡ finished program (carriedBy p m c line)
-none-last program p m c line z =
+pub none-last : (program : Program) (p : Ongoing) (m c t line : List ℕ) → p .begun ≡ 0 →
+    leaving (carriedBy p m c t line) [] ≡ finished program (carriedBy p m c t line)
+none-last program p m c t line z =
     let none : length (take (p .begun) line) ≡ 0 = ap (λ (k : ℕ). length (take k line)) z in
     sym (chosen (eqb (length (take (p .begun) line)) 0) _ _ (eq-eqb _ 0 none))
 
 -- The line begun ends by the line feed that it lacks.
-pub line-last : (program : Program) (p : Ongoing) (m c line : List ℕ) → Ready p → length line ≡ 80 → (p .begun ≡ 0 → ⊥) →
-    {f : Fed} {used written : ℕ} → f ≡ fed program (carriedBy p m c line) (take used (feed ∷ [])) → Stops (feed ∷ []) used written →
-    f ≡ finished program (carriedBy p m c line)
+pub line-last : (program : Program) (p : Ongoing) (m c t line : List ℕ) → Ready p → length line ≡ 80 → (p .begun ≡ 0 → ⊥) →
+    {f : Fed} {used written : ℕ} → f ≡ fed program (carriedBy p m c t line) (take used (feed ∷ [])) → Stops (feed ∷ []) used written →
+    f ≡ finished program (carriedBy p m c t line)
 unfolding fed
-line-last program p m c line r size some {f} {used} {written} e′ stops =
-    let from = carriedBy p m c line in
+line-last program p m c t line r size some {f} {used} {written} e′ stops =
+    let from = carriedBy p m c t line in
     let begun : length (take (p .begun) line) ≡ p .begun = length-take-le (p .begun) line (omega (arith, r .line-within)) in
     let whole : used ≡ 1 = omega (arith, stops .used-within, stops .goes-on (omega arith)) in
     e′

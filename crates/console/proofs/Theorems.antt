@@ -13,15 +13,15 @@ use Rattle.text.specs.Ascii.{feed}
 use Rattle.script.specs.Grammar.{joined, meaning}
 use Rattle.script.specs.Answers.{headerText}
 use Rattle.script.specs.declared.Program.{Program}
-use Rattle.script.specs.declared.Program.the-variants.{Drill, Page}
+use Rattle.script.specs.declared.Program.the-variants.{Drill, Page, Hex}
 use Rattle.script.specs.declared.Line.{Line}
-use Rattle.script.proofs.NumberLaws.{meaning-page}
-use Rattle.session.specs.Session.{firstBoard}
+use Rattle.script.proofs.NumberLaws.{meaning-page, meaning-hex}
+use Rattle.session.specs.Session.{Desk, firstDesk}
 use Rattle.session.specs.Lines.{carriedOut}
 use Rattle.console.specs.declared.answers.Misread.{Misread}
-use Rattle.console.specs.Transcript.{linesOf, following, lineText, answers, boardAfter, noneMisread, lineTallied, misreadAfter}
+use Rattle.console.specs.Transcript.{linesOf, following, lineText, answers, deskAfter, lastBoard, noneMisread, lineTallied, misreadAfter}
 use Rattle.console.specs.Pieces.{Carried, carried, first, Fed, leaving, kept, ended, andThen, fed, finished, fedAll, AnyPieces, AnyPiecesBoard, AnyPiecesMisread}
-use Rattle.console.specs.Printing.{printedOf, AnyPiecesPrinted, BoardOfDrill}
+use Rattle.console.specs.Printing.{printedOf, hexPrintedOf, AnyPiecesPrinted, AnyPiecesHexPrinted, BoardOfDrill}
 use Rattle.console.proofs.LineEnds.{ended-kept}
 use Rattle.console.proofs.Pieces.{take-again, fed-append}
 
@@ -60,80 +60,80 @@ closed program f = andThen f (finished program (f .after))
 then-then : (f g h : Fed) → andThen (andThen f g) h ≡ andThen f (andThen g h)
 then-then f g h = ap (leaving (h .after)) (append-assoc (f .text) (g .text) (h .text))
 
--- What whole lines leave and have written, each on the board that the one before it left.
-unfoldable linesFed : Program → ℕ → Board → Misread → List (List ℕ) → Fed
-linesFed program n b m [] = leaving (carried b n m []) []
-linesFed program n b m (line ∷ more) =
-    andThen (ended program (carried b n m line))
-    (linesFed program (following n) (carriedOut (meaning program line) b .board) (lineTallied program n b m line) more)
+-- What whole lines leave and have written, each on what the one before it left.
+unfoldable linesFed : Program → ℕ → Desk → Misread → List (List ℕ) → Fed
+linesFed program n d m [] = leaving (carried d n m []) []
+linesFed program n d m (line ∷ more) =
+    andThen (ended program (carried d n m line))
+    (linesFed program (following n) (carriedOut (meaning program line) d .desk) (lineTallied program n d m line) more)
 
 -- They have the answers written.
-lines-text : (program : Program) (n : ℕ) (b : Board) (m : Misread) (ls : List (List ℕ)) → linesFed program n b m ls .text ≡ answers program n b ls
+lines-text : (program : Program) (n : ℕ) (d : Desk) (m : Misread) (ls : List (List ℕ)) → linesFed program n d m ls .text ≡ answers program n d ls
 unfolding linesFed answers
-lines-text program n b m [] = refl
-lines-text program n b m (line ∷ more) =
-    ap (λ (t : List ℕ). lineText program (following n) b line ++ t)
-    (lines-text program (following n) (carriedOut (meaning program line) b .board) (lineTallied program n b m line) more)
+lines-text program n d m [] = refl
+lines-text program n d m (line ∷ more) =
+    ap (λ (t : List ℕ). lineText program (following n) d line ++ t)
+    (lines-text program (following n) (carriedOut (meaning program line) d .desk) (lineTallied program n d m line) more)
 
--- They leave the board after them.
-lines-board : (program : Program) (n : ℕ) (b : Board) (m : Misread) (ls : List (List ℕ)) → linesFed program n b m ls .after .board ≡ boardAfter program b ls
-unfolding linesFed boardAfter
-lines-board program n b m [] = refl
-lines-board program n b m (line ∷ more) =
-    lines-board program (following n) (carriedOut (meaning program line) b .board) (lineTallied program n b m line) more
+-- They leave the board and the text after them.
+lines-desk : (program : Program) (n : ℕ) (d : Desk) (m : Misread) (ls : List (List ℕ)) → linesFed program n d m ls .after .desk ≡ deskAfter program d ls
+unfolding linesFed deskAfter
+lines-desk program n d m [] = refl
+lines-desk program n d m (line ∷ more) =
+    lines-desk program (following n) (carriedOut (meaning program line) d .desk) (lineTallied program n d m line) more
 
 -- They leave those tallied that are answered `?`.
-lines-misread : (program : Program) (n : ℕ) (b : Board) (m : Misread) (ls : List (List ℕ)) →
-    linesFed program n b m ls .after .misread ≡ misreadAfter program n b m ls
+lines-misread : (program : Program) (n : ℕ) (d : Desk) (m : Misread) (ls : List (List ℕ)) →
+    linesFed program n d m ls .after .misread ≡ misreadAfter program n d m ls
 unfolding linesFed misreadAfter
-lines-misread program n b m [] = refl
-lines-misread program n b m (line ∷ more) =
-    lines-misread program (following n) (carriedOut (meaning program line) b .board) (lineTallied program n b m line) more
+lines-misread program n d m [] = refl
+lines-misread program n d m (line ∷ more) =
+    lines-misread program (following n) (carriedOut (meaning program line) d .desk) (lineTallied program n d m line) more
 
 -- Of a line that has a byte, a byte is kept.
 some-kept : (n c : ℕ) (u : List ℕ) → length (take (suc n) (c ∷ u)) ≡ 0 → ⊥
 some-kept n c u z = omega arith
 
 -- The line begun, whole, is the last one.
-last-line : (program : Program) (b : Board) (n : ℕ) (m : Misread) (u : List ℕ) → finished program (carried b n m (take 80 u)) ≡ linesFed program n b m (onto u [])
+last-line : (program : Program) (d : Desk) (n : ℕ) (m : Misread) (u : List ℕ) → finished program (carried d n m (take 80 u)) ≡ linesFed program n d m (onto u [])
 unfolding linesFed onto
-last-line program b n m [] = refl
-last-line program b n m (c ∷ u) =
-    let whole = ended program (carried b n m (c ∷ u)) in
+last-line program d n m [] = refl
+last-line program d n m (c ∷ u) =
+    let whole = ended program (carried d n m (c ∷ u)) in
     passedOver (eqb (length (take 80 (c ∷ u))) 0) _ _ (ne-eqb (length (take 80 (c ∷ u))) 0 (some-kept 79 c u))
-    ∙ ended-kept program b n m (c ∷ u)
+    ∙ ended-kept program d n m (c ∷ u)
     ∙ ap (leaving (whole .after)) (sym (append-nil (whole .text)))
-    ∙ sym (ap (linesFed program n b m) (onto-none c u))
+    ∙ sym (ap (linesFed program n d m) (onto-none c u))
 
 -- What is left and written, and then what is to more input.
 abbrev onward : Program → List ℕ → Fed → Fed
 onward program more f = andThen f (fed program (f .after) more)
 
-module _ (program : Program) (b : Board) (n : ℕ) (m : Misread) (u : List ℕ) (c : ℕ) (cs : List ℕ) where
+module _ (program : Program) (d : Desk) (n : ℕ) (m : Misread) (u : List ℕ) (c : ℕ) (cs : List ℕ) where
   -- What is claimed of a byte that is a line feed or not, and the input after it.
   abbrev Byte : Bool → Type 0
   Byte t =
-      closed program (onward program cs (cond t (ended program (carried b n m (take 80 u))) (leaving (kept (carried b n m (take 80 u)) (c ∷ [])) []))) ≡
-      linesFed program n b m (onto u (cond t ([] ∷ linesOf cs) (joined c (linesOf cs))))
+      closed program (onward program cs (cond t (ended program (carried d n m (take 80 u))) (leaving (kept (carried d n m (take 80 u)) (c ∷ [])) []))) ≡
+      linesFed program n d m (onto u (cond t ([] ∷ linesOf cs) (joined c (linesOf cs))))
 
   -- A line feed ends the line begun.
-  at-feed : closed program (fed program (ended program (carried b n m u) .after) cs) ≡ linesFed program (following n) (carriedOut (meaning program u) b .board) (lineTallied program n b m u) (linesOf cs) →
+  at-feed : closed program (fed program (ended program (carried d n m u) .after) cs) ≡ linesFed program (following n) (carriedOut (meaning program u) d .desk) (lineTallied program n d m u) (linesOf cs) →
       Byte true
   unfolding linesFed
   at-feed again =
-      let line = ended program (carried b n m u) in
+      let line = ended program (carried d n m u) in
       let more = fed program (line .after) cs in
-      ap (λ (f : Fed). closed program (onward program cs f)) (ended-kept program b n m u)
+      ap (λ (f : Fed). closed program (onward program cs f)) (ended-kept program d n m u)
       ∙ then-then line more (finished program (more .after))
       ∙ ap (andThen line) again
-      ∙ sym (ap (linesFed program n b m) (onto-line u [] (linesOf cs) ∙ ap (λ (l : List ℕ). l ∷ linesOf cs) (append-nil u)))
+      ∙ sym (ap (linesFed program n d m) (onto-line u [] (linesOf cs) ∙ ap (λ (l : List ℕ). l ∷ linesOf cs) (append-nil u)))
 
   -- Any other byte goes on the line begun.
-  inside : closed program (fed program (carried b n m (take 80 (u ++ (c ∷ [])))) cs) ≡ linesFed program n b m (onto (u ++ (c ∷ [])) (linesOf cs)) → Byte false
+  inside : closed program (fed program (carried d n m (take 80 (u ++ (c ∷ [])))) cs) ≡ linesFed program n d m (onto (u ++ (c ∷ [])) (linesOf cs)) → Byte false
   inside again =
-      ap (λ (l : List ℕ). closed program (fed program (carried b n m l) cs)) (take-again 80 u (c ∷ []))
+      ap (λ (l : List ℕ). closed program (fed program (carried d n m l) cs)) (take-again 80 u (c ∷ []))
       ∙ again
-      ∙ ap (linesFed program n b m) (onto-more u c (linesOf cs))
+      ∙ ap (linesFed program n d m) (onto-more u c (linesOf cs))
 
   -- One of the two.
   either : (t : Bool) → Byte true → Byte false → Byte t
@@ -141,14 +141,14 @@ module _ (program : Program) (b : Board) (n : ℕ) (m : Misread) (u : List ℕ) 
   either false feeds goes-on = goes-on
 
 -- A piece and the input's end do what its lines do, the first of which goes on the line begun.
-closed-fed : (program : Program) (b : Board) (n : ℕ) (m : Misread) (u x : List ℕ) →
-    closed program (fed program (carried b n m (take 80 u)) x) ≡ linesFed program n b m (onto u (linesOf x))
+closed-fed : (program : Program) (d : Desk) (n : ℕ) (m : Misread) (u x : List ℕ) →
+    closed program (fed program (carried d n m (take 80 u)) x) ≡ linesFed program n d m (onto u (linesOf x))
 unfolding fed linesOf onto
-closed-fed program b n m u [] = last-line program b n m u
-closed-fed program b n m u (c ∷ cs) =
-    either program b n m u c cs (eqb c feed)
-    (at-feed program b n m u c cs (closed-fed program (carriedOut (meaning program u) b .board) (following n) (lineTallied program n b m u) [] cs))
-    (inside program b n m u c cs (closed-fed program b n m (u ++ (c ∷ [])) cs))
+closed-fed program d n m u [] = last-line program d n m u
+closed-fed program d n m u (c ∷ cs) =
+    either program d n m u c cs (eqb c feed)
+    (at-feed program d n m u c cs (closed-fed program (carriedOut (meaning program u) d .desk) (following n) (lineTallied program n d m u) [] cs))
+    (inside program d n m u c cs (closed-fed program d n m (u ++ (c ∷ [])) cs))
 
 -- ---- pieces
 
@@ -164,39 +164,48 @@ all-whole program p (x ∷ xs) =
     ∙ sym (ap (closed program) (fed-append program p x (flatten xs)))
 
 -- The pieces of an input do what its lines do.
-all-lines : (program : Program) (pieces : List (List ℕ)) → fedAll program first pieces ≡ linesFed program 0 firstBoard noneMisread (linesOf (flatten pieces))
+all-lines : (program : Program) (pieces : List (List ℕ)) → fedAll program first pieces ≡ linesFed program 0 firstDesk noneMisread (linesOf (flatten pieces))
 unfolding onto
-all-lines program pieces = all-whole program first pieces ∙ closed-fed program firstBoard 0 noneMisread [] (flatten pieces)
+all-lines program pieces = all-whole program first pieces ∙ closed-fed program firstDesk 0 noneMisread [] (flatten pieces)
 
 -- What is written is the transcript, however the input is cut.
 pub any-pieces : AnyPieces
 any-pieces program pieces =
     ap (λ (f : Fed). headerText ++ f .text) (all-lines program pieces)
-    ∙ ap (λ (t : List ℕ). headerText ++ t) (lines-text program 0 firstBoard noneMisread (linesOf (flatten pieces)))
+    ∙ ap (λ (t : List ℕ). headerText ++ t) (lines-text program 0 firstDesk noneMisread (linesOf (flatten pieces)))
 
 -- The board left is the whole input's, however it is cut.
 pub any-pieces-board : AnyPiecesBoard
 any-pieces-board program pieces =
-    ap (λ (f : Fed). f .after .board) (all-lines program pieces) ∙ lines-board program 0 firstBoard noneMisread (linesOf (flatten pieces))
+    ap (λ (f : Fed). f .after .desk .board) (all-lines program pieces)
+    ∙ ap (λ (d : Desk). d .board) (lines-desk program 0 firstDesk noneMisread (linesOf (flatten pieces)))
 
 -- The lines tallied are the whole input's, however it is cut.
 pub any-pieces-misread : AnyPiecesMisread
 any-pieces-misread program pieces =
-    ap (λ (f : Fed). f .after .misread) (all-lines program pieces) ∙ lines-misread program 0 firstBoard noneMisread (linesOf (flatten pieces))
+    ap (λ (f : Fed). f .after .misread) (all-lines program pieces) ∙ lines-misread program 0 firstDesk noneMisread (linesOf (flatten pieces))
 
--- ---- the page program
+-- ---- the page program and the HEX program
 
 -- What is printed is the page of the board that the whole input leaves.
 pub any-pieces-printed : AnyPiecesPrinted
 any-pieces-printed pieces = ap printedOf (any-pieces-board Page pieces)
 
--- Lines leave the board that they leave in the drill.
-after-drill : (b : Board) (ls : List (List ℕ)) → boardAfter Page b ls ≡ boardAfter Drill b ls
-unfolding boardAfter
-after-drill b [] = refl
-after-drill b (line ∷ more) =
-    ap (λ (k : Line). boardAfter Page (carriedOut k b .board) more) (meaning-page line) ∙ after-drill (carriedOut (meaning Drill line) b .board) more
+-- What is printed is the HEX text of the memory that the whole input leaves.
+pub any-pieces-hex-printed : AnyPiecesHexPrinted
+any-pieces-hex-printed pieces = ap (λ (b : Board). hexPrintedOf (b .memory)) (any-pieces-board Hex pieces)
 
--- So does a whole input.
+module _ (program : Program) (same : (s : List ℕ) → meaning program s ≡ meaning Drill s) where
+  -- Lines that mean what they mean in the drill leave what they leave there.
+  after-drill : (d : Desk) (ls : List (List ℕ)) → deskAfter program d ls ≡ deskAfter Drill d ls
+  unfolding deskAfter
+  after-drill d [] = refl
+  after-drill d (line ∷ more) =
+      ap (λ (k : Line). deskAfter program (carriedOut k d .desk) more) (same line) ∙ after-drill (carriedOut (meaning Drill line) d .desk) more
+
+  -- So does a whole input.
+  last-drill : (input : List ℕ) → lastBoard program input ≡ lastBoard Drill input
+  last-drill input = ap (λ (d : Desk). d .board) (after-drill firstDesk (linesOf input))
+
 pub board-of-drill : BoardOfDrill
-board-of-drill input = after-drill firstBoard (linesOf input)
+board-of-drill input = (last-drill Page meaning-page input, last-drill Hex meaning-hex input)

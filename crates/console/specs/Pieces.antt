@@ -6,7 +6,6 @@ use mathlib.Core.List.{List, [], _∷_, _++_, flatten}
 use lib.Dec.{eqb}
 use lib.ListN.{length, take, drop, getD}
 use Rattle.bytes.specs.Bytes.{indexOf}
-use Rattle.board.specs.Board.{Board}
 use Rattle.text.specs.Ascii.{feed}
 use Rattle.script.specs.Grammar.{meaning}
 use Rattle.script.specs.Answers.{headerText}
@@ -15,25 +14,25 @@ use Rattle.script.specs.declared.Program.{Program}
 use Rattle.console.specs.declared.answers.LineAsked.{LineAsked}
 use Rattle.console.specs.declared.answers.Ongoing.{Ongoing}
 use Rattle.session.specs.declared.Session.{Session}
-use Rattle.session.specs.Session.{boardOf, firstBoard, Within}
+use Rattle.session.specs.Session.{Desk, deskOf, firstDesk, Within}
 use Rattle.session.specs.Lines.{carriedOut}
 use Rattle.console.specs.declared.answers.Misread.{Misread}
 use Rattle.console.specs.Transcript.{following, lineText, transcript, lastBoard, noneMisread, lineTallied, misreadIn}
 
--- What is carried from piece to piece: the board, the lines answered and those answered `?`, and the line begun.
+-- What is carried from piece to piece: the board and the text, the lines answered and those answered `?`, and the line begun.
 pub record Carried : Type 0 where
-  pub board : Board
+  pub desk : Desk
   pub number : ℕ
   pub misread : Misread
   pub begun : List ℕ
 
 -- What is carried, put together.
-abbrev pub carried : Board → ℕ → Misread → List ℕ → Carried
-carried board number misread begun = record { board = board; number = number; misread = misread; begun = begun }
+abbrev pub carried : Desk → ℕ → Misread → List ℕ → Carried
+carried desk number misread begun = record { desk = desk; number = number; misread = misread; begun = begun }
 
 -- Before the first line.
 abbrev pub first : Carried
-first = carried firstBoard 0 noneMisread []
+first = carried firstDesk 0 noneMisread []
 
 -- What some input leaves, and what is written to it.
 pub record Fed : Type 0 where
@@ -46,15 +45,15 @@ leaving after text = record { after = after; text = text }
 
 -- Bytes of a line that goes on: 80 of a line are kept, so that it is known to be too long.
 abbrev pub kept : Carried → List ℕ → Carried
-kept p bytes = carried (p .board) (p .number) (p .misread) (take 80 (p .begun ++ bytes))
+kept p bytes = carried (p .desk) (p .number) (p .misread) (take 80 (p .begun ++ bytes))
 
 -- The end of the line begun: it is answered.
 abbrev pub ended : Program → Carried → Fed
 ended program p =
     leaving
-    (carried (carriedOut (meaning program (p .begun)) (p .board) .board) (following (p .number))
-    (lineTallied program (p .number) (p .board) (p .misread) (p .begun)) [])
-    (lineText program (following (p .number)) (p .board) (p .begun))
+    (carried (carriedOut (meaning program (p .begun)) (p .desk) .desk) (following (p .number))
+    (lineTallied program (p .number) (p .desk) (p .misread) (p .begun)) [])
+    (lineText program (following (p .number)) (p .desk) (p .begun))
 
 -- One byte: the end of a line, or a byte of it.
 abbrev pub byteFed : Program → Carried → ℕ → Fed
@@ -86,7 +85,7 @@ AnyPieces =
 -- However an input is cut into pieces, the board that they leave is the one that the whole input leaves.
 abbrev pub AnyPiecesBoard : Type 0
 AnyPiecesBoard =
-    (program : Program) (pieces : List (List ℕ)) → fedAll program first pieces .after .board ≡ lastBoard program (flatten pieces)
+    (program : Program) (pieces : List (List ℕ)) → fedAll program first pieces .after .desk .board ≡ lastBoard program (flatten pieces)
 
 -- However an input is cut into pieces, the lines tallied as answered `?` are those of the whole input.
 abbrev pub AnyPiecesMisread : Type 0
@@ -95,10 +94,10 @@ AnyPiecesMisread =
 
 -- ---- what contracts say
 
--- What the code carries: the board of its session, the lines answered and those answered `?`, and the first bytes of the line kept.
-abbrev pub carriedBy : Ongoing → List ℕ → List ℕ → List ℕ → Carried
-carriedBy p memory cache line =
-    carried (boardOf (p .session) memory cache) (p .number) (p .misread) (take (p .begun) line)
+-- What the code carries: the board and the text of its session, the lines answered and those answered `?`, and the first bytes of the line kept.
+abbrev pub carriedBy : Ongoing → List ℕ → List ℕ → List ℕ → List ℕ → Carried
+carriedBy p memory cache text line =
+    carried (deskOf (p .session) memory cache text) (p .number) (p .misread) (take (p .begun) line)
 
 -- What the code carries on after a line: none is begun.
 abbrev pub afterLine : Session → ℕ → Misread → Ongoing

@@ -52,7 +52,7 @@ pub struct Answers {
 
 // Before the first line.
 pub fn start() -> Ongoing
-    ensures first { λ r. ⌜ ((memory cache line : List ℕ) → carriedBy r memory cache line ≡ first) ⌝ }
+    ensures first { λ r. ⌜ ((memory cache text line : List ℕ) → carriedBy r memory cache text line ≡ first) ⌝ }
     ensures ready { λ r. ⌜ Ready r ⌝ }
 {
     Ongoing {
@@ -160,13 +160,14 @@ fn end_line(
     progress: Ongoing,
     memory: &mut [u64; 4104],
     cache: &mut [u64; 4104],
+    text: &mut [u8; 90200],
     line: &mut [u8],
     rest: &[u8],
     out: &mut [u8; 65536],
     at: usize,
 ) -> LineEnded
     requires { ⌜ Ready progress × (length (now line) ≡ 80) × (at + 80 ≤ 65536) ⌝ }
-    ensures ends { λ r. ⌜ LineEnds (ended program (kept (carriedBy progress (now (memory .entry)) (now (cache .entry)) (now (line .entry))) (now (rest .entry)))) (carriedBy (r .progress) (now (memory .exit)) (now (cache .exit)) (now (line .exit))) (now (out .entry)) at (now (out .exit)) (r .end) ⌝ }
+    ensures ends { λ r. ⌜ LineEnds (ended program (kept (carriedBy progress (now (memory .entry)) (now (cache .entry)) (now (text .entry)) (now (line .entry))) (now (rest .entry)))) (carriedBy (r .progress) (now (memory .exit)) (now (cache .exit)) (now (text .exit)) (now (line .exit))) (now (out .entry)) at (now (out .exit)) (r .end) ⌝ }
     ensures ready { λ r. ⌜ Ready (r .progress) ⌝ }
 {
     let session = progress.session;
@@ -181,7 +182,7 @@ fn end_line(
             end: script::put_answer(out, at, number, b'?', Shown::Unknown, Shown::Nothing),
         };
     }
-    let done = session::act(session, memory, cache, call);
+    let done = session::act(session, memory, cache, text, call);
     let next = done.session;
     let answer = done.answer;
     let value = done.value;
@@ -210,12 +211,13 @@ pub fn answer(
     progress: Ongoing,
     memory: &mut [u64; 4104],
     cache: &mut [u64; 4104],
+    text: &mut [u8; 90200],
     line: &mut [u8],
     piece: &[u8],
     out: &mut [u8; 65536],
 ) -> Answers
     requires { ⌜ Ready progress × (length (now line) ≡ 80) ⌝ }
-    ensures fed { λ r. ⌜ leaving (carriedBy (r .progress) (now (memory .exit)) (now (cache .exit)) (now (line .exit))) (take (r .written) (now (out .exit))) ≡ fed program (carriedBy progress (now (memory .entry)) (now (cache .entry)) (now (line .entry))) (take (r .used) (now (piece .entry))) ⌝ }
+    ensures fed { λ r. ⌜ leaving (carriedBy (r .progress) (now (memory .exit)) (now (cache .exit)) (now (text .exit)) (now (line .exit))) (take (r .written) (now (out .exit))) ≡ fed program (carriedBy progress (now (memory .entry)) (now (cache .entry)) (now (text .entry)) (now (line .entry))) (take (r .used) (now (piece .entry))) ⌝ }
     ensures stops { λ r. ⌜ Stops (now (piece .entry)) (r .used) (r .written) ⌝ }
     ensures ready { λ r. ⌜ Ready (r .progress) ⌝ }
 {
@@ -232,7 +234,7 @@ pub fn answer(
                 written: end,
             };
         }
-        let r = end_line(program, reached, memory, cache, line, rest, out, end);
+        let r = end_line(program, reached, memory, cache, text, line, rest, out, end);
         reached = r.progress;
         end = r.end;
         at = stop + 1;
@@ -250,17 +252,18 @@ pub fn answer_last(
     progress: Ongoing,
     memory: &mut [u64; 4104],
     cache: &mut [u64; 4104],
+    text: &mut [u8; 90200],
     line: &mut [u8],
     out: &mut [u8; 65536],
 ) -> LineEnded
     requires { ⌜ Ready progress × (length (now line) ≡ 80) ⌝ }
-    ensures finishes { λ r. ⌜ leaving (carriedBy (r .progress) (now (memory .exit)) (now (cache .exit)) (now (line .exit))) (take (r .end) (now (out .exit))) ≡ finished program (carriedBy progress (now (memory .entry)) (now (cache .entry)) (now (line .entry))) ⌝ }
+    ensures finishes { λ r. ⌜ leaving (carriedBy (r .progress) (now (memory .exit)) (now (cache .exit)) (now (text .exit)) (now (line .exit))) (take (r .end) (now (out .exit))) ≡ finished program (carriedBy progress (now (memory .entry)) (now (cache .entry)) (now (text .entry)) (now (line .entry))) ⌝ }
     ensures ready { λ r. ⌜ Ready (r .progress) × (r .end ≤ 65536) ⌝ }
 {
     if progress.begun == 0 {
         return LineEnded { progress, end: 0 };
     }
-    let r = answer(program, progress, memory, cache, line, b"\n", out);
+    let r = answer(program, progress, memory, cache, text, line, b"\n", out);
     let last = r.progress;
     LineEnded {
         progress: last,

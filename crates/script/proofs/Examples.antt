@@ -5,11 +5,12 @@ use Prim.Native.Nat.{ℕ}
 use lib.ListN.{replicate}
 use Rattle.board.specs.declared.Call.the-variants.{FormatStart, Step, Update, RestartPoint, Read, GoAway, ComeBack, Count, TakeLock, GiveBackLock}
 use Rattle.script.specs.declared.Line.{Line}
-use Rattle.script.specs.declared.Line.the-variants.{Format, Make, Show, Cut, Damage as Damaging, Page as Paging, Unknown}
+use Rattle.script.specs.declared.Line.the-variants.{Format, Make, Show, Cut, Damage as Damaging, Page as Paging, Text as Texting, Unknown}
 use Rattle.script.specs.declared.Damage.the-variants.{Lengths, Dirty, Field, Worker, Holder, Checksum}
-use Rattle.script.specs.declared.Program.the-variants.{Drill, Fault, Page}
+use Rattle.script.specs.declared.TextWork.the-variants as work
+use Rattle.script.specs.declared.Program.the-variants.{Drill, Fault, Page, Hex}
 use Rattle.script.specs.declared.Shown.the-variants as shown
-use Rattle.text.specs.Ascii.{tab, feed, '-', '0', '9', '?', 'A', 'B', 'F', 'G', 'H', 'K', 'O', 'P', 'Q', 'S', 'T', 'U', 'V', 'W', 'X', 'a', 'b', 'f', 'n', 'p'}
+use Rattle.text.specs.Ascii.{tab, feed, '-', '0', '9', '?', 'A', 'B', 'F', 'G', 'H', 'K', 'O', 'P', 'Q', 'S', 'T', 'U', 'V', 'W', 'X', 'Y', 'a', 'b', 'f', 'h', 'n', 'p', 'y'}
 use Rattle.text.specs.Numbers.{spelled, allDigits, valueAfter}
 use Rattle.script.specs.Grammar.{fields, isNumber, allNumbers, drilled, damaging, formed, meaning}
 use Rattle.script.specs.Answers.{answerText}
@@ -64,12 +65,15 @@ pub lines-mean : map (λ (e : Example). meaning Drill (e .text)) examples ≡ ma
 unfolding fields allDigits valueAfter isNumber allNumbers drilled damaging formed meaning
 lines-mean = refl
 
--- The fault program's own letters: "T", "n", "p 9", "a 7", "b 0", "f 1 1", "W 9 9", "Q 7 5", "B 6 1", "K 7 2 0 9 5" and "O 9 7", with tabs for blanks, and two of the drill's letters.
+-- The fault program's own letters: "T", "n", "p 9", "h 9", "y 9", "Y 9 7", "a 7", "b 0", "f 1 1", "W 9 9", "Q 7 5", "B 6 1", "K 7 2 0 9 5" and "O 9 7", with tabs for blanks, and two of the drill's letters.
 abbrev pub damages : List Example
 damages =
     row ('T' ∷ []) (Damaging Checksum) ∷
     row ('n' ∷ []) (Show Count) ∷
     row ('p' ∷ tab ∷ '9' ∷ []) (Paging 9) ∷
+    row ('h' ∷ tab ∷ '9' ∷ []) (Texting (work.Write 9)) ∷
+    row ('y' ∷ tab ∷ '9' ∷ []) (Texting (work.Read 9)) ∷
+    row ('Y' ∷ tab ∷ '9' ∷ tab ∷ 55 ∷ []) (Texting (work.Put 9 7)) ∷
     row ('a' ∷ tab ∷ 55 ∷ []) (Make (GoAway 7)) ∷
     row ('b' ∷ tab ∷ '0' ∷ []) (Make (ComeBack 0)) ∷
     row ('f' ∷ tab ∷ 49 ∷ tab ∷ 49 ∷ []) (Make (FormatStart 1 1)) ∷
@@ -87,6 +91,7 @@ damages =
     row ('b' ∷ tab ∷ 55 ∷ tab ∷ '0' ∷ []) Unknown ∷
     -- One number, and three.
     row ('n' ∷ tab ∷ '0' ∷ []) Unknown ∷
+    row ('Y' ∷ tab ∷ '9' ∷ []) Unknown ∷
     row ('W' ∷ tab ∷ '9' ∷ tab ∷ '9' ∷ tab ∷ '9' ∷ []) Unknown ∷
     -- Four numbers, and six.
     row ('K' ∷ tab ∷ 55 ∷ tab ∷ 50 ∷ tab ∷ '0' ∷ tab ∷ '9' ∷ []) Unknown ∷
@@ -97,12 +102,12 @@ pub damages-mean : map (λ (e : Example). meaning Fault (e .text)) damages ≡ m
 unfolding fields allDigits valueAfter isNumber allNumbers drilled damaging formed meaning
 damages-mean = refl
 
--- Neither the drill nor the page program knows any of them.
+-- No other program knows any of them.
 abbrev pub undrilled : List (List ℕ)
 undrilled =
-    ('T' ∷ []) ∷ ('n' ∷ []) ∷ ('p' ∷ tab ∷ '9' ∷ []) ∷ ('a' ∷ tab ∷ 55 ∷ []) ∷ ('b' ∷ tab ∷ '0' ∷ []) ∷ ('f' ∷ tab ∷ 49 ∷ tab ∷ 49 ∷ []) ∷ ('O' ∷ tab ∷ '9' ∷ tab ∷ 55 ∷ []) ∷ []
+    ('T' ∷ []) ∷ ('n' ∷ []) ∷ ('p' ∷ tab ∷ '9' ∷ []) ∷ ('a' ∷ tab ∷ 55 ∷ []) ∷ ('b' ∷ tab ∷ '0' ∷ []) ∷ ('f' ∷ tab ∷ 49 ∷ tab ∷ 49 ∷ []) ∷ ('O' ∷ tab ∷ '9' ∷ tab ∷ 55 ∷ []) ∷ ('h' ∷ tab ∷ '9' ∷ []) ∷ ('y' ∷ tab ∷ '9' ∷ []) ∷ ('Y' ∷ tab ∷ '9' ∷ tab ∷ 55 ∷ []) ∷ []
 
-pub damages-unknown : map (meaning Drill) undrilled ++ map (meaning Page) undrilled ≡ replicate 14 Unknown
+pub damages-unknown : map (meaning Drill) undrilled ++ map (meaning Page) undrilled ++ map (meaning Hex) undrilled ≡ replicate 30 Unknown
 unfolding fields allDigits valueAfter isNumber allNumbers drilled damaging formed meaning
 damages-unknown = refl
 

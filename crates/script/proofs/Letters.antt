@@ -7,7 +7,7 @@ use lib.Dec.{eqb}
 use borrow.Author.Tests.{eqb-false, ne-eqb}
 use Rattle.script.specs.declared.Line.{Line}
 use Rattle.script.specs.declared.Line.the-variants.{Unknown}
-use Rattle.script.specs.declared.Program.the-variants.{Drill, Fault, Page}
+use Rattle.script.specs.declared.Program.the-variants.{Drill, Fault, Page, Hex}
 use Rattle.script.specs.Grammar.{drilled, damaging}
 use Rattle.script.specs.Reasons.{standsIn, drillLetters, faultLetters, Unlisted, Listed}
 
@@ -40,8 +40,8 @@ undrilled letter (a ∷ b ∷ c ∷ d ∷ ns) other P o = refl
 undamaging : (letter : ℕ) (numbers : List ℕ) (P : Type 0) → Others letter faultLetters P → damaging letter numbers ≡ Unknown
 unfolding damaging
 undamaging letter [] P o = simp (o .1 .1 .1 .1 .1 .1 .1 .1 .0, o .1 .1 .1 .1 .1 .1 .1 .1 .1 .1 .1 .1 .0)
-undamaging letter (a ∷ []) P o = simp (o .1 .1 .1 .1 .1 .1 .1 .1 .1 .0, o .1 .1 .1 .1 .1 .1 .1 .1 .1 .1 .0, o .1 .1 .1 .1 .1 .1 .1 .1 .1 .1 .1 .0)
-undamaging letter (a ∷ b ∷ []) P o = simp (o .0, o .1 .0, o .1 .1 .0, o .1 .1 .1 .0, o .1 .1 .1 .1 .0, o .1 .1 .1 .1 .1 .0, o .1 .1 .1 .1 .1 .1 .1 .0)
+undamaging letter (a ∷ []) P o = simp (o .1 .1 .1 .1 .1 .1 .1 .1 .1 .0, o .1 .1 .1 .1 .1 .1 .1 .1 .1 .1 .0, o .1 .1 .1 .1 .1 .1 .1 .1 .1 .1 .1 .0, o .1 .1 .1 .1 .1 .1 .1 .1 .1 .1 .1 .1 .1 .0, o .1 .1 .1 .1 .1 .1 .1 .1 .1 .1 .1 .1 .1 .1 .1 .0)
+undamaging letter (a ∷ b ∷ []) P o = simp (o .0, o .1 .0, o .1 .1 .0, o .1 .1 .1 .0, o .1 .1 .1 .1 .0, o .1 .1 .1 .1 .1 .0, o .1 .1 .1 .1 .1 .1 .1 .0, o .1 .1 .1 .1 .1 .1 .1 .1 .1 .1 .1 .1 .1 .1 .0)
 undamaging letter (a ∷ b ∷ c ∷ []) P o = refl
 undamaging letter (a ∷ b ∷ c ∷ d ∷ []) P o = refl
 undamaging letter (a ∷ b ∷ c ∷ d ∷ e ∷ []) P o = simp (o .1 .1 .1 .1 .1 .1 .0)
@@ -50,6 +50,7 @@ undamaging letter (a ∷ b ∷ c ∷ d ∷ e ∷ f ∷ ns) P o = refl
 pub unlisted : Unlisted
 unlisted Drill letter numbers e = undrilled letter numbers Unknown _ (others letter drillLetters [] e)
 unlisted Page letter numbers e = undrilled letter numbers Unknown _ (others letter drillLetters [] e)
+unlisted Hex letter numbers e = undrilled letter numbers Unknown _ (others letter drillLetters [] e)
 unlisted Fault letter numbers e =
     let o = others letter drillLetters faultLetters e in
     undrilled letter numbers (damaging letter numbers) _ o ∙ undamaging letter numbers _ (others letter faultLetters [] (o .1 .1 .1 .1 .1 .1 .1 .1 .1 .1 .1 .1))
@@ -59,3 +60,4 @@ unfolding drilled damaging
 listed Drill = refl
 listed Fault = refl
 listed Page = refl
+listed Hex = refl

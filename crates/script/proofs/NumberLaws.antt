@@ -13,7 +13,7 @@ use Rattle.predicate.proofs.Bools.{split, chosen, passedOver, and-off-right, an
 use Rattle.script.specs.declared.Line.{Line}
 use Rattle.script.specs.declared.Line.the-variants.{Unknown}
 use Rattle.script.specs.declared.Program.{Program}
-use Rattle.script.specs.declared.Program.the-variants.{Drill, Fault, Page}
+use Rattle.script.specs.declared.Program.the-variants.{Drill, Fault, Page, Hex}
 use Rattle.script.specs.declared.Number.{Number}
 use Rattle.script.specs.declared.Number.the-variants as number
 use Rattle.script.specs.declared.Numbers.{Numbers}
@@ -105,6 +105,8 @@ six-unknown Fault letter a b c d e f ns true = refl
 six-unknown Fault letter a b c d e f ns false = refl
 six-unknown Page letter a b c d e f ns true = refl
 six-unknown Page letter a b c d e f ns false = refl
+six-unknown Hex letter a b c d e f ns true = refl
+six-unknown Hex letter a b c d e f ns false = refl
 
 -- One field more, a number or not.
 given-field : (program : Program) (letter : ℕ) (t : Bool) (got : Numbers) (n : ℕ) (u : Bool) (ns : List ℕ) →
@@ -219,6 +221,18 @@ formed-page ((a ∷ b ∷ more) ∷ fs) = refl
 pub meaning-page : (s : List ℕ) → meaning Page s ≡ meaning Drill s
 unfolding meaning
 meaning-page s = ap (cond (ltb 79 (length s)) Unknown) (formed-page (fields s))
+
+-- So do the HEX program's.
+formed-hex : (fs : List (List ℕ)) → formed Hex fs ≡ formed Drill fs
+unfolding formed
+formed-hex [] = refl
+formed-hex ([] ∷ fs) = refl
+formed-hex ((letter ∷ []) ∷ fs) = refl
+formed-hex ((a ∷ b ∷ more) ∷ fs) = refl
+
+pub meaning-hex : (s : List ℕ) → meaning Hex s ≡ meaning Drill s
+unfolding meaning
+meaning-hex s = ap (cond (ltb 79 (length s)) Unknown) (formed-hex (fields s))
 
 -- The first 80 bytes of a line say what it means.
 pub meaning-kept : (program : Program) (s : List ℕ) → meaning program (take 80 s) ≡ meaning program s

@@ -4,7 +4,7 @@ use mathlib.Core.List.{List, [], _∷_, _++_, map}
 use Prim.Native.Nat.{ℕ}
 use lib.ListN.{replicate}
 use Rattle.script.specs.declared.Program.{Program}
-use Rattle.script.specs.declared.Program.the-variants.{Drill, Fault, Page}
+use Rattle.script.specs.declared.Program.the-variants.{Drill, Fault, Page, Hex}
 use Rattle.script.specs.declared.Reason.{Reason}
 use Rattle.script.specs.declared.Reason.the-variants.{Long, ByteOrderMark, CarriageReturn, Blanks, Empty, Letter, Past, NoNumber, Count, Unfit}
 use Rattle.text.specs.Ascii.{tab, blank, '-', '0', '9', 'A', 'B', 'G', 'K', 'S', 'T', 'U'}
@@ -47,6 +47,7 @@ reasonExamples =
     row Drill ('S' ∷ 'S' ∷ []) Letter ∷
     row Drill (tab ∷ 'S' ∷ []) Letter ∷
     row Page ('T' ∷ []) Letter ∷
+    row Hex ('T' ∷ []) Letter ∷
     row Fault ('T' ∷ tab ∷ '0' ∷ []) Count ∷
     -- 2^64, and a field that is no number before or behind it.
     row Drill ('G' ∷ tab ∷ past) Past ∷

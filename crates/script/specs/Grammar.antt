@@ -1,4 +1,4 @@
--- Document 01, "The drill program", the fault program, "the drill with damage", and the page program, which has the drill's lines: what a line of the script means. A line is its bytes, without the line feed.
+-- Document 01, "The drill program", the fault program, "the drill with damage", and the page and HEX programs, which have the drill's lines: what a line of the script means. A line is its bytes, without the line feed.
 use Prim.Native.Nat.{ℕ, _-_, _^_}
 use mathlib.Core.List.{List, [], _∷_, map}
 use mathlib.Core.Bool.{Bool, true, cond, _&&_}
@@ -6,12 +6,13 @@ use lib.Dec.{leb, ltb, eqb}
 use lib.ListN.{length}
 use Rattle.board.specs.declared.Call.the-variants.{FormatStart, RecoveryStart, Step, Update, RestartPoint, Advance, Request, WriteBack, Read, GoAway, ComeBack, Count, TakeLock, GiveBackLock}
 use Rattle.script.specs.declared.Line.{Line}
-use Rattle.script.specs.declared.Line.the-variants.{Format, Make, Show, Cut, Damage as Damaging, Page as Paging, Unknown}
+use Rattle.script.specs.declared.Line.the-variants.{Format, Make, Show, Cut, Damage as Damaging, Page as Paging, Text as Texting, Unknown}
 use Rattle.script.specs.declared.Damage.the-variants.{Lengths, Memory, Cache, Dirty, Field, Worker, Holder, Checksum}
+use Rattle.script.specs.declared.TextWork.the-variants as work
 use Rattle.script.specs.declared.Program.{Program}
-use Rattle.script.specs.declared.Program.the-variants.{Drill, Fault, Page}
+use Rattle.script.specs.declared.Program.the-variants.{Drill, Fault, Page, Hex}
 use Rattle.text.specs.Numbers.{allDigits, value}
-use Rattle.text.specs.Ascii.{tab, 'A', 'B', 'C', 'E', 'F', 'G', 'H', 'K', 'M', 'N', 'O', 'P', 'Q', 'R', 'S', 'T', 'U', 'V', 'W', 'X', 'a', 'b', 'f', 'n', 'p'}
+use Rattle.text.specs.Ascii.{tab, 'A', 'B', 'C', 'E', 'F', 'G', 'H', 'K', 'M', 'N', 'O', 'P', 'Q', 'R', 'S', 'T', 'U', 'V', 'W', 'X', 'Y', 'a', 'b', 'f', 'h', 'n', 'p', 'y'}
 
 -- A byte put in front of the first field.
 abbrev pub joined : ℕ → List (List ℕ) → List (List ℕ)
@@ -51,12 +52,12 @@ drilled letter (a ∷ b ∷ c ∷ d ∷ more) other = other
 unfoldable pub damaging : ℕ → List ℕ → Line
 -- "T": the checksum of everything; "n": the count.
 damaging letter [] = cond (eqb letter 'T') (Damaging Checksum) (cond (eqb letter 'n') (Show Count) Unknown)
--- "p room: a page in a text row of `room` bytes"; "a w, b w: going away, coming back".
+-- "p room: a page in a text row of `room` bytes"; "h room", "y n": memory written as HEX into the text, and read from it; "a w, b w: going away, coming back".
 damaging letter (a ∷ []) =
-    cond (eqb letter 'p') (Paging a) (cond (eqb letter 'a') (Make (GoAway a)) (cond (eqb letter 'b') (Make (ComeBack a)) Unknown))
--- "f L W: a format's start alone"; "W m c: the rows' lengths"; "M i v", "N i v", "Q i v: word i .. of the record's line bits", "B k v", "O k h: lock k .. its holder := h".
+    cond (eqb letter 'p') (Paging a) (cond (eqb letter 'h') (Texting (work.Write a)) (cond (eqb letter 'y') (Texting (work.Read a)) (cond (eqb letter 'a') (Make (GoAway a)) (cond (eqb letter 'b') (Make (ComeBack a)) Unknown))))
+-- "f L W: a format's start alone"; "W m c: the rows' lengths"; "M i v", "N i v", "Q i v: word i .. of the record's line bits", "B k v", "O k h: lock k .. its holder := h", "Y i v: text byte i := v".
 damaging letter (a ∷ b ∷ []) =
-    cond (eqb letter 'f') (Make (FormatStart a b)) (cond (eqb letter 'W') (Damaging (Lengths a b)) (cond (eqb letter 'M') (Damaging (Memory a b)) (cond (eqb letter 'N') (Damaging (Cache a b)) (cond (eqb letter 'Q') (Damaging (Dirty a b)) (cond (eqb letter 'B') (Damaging (Field a b)) (cond (eqb letter 'O') (Damaging (Holder a b)) Unknown))))))
+    cond (eqb letter 'f') (Make (FormatStart a b)) (cond (eqb letter 'W') (Damaging (Lengths a b)) (cond (eqb letter 'M') (Damaging (Memory a b)) (cond (eqb letter 'N') (Damaging (Cache a b)) (cond (eqb letter 'Q') (Damaging (Dirty a b)) (cond (eqb letter 'B') (Damaging (Field a b)) (cond (eqb letter 'O') (Damaging (Holder a b)) (cond (eqb letter 'Y') (Texting (work.Put a b)) Unknown)))))))
 damaging letter (a ∷ b ∷ c ∷ []) = Unknown
 damaging letter (a ∷ b ∷ c ∷ d ∷ []) = Unknown
 -- "K w c n a v".
@@ -68,6 +69,7 @@ abbrev pub further : Program → ℕ → List ℕ → Line
 further Drill letter numbers = Unknown
 further Fault letter numbers = damaging letter numbers
 further Page letter numbers = Unknown
+further Hex letter numbers = Unknown
 
 -- What a letter with its numbers asks for in a program: "the drill's letters with the same meaning".
 abbrev pub command : Program → ℕ → List ℕ → Line

@@ -9,11 +9,11 @@ use lib.ListN.{length, drop, getD, replicate}
 use Rattle.script.specs.declared.Line.{Line}
 use Rattle.script.specs.declared.Line.the-variants as line
 use Rattle.script.specs.declared.Program.{Program}
-use Rattle.script.specs.declared.Program.the-variants.{Drill, Fault, Page}
+use Rattle.script.specs.declared.Program.the-variants.{Drill, Fault, Page, Hex}
 use Rattle.script.specs.declared.Reason.{Reason}
 use Rattle.script.specs.declared.Reason.the-variants.{Long, ByteOrderMark, CarriageReturn, Blanks, Empty, Letter, Past, NoNumber, Count, Unfit}
 use Rattle.text.specs.Numbers.{allDigits}
-use Rattle.text.specs.Ascii.{blank, 'A', 'B', 'C', 'E', 'F', 'G', 'H', 'K', 'M', 'N', 'O', 'P', 'Q', 'R', 'S', 'T', 'U', 'V', 'W', 'X', 'a', 'b', 'f', 'n', 'p'}
+use Rattle.text.specs.Ascii.{blank, 'A', 'B', 'C', 'E', 'F', 'G', 'H', 'K', 'M', 'N', 'O', 'P', 'Q', 'R', 'S', 'T', 'U', 'V', 'W', 'X', 'Y', 'a', 'b', 'f', 'h', 'n', 'p', 'y'}
 use Rattle.script.specs.Grammar.{isNumber, command}
 use Rattle.script.specs.Fields.{first, later}
 
@@ -42,6 +42,7 @@ isUnknown (line.Show call) = false
 isUnknown line.Cut = false
 isUnknown (line.Damage damage) = false
 isUnknown (line.Page room) = false
+isUnknown (line.Text work) = false
 isUnknown line.Unknown = true
 
 -- The drill's letters, which every program has.
@@ -52,13 +53,14 @@ drillLetters =
 -- The letters that the fault program has besides.
 abbrev pub faultLetters : List ℕ
 faultLetters =
-    'f' ∷ 'W' ∷ 'M' ∷ 'N' ∷ 'Q' ∷ 'B' ∷ 'K' ∷ 'O' ∷ 'T' ∷ 'p' ∷ 'a' ∷ 'b' ∷ 'n' ∷ []
+    'f' ∷ 'W' ∷ 'M' ∷ 'N' ∷ 'Q' ∷ 'B' ∷ 'K' ∷ 'O' ∷ 'T' ∷ 'p' ∷ 'a' ∷ 'b' ∷ 'n' ∷ 'h' ∷ 'Y' ∷ 'y' ∷ []
 
 -- The letters of a program.
 abbrev pub letters : Program → List ℕ
 letters Drill = drillLetters
 letters Fault = drillLetters ++ faultLetters
 letters Page = drillLetters
+letters Hex = drillLetters
 
 -- A line does not begin with one letter of the program and then a tab or its end.
 unfoldable pub unlettered : Program → List ℕ → Bool

@@ -111,6 +111,7 @@ fn further(program: Program, letter: u8, got: Numbers) -> Line
         Program::Drill => Line::Unknown,
         Program::Fault => damaging(letter, got),
         Program::Page => Line::Unknown,
+        Program::Hex => Line::Unknown,
     }
 }
 

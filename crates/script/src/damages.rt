@@ -6,6 +6,7 @@ ghost use Rattle.script.specs.Fields.{damagingOf};
 use crate::Damage;
 use crate::Line;
 use crate::Numbers;
+use crate::TextWork;
 use board::Call;
 
 // "T", "n".
@@ -21,12 +22,18 @@ fn with_none(letter: u8) -> Line
     }
 }
 
-// "p room", "a w", "b w".
+// "p room", "h room", "y n", "a w", "b w".
 fn with_one(letter: u8, a: u64) -> Line
     ensures { λ r. ⌜ r ≡ damaging letter (a ∷ []) ⌝ }
 {
     match letter {
         b'p' => Line::Page { room: a },
+        b'h' => Line::Text {
+            work: TextWork::Write { room: a },
+        },
+        b'y' => Line::Text {
+            work: TextWork::Read { bytes: a },
+        },
         b'a' => Line::Make {
             call: Call::GoAway { worker: a },
         },
@@ -37,7 +44,7 @@ fn with_one(letter: u8, a: u64) -> Line
     }
 }
 
-// "f L W", "W m c", "M i v", "N i v", "Q i v", "B k v", "O k h".
+// "f L W", "W m c", "M i v", "N i v", "Q i v", "B k v", "O k h", "Y i v".
 fn with_two(letter: u8, a: u64, b: u64) -> Line
     ensures { λ r. ⌜ r ≡ damaging letter (a ∷ b ∷ []) ⌝ }
 {
@@ -71,6 +78,9 @@ fn with_two(letter: u8, a: u64, b: u64) -> Line
         },
         b'O' => Line::Damage {
             damage: Damage::Holder { lock: a, holder: b },
+        },
+        b'Y' => Line::Text {
+            work: TextWork::Put { at: a, byte: b },
         },
         _ => Line::Unknown,
     }

@@ -1,5 +1,5 @@
 // The lines of the drill (document 01, "The drill program"), of the fault program, the drill with damage, and of the page
-// program, which has the drill's: a line of the script read, a line of the answer written.
+// and HEX programs, which have the drill's: a line of the script read, a line of the answer written.
 mod answer;
 mod commands;
 mod damages;
@@ -20,10 +20,11 @@ pub enum Program {
     Drill,
     Fault,
     Page,
+    Hex,
 }
 
 // What a line of the script asks for: a format to the end, one call of the board, one call whose value is shown, a cut,
-// damage, a page in a text row of `room` bytes, or nothing that is known.
+// damage, a page in a text row of `room` bytes, work with the text, or nothing that is known.
 pub enum Line {
     Format { lines: u64, workers: u64 },
     Make { call: Call },
@@ -31,6 +32,7 @@ pub enum Line {
     Cut,
     Damage { damage: Damage },
     Page { room: u64 },
+    Text { work: TextWork },
     Unknown,
 }
 
@@ -70,6 +72,14 @@ pub enum Damage {
         holder: u64,
     },
     Checksum,
+}
+
+// What a line of the fault program does with the text: memory written as HEX into a text of `room` bytes, a byte of it put,
+// or its first bytes read into memory.
+pub enum TextWork {
+    Write { room: u64 },
+    Put { at: u64, byte: u64 },
+    Read { bytes: u64 },
 }
 
 // Why a line is answered `?`: over 79 bytes, a byte-order mark at its start, a carriage return, blanks where tabs belong,

@@ -64,6 +64,7 @@ fn unknown(line: Line) -> bool
         Line::Cut => false,
         Line::Damage { damage: _ } => false,
         Line::Page { room: _ } => false,
+        Line::Text { work: _ } => false,
         Line::Unknown => true,
     }
 }
@@ -74,8 +75,9 @@ fn has_letter(program: Program, letter: u8) -> bool
 {
     match program {
         Program::Drill => has_byte(b"FUAPCSEGXRHV", letter),
-        Program::Fault => has_byte(b"FUAPCSEGXRHVfWMNQBKOTpabn", letter),
+        Program::Fault => has_byte(b"FUAPCSEGXRHVfWMNQBKOTpabnhYy", letter),
         Program::Page => has_byte(b"FUAPCSEGXRHV", letter),
+        Program::Hex => has_byte(b"FUAPCSEGXRHV", letter),
     }
 }
 

@@ -19,7 +19,8 @@ use Rattle.predicate.proofs.Bools.{chosen, passedOver}
 use Rattle.board.proofs.Laws.Taken.{Clear, take as taken-if, limits-in, rows-fine}
 use Rattle.script.specs.declared.Line.the-variants as line
 use Rattle.script.specs.declared.Shown.the-variants.{Nothing, Number}
-use Rattle.session.specs.Lines.{repeated, done, rowsFor, formatted, carriedOut}
+use Rattle.session.specs.Session.{Desk}
+use Rattle.session.specs.Lines.{repeated, done, holding, rowsFor, formatted, carriedOut}
 use Rattle.session.proofs.Acts.{board-back}
 
 -- One call fewer to make from the outcome that a call gives.
@@ -61,20 +62,20 @@ taken-within-limits l w state o =
     taken-if (FormatStart l w) (rowsFor l state) (o, (rows-fine (shaped l) (rowsFor l state) lengths, tt))
 
 -- "A refused F changes nothing."
-pub format-down : (l w : ℕ) (b : Board) → outside (shaped l) w ≡ true → done b (Number 1) Nothing ≡ carriedOut (line.Format l w) b
-format-down l w b o = sym (chosen (outside (shaped l) w) _ _ o)
+pub format-down : (l w : ℕ) (d : Desk) → outside (shaped l) w ≡ true → done d (Number 1) Nothing ≡ carriedOut (line.Format l w) d
+format-down l w d o = sym (chosen (outside (shaped l) w) _ _ o)
 
 -- A taken format leaves its last step's board, and rows of its size.
-pub format-up : (l w i : ℕ) (state after : State) (b : Board) (m c m′ c′ : List ℕ) → i ≡ rowWords l → outside (shaped l) w ≡ false →
-    b .state ≡ state → i ≤ length m → i ≤ length c → length m′ ≡ length (take i m) → length c′ ≡ length (take i c) →
+pub format-up : (l w i : ℕ) (state after : State) (d : Desk) (m c m′ c′ : List ℕ) → i ≡ rowWords l → outside (shaped l) w ≡ false →
+    d .board .state ≡ state → i ≤ length m → i ≤ length c → length m′ ≡ length (take i m) → length c′ ≡ length (take i c) →
     lent after m′ c′ ≡ formatted l w (lent state (replicate (length (take i m)) 0) (replicate (length (take i c)) 0)) →
-    done (lent after (take i (m′ ++ drop i m)) (take i (c′ ++ drop i c))) (Number 0) Nothing ≡ carriedOut (line.Format l w) b
-format-up l w i state after b m c m′ c′ words o same im jc hm hc did =
+    done (holding d (lent after (take i (m′ ++ drop i m)) (take i (c′ ++ drop i c)))) (Number 0) Nothing ≡ carriedOut (line.Format l w) d
+format-up l w i state after d m c m′ c′ words o same im jc hm hc did =
     let sm = length-take-le i m im ∙ words in
     let sc = length-take-le i c jc ∙ words in
-    let zeros : lent state (replicate (length (take i m)) 0) (replicate (length (take i c)) 0) ≡ rowsFor l (b .state) =
+    let zeros : lent state (replicate (length (take i m)) 0) (replicate (length (take i c)) 0) ≡ rowsFor l (d .board .state) =
     ap (λ (n : ℕ). lent state (replicate n 0) (replicate (length (take i c)) 0)) sm
     ∙ ap (λ (n : ℕ). lent state (replicate (rowWords l) 0) (replicate n 0)) sc
     ∙ ap (rowsFor l) (sym same) in
-    ap (λ (x : Board). done x (Number 0) Nothing) (board-back i i m c m′ c′ im jc hm hc after ∙ did ∙ ap (formatted l w) zeros)
+    ap (λ (x : Board). done (holding d x) (Number 0) Nothing) (board-back i i m c m′ c′ im jc hm hc after ∙ did ∙ ap (formatted l w) zeros)
     ∙ sym (passedOver (outside (shaped l) w) _ _ o)

@@ -3,3 +3,4 @@ pub mod Rows
 pub mod Acts
 pub mod Formats
 pub mod Pages
+pub mod TextWork

@@ -1,4 +1,4 @@
--- The first words of a row: what the whole is once they come back, or are zeroed.
+-- The first words of a row: what the whole is once they come back, or are filled with one number.
 use Prim.Native.Nat.{ℕ, _+_, _-_, _≤_, _<_}
 use mathlib.Core.Path.{_≡_, refl, sym, ap, _∙_}
 use mathlib.Core.List.{List, _++_, append-nil}
@@ -23,32 +23,32 @@ take-replicate n k v h =
     ∙ ap (take n) (sym (replicate-append-replicate n (k - n) v))
     ∙ take-at (replicate n v) (replicate (k - n) v) n (length-replicate n v)
 
--- ---- a row zeroed word by word
+-- ---- a row filled word by word
 
--- The first `i` words are zeroed.
-pub record ZeroedUpTo (row now : List ℕ) (i : ℕ) : Type 0 where
+-- The first `i` words are `v`.
+pub record FilledUpTo (v : ℕ) (row now : List ℕ) (i : ℕ) : Type 0 where
   pub within : i ≤ length row
-  pub holds : now ≡ replicate i 0 ++ drop i row
+  pub holds : now ≡ replicate i v ++ drop i row
   pub size : length now ≡ length row
 
 -- Before the first word.
-pub zeroed-none : (row : List ℕ) → ZeroedUpTo row row 0
-zeroed-none row = record { within = omega arith; holds = fill-none row 0; size = refl }
+pub filled-none : (v : ℕ) (row : List ℕ) → FilledUpTo v row row 0
+filled-none v row = record { within = omega arith; holds = fill-none row v; size = refl }
 
 -- A word more.
-pub zeroed-more : {row now : List ℕ} {i : ℕ} → ZeroedUpTo row now i → i < length row → ZeroedUpTo row (set now i 0) (i + 1)
-zeroed-more {row} {now} {i} z h =
+pub filled-more : {v : ℕ} {row now : List ℕ} {i : ℕ} → FilledUpTo v row now i → i < length row → FilledUpTo v row (set now i v) (i + 1)
+filled-more {v} {row} {now} {i} z h =
     record {
       within = omega arith;
-      holds = ap (λ (r : List ℕ). set r i 0) (z .holds) ∙ fill-more i 0 row h;
-      size = length-set now i 0 ∙ z .size;
+      holds = ap (λ (r : List ℕ). set r i v) (z .holds) ∙ fill-more i v row h;
+      size = length-set now i v ∙ z .size;
     }
 
 -- All of them.
-pub zeroed-all : {row now : List ℕ} {i : ℕ} → ZeroedUpTo row now i → length row ≤ i → now ≡ replicate (length row) 0
-zeroed-all {row} {now} {i} z h =
+pub filled-all : {v : ℕ} {row now : List ℕ} {i : ℕ} → FilledUpTo v row now i → length row ≤ i → now ≡ replicate (length row) v
+filled-all {v} {row} {now} {i} z h =
     let all : i ≡ length row = omega (arith, z .within) in
     z .holds
-    ∙ ap (λ (k : ℕ). replicate k 0 ++ drop k row) all
-    ∙ ap (λ (l : List ℕ). replicate (length row) 0 ++ l) (drop-length row)
-    ∙ append-nil (replicate (length row) 0)
+    ∙ ap (λ (k : ℕ). replicate k v ++ drop k row) all
+    ∙ ap (λ (l : List ℕ). replicate (length row) v ++ l) (drop-length row)
+    ∙ append-nil (replicate (length row) v)

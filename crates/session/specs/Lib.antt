@@ -1,3 +1,3 @@
--- `Session` says which board the program's arrays hold, `Lines` what a line of the script does to it and shows.
+-- `Session` says which board and which text the program's arrays hold, `Lines` what a line of the script does to them and shows.
 pub mod Session
 pub mod Lines

@@ -1,6 +1,9 @@
-// What a line of the script does to the board.
+// What a line of the script does to the board and to the text.
+mod texts;
+
 ghost use mathlib.Core.Path.{_≡_};
-ghost use Prim.Native.Nat.{_≤_};
+ghost use mathlib.Core.List.{List};
+ghost use Prim.Native.Nat.{ℕ, _≤_};
 ghost use lib.ListN.{length, replicate};
 ghost use Rattle.board.specs.Board.{shaped};
 ghost use Rattle.board.specs.State.{started};
@@ -8,7 +11,7 @@ ghost use Rattle.board.specs.Next.{lent};
 ghost use Rattle.board.specs.Page.{PagePerformed};
 ghost use Rattle.script.specs.declared.Line.the-variants.{Format, Show};
 ghost use Rattle.damage.specs.Damages.{HasRoom};
-ghost use Rattle.session.specs.Session.{boardOf, Within, Fits, Room};
+ghost use Rattle.session.specs.Session.{boardOf, deskOf, Within, Fits, Room};
 ghost use Rattle.session.specs.Lines.{given, repeated, formatted, textRow, Switched, carriedOut, left};
 use board::Call;
 use board::Phase;
@@ -19,11 +22,12 @@ use script::Damage;
 use script::Line;
 use script::Shown;
 
-// The board's state record, and how many words of the memory and cache arrays are in use.
+// The board's state record, and how many words of the memory and cache arrays and bytes of the text array are in use.
 pub struct Session {
     pub state: State,
     pub memory: usize,
     pub cache: usize,
+    pub text: usize,
 }
 
 // The session after a line, with the answer and the value to show.
@@ -33,14 +37,15 @@ pub struct Answered {
     pub value: Shown,
 }
 
-// "before one they are empty and the phase is off".
+// "before one they are empty and the phase is off"; "Before the first `h` the text is empty".
 pub fn new() -> Session
-    ensures { λ r. ⌜ (r .state ≡ started Phase.Off (shaped 0) 0) × (r .memory ≡ 0) × (r .cache ≡ 0) ⌝ }
+    ensures { λ r. ⌜ (r .state ≡ started Phase.Off (shaped 0) 0) × (r .memory ≡ 0) × (r .cache ≡ 0) × (r .text ≡ 0) ⌝ }
 {
     Session {
         state: engine::off(),
         memory: 0,
         cache: 0,
+        text: 0,
     }
 }
 
@@ -71,8 +76,8 @@ fn repeat(call: Call, state: State, memory: &mut [u64], cache: &mut [u64], times
 // One call of the board, with its value shown.
 fn make(session: Session, memory: &mut [u64], cache: &mut [u64], call: Call) -> Answered
     requires { ⌜ Fits session (now memory) (now cache) ⌝ }
-    ensures { λ r. ⌜ left r (now (memory .exit)) (now (cache .exit)) ≡ carriedOut (Show call) (boardOf session (now (memory .entry)) (now (cache .entry))) ⌝ }
-    ensures { λ r. ⌜ (r .session .memory ≡ session .memory) × (r .session .cache ≡ session .cache) ⌝ }
+    ensures { λ r. ⌜ ((text : List ℕ) → left r (now (memory .exit)) (now (cache .exit)) text ≡ carriedOut (Show call) (deskOf session (now (memory .entry)) (now (cache .entry)) text)) ⌝ }
+    ensures { λ r. ⌜ (r .session .memory ≡ session .memory) × (r .session .cache ≡ session .cache) × (r .session .text ≡ session .text) ⌝ }
 {
     let state = session.state;
     let in_memory = session.memory;
@@ -88,8 +93,7 @@ fn make(session: Session, memory: &mut [u64], cache: &mut [u64], call: Call) -> 
     Answered {
         session: Session {
             state: next,
-            memory: in_memory,
-            cache: in_cache,
+            ..session
         },
         answer: Shown::Number(r.number as u64),
         value: Shown::Number(r.value),
@@ -105,6 +109,17 @@ fn unshown(answered: Answered) -> Answered
     Answered {
         session,
         answer,
+        value: Shown::Nothing,
+    }
+}
+
+// `?`, with nothing done.
+fn unknown(session: Session) -> Answered
+    ensures { λ r. ⌜ (r .session ≡ session) × (r .answer ≡ Shown.Unknown) × (r .value ≡ Shown.Nothing) ⌝ }
+{
+    Answered {
+        session,
+        answer: Shown::Unknown,
         value: Shown::Nothing,
     }
 }
@@ -171,7 +186,7 @@ fn format(
 ) -> Answered
     requires { ⌜ Within session ⌝ }
     requires { ⌜ Room (now memory) (now cache) ⌝ }
-    ensures { λ r. ⌜ left r (now (memory .exit)) (now (cache .exit)) ≡ carriedOut (Format lines workers) (boardOf session (now (memory .entry)) (now (cache .entry))) ⌝ }
+    ensures { λ r. ⌜ ((text : List ℕ) → left r (now (memory .exit)) (now (cache .exit)) text ≡ carriedOut (Format lines workers) (deskOf session (now (memory .entry)) (now (cache .entry)) text)) ⌝ }
     ensures { λ r. ⌜ Within (r .session) ⌝ }
 {
     if checks::limits::outside(lines, workers) {
@@ -195,6 +210,7 @@ fn format(
             state: next,
             memory: words,
             cache: words,
+            text: session.text,
         },
         answer: Shown::Number(0),
         value: Shown::Nothing,
@@ -204,7 +220,7 @@ fn format(
 // A damaging line of the fault program.
 fn harm(session: Session, memory: &mut [u64], cache: &mut [u64], asked: Damage) -> Answered
     requires { ⌜ Within session × HasRoom (now memory) (now cache) ⌝ }
-    ensures { λ r. ⌜ left r (now (memory .exit)) (now (cache .exit)) ≡ carriedOut (Line.Damage asked) (boardOf session (now (memory .entry)) (now (cache .entry))) ⌝ }
+    ensures { λ r. ⌜ ((text : List ℕ) → left r (now (memory .exit)) (now (cache .exit)) text ≡ carriedOut (Line.Damage asked) (deskOf session (now (memory .entry)) (now (cache .entry)) text)) ⌝ }
     ensures { λ r. ⌜ Within (r .session) ⌝ }
 {
     let state = session.state;
@@ -222,6 +238,7 @@ fn harm(session: Session, memory: &mut [u64], cache: &mut [u64], asked: Damage) 
             state: next,
             memory: used.memory,
             cache: used.cache,
+            text: session.text,
         },
         answer,
         value,
@@ -255,15 +272,11 @@ fn text_row() -> [u8; 70000]
 // "p room": a page in a text row of `room` bytes.
 fn print(session: Session, memory: &[u64], cache: &[u64], room: u64) -> Answered
     requires { ⌜ Fits session (now memory) (now cache) ⌝ }
-    ensures { λ r. ⌜ left r (now (memory .entry)) (now (cache .entry)) ≡ carriedOut (Line.Page room) (boardOf session (now (memory .entry)) (now (cache .entry))) ⌝ }
+    ensures { λ r. ⌜ ((text : List ℕ) → left r (now (memory .entry)) (now (cache .entry)) text ≡ carriedOut (Line.Page room) (deskOf session (now (memory .entry)) (now (cache .entry)) text)) ⌝ }
     ensures { λ r. ⌜ r .session ≡ session ⌝ }
 {
     if room > 70000 {
-        return Answered {
-            session,
-            answer: Shown::Unknown,
-            value: Shown::Nothing,
-        };
+        return unknown(session);
     }
     let bytes = room as usize;
     let mut text = text_row();
@@ -281,10 +294,11 @@ pub fn act(
     session: Session,
     memory: &mut [u64; 4104],
     cache: &mut [u64; 4104],
+    text: &mut [u8; 90200],
     line: Line,
 ) -> Answered
     requires { ⌜ Within session ⌝ }
-    ensures done { λ r. ⌜ left r (now (memory .exit)) (now (cache .exit)) ≡ carriedOut line (boardOf session (now (memory .entry)) (now (cache .entry))) ⌝ }
+    ensures done { λ r. ⌜ left r (now (memory .exit)) (now (cache .exit)) (now (text .exit)) ≡ carriedOut line (deskOf session (now (memory .entry)) (now (cache .entry)) (now (text .entry))) ⌝ }
     ensures within { λ r. ⌜ Within (r .session) ⌝ }
 {
     match line {
@@ -294,10 +308,7 @@ pub fn act(
         Line::Cut => cut(session, cache),
         Line::Damage { damage } => harm(session, memory, cache, damage),
         Line::Page { room } => print(session, memory, cache, room),
-        Line::Unknown => Answered {
-            session,
-            answer: Shown::Unknown,
-            value: Shown::Nothing,
-        },
+        Line::Text { work } => texts::carry_out(session, memory, text, work),
+        Line::Unknown => unknown(session),
     }
 }

@@ -1,4 +1,4 @@
-// What a program says on standard error: why it stops, why there is no page, and which lines were no calls. Document 01
+// What a program says on standard error: why it stops, why nothing is printed, and which lines were no calls. Document 01
 // fixes standard output alone; these words are ours, and the second program has the same.
 use console::answers::Misread;
 use libc::STDERR_FILENO;
@@ -20,6 +20,7 @@ fn name(program: Program) {
         Program::Drill => say(b"drill: "),
         Program::Fault => say(b"fault: "),
         Program::Page => say(b"page: "),
+        Program::Hex => say(b"hex: "),
     }
 }
 
@@ -29,6 +30,7 @@ pub fn reading_failed(program: Program) {
         Program::Drill => os::fail(b"drill: reading failed"),
         Program::Fault => os::fail(b"fault: reading failed"),
         Program::Page => os::fail(b"page: reading failed"),
+        Program::Hex => os::fail(b"hex: reading failed"),
     }
 }
 
@@ -38,17 +40,22 @@ pub fn writing_failed(program: Program) {
         Program::Drill => os::fail(b"drill: writing failed"),
         Program::Fault => os::fail(b"fault: writing failed"),
         Program::Page => os::fail(b"page: writing failed"),
+        Program::Hex => os::fail(b"hex: writing failed"),
     }
 }
 
-// Why there is no page.
-pub fn page_refused(number: u8) {
-    name(Program::Page);
+// Why nothing is printed.
+pub fn refused(program: Program, number: u8) {
+    name(program);
     match number {
         2 => say(b"refused by cause 2: phase doesn't allow the call\n"),
         3 => say(b"refused by cause 3: state record\n"),
         4 => say(b"refused by cause 4: rows\n"),
+        5 => say(b"refused by cause 5: header\n"),
         12 => say(b"refused by cause 12: text row too short\n"),
+        14 => say(b"refused by cause 14: a mark greater than the epoch\n"),
+        19 => say(b"refused by cause 19: text that isn't such a file\n"),
+        20 => say(b"refused by cause 20: length\n"),
         _ => say(b"refused\n"),
     }
 }

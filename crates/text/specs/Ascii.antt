@@ -85,6 +85,9 @@ abbrev pub 'W' : ℕ
 abbrev pub 'X' : ℕ
 'X' = 88
 
+abbrev pub 'Y' : ℕ
+'Y' = 89
+
 abbrev pub 'a' : ℕ
 'a' = 97
 
@@ -94,11 +97,17 @@ abbrev pub 'b' : ℕ
 abbrev pub 'f' : ℕ
 'f' = 102
 
+abbrev pub 'h' : ℕ
+'h' = 104
+
 abbrev pub 'n' : ℕ
 'n' = 110
 
 abbrev pub 'p' : ℕ
 'p' = 112
+
+abbrev pub 'y' : ℕ
+'y' = 121
 
 abbrev pub 'z' : ℕ
 'z' = 122

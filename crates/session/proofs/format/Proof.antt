@@ -5,7 +5,7 @@ use mathlib.Core.Bool.{false}
 use native.Mathlib.Omega.{arith}
 use borrow.Author.Needs.{needs}
 use Rattle.board.specs.Board.{shaped, outside}
-use Rattle.session.specs.Session.{boardOf}
+use Rattle.session.specs.Session.{deskOf}
 use Rattle.session.proofs.Rows.{part-size}
 use Rattle.session.proofs.Formats.{lines-within, format-down, format-up}
 use Rattle.session.proofs.format.Statement.{statement}
@@ -25,7 +25,7 @@ returns : tie.Need-returns
 returns c =
     let s = c .before .before .before .before in
     let a = s .args in
-    (format-down (a .lines) (a .workers) (boardOf (a .session) (a .memory .now) (a .cache .now)) (sym (c .before .outside .ensures) ∙ c .if1 .taken), s .pre .0)
+    ((λ text. format-down (a .lines) (a .workers) (deskOf (a .session) (a .memory .now) (a .cache .now) text) (sym (c .before .outside .ensures) ∙ c .if1 .taken)), s .pre .0)
 
 cast-row-words : tie.Need-cast-row-words
 cast-row-words c = omega (arith, bound c)
@@ -54,11 +54,11 @@ returns-2 c =
     let a = start (sized .before) .args in
     let within = bound (sized .before) in
     let words = sized .row-words .ensures in (
-      format-up (a .lines) (a .workers) (sized .row-words .result) (a .session .state) (r .result) (boardOf (a .session) (a .memory .now) (a .cache .now))
+      (λ text. format-up (a .lines) (a .workers) (sized .row-words .result) (a .session .state) (r .result) (deskOf (a .session) (a .memory .now) (a .cache .now) text)
           (a .memory .now) (a .cache .now) (r .last .1 .0) (r .last .1 .1 .0) words (inside (sized .before)) refl
           (slice-relend-prefix-format-rows sized) (slice-relend-prefix-format-rows-2 lent)
-          (r .kept .1 .0) (r .kept .1 .1 .0) (r .ensures),
-      record { memory-within = omega (arith, within, words); cache-within = omega (arith, within, words) },
+          (r .kept .1 .0) (r .kept .1 .1 .0) (r .ensures)),
+      record { memory-within = omega (arith, within, words); cache-within = omega (arith, within, words); text-within = start (sized .before) .pre .0 .text-within },
     )
 
 pub format-spec : {M : Type 1} → statement M

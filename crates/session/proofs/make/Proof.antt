@@ -1,6 +1,7 @@
 -- `session::make` meets its contract: the parts lent are within the rows.
 use mathlib.Core.Path.{refl}
 use native.Mathlib.Omega.{arith}
+use lib.ListN.{take}
 use borrow.Author.Needs.{needs}
 use Rattle.session.specs.Lines.{repeated}
 use Rattle.session.proofs.Rows.{part-size}
@@ -14,11 +15,12 @@ returns c =
     let p = c .before .before .before .before .before .before .repeat in
     let start = c .before .before .before .before .before .before .before .before .before .before .before .before in
     let a = start .args in
-    let s = a .session in
-    let did = made (s .memory) (s .cache) (a .memory .now) (a .cache .now) (p .last .1 .1 .0) (p .last .1 .1 .1 .0)
-    (start .pre .memory-fits) (start .pre .cache-fits) (p .kept .1 .1 .0) (p .kept .1 .1 .1 .0)
-    (a .call) (s .state) (p .result .state) (p .result .number) (p .result .value) (p .ensures) in
-    (did, (refl, refl))
+    let s = a .session in (
+      (λ text. made (s .memory) (s .cache) (a .memory .now) (a .cache .now) (p .last .1 .1 .0) (p .last .1 .1 .1 .0)
+          (start .pre .memory-fits) (start .pre .cache-fits) (p .kept .1 .1 .0) (p .kept .1 .1 .1 .0)
+          (a .call) (s .state) (p .result .state) (p .result .number) (p .result .value) (take (s .text) text) (p .ensures)),
+      (refl, refl, refl),
+    )
 
 pub make-spec : {M : Type 1} → statement M
 make-spec =

@@ -7,11 +7,11 @@ use Rattle.shell.proofs.run.Statement.{statement}
 use Rattle.shell.proofs.run.Tie as tie
 
 abbrev Inv-loop : tie.InvT-loop
-Inv-loop program memory₀ cache₀ line₀ text₀ out₀ reached₀ turns₀ memory cache line text out reached turns =
-    Ready (reached .progress) × (65536 ≡ length text)
+Inv-loop program memory₀ cache₀ text₀ line₀ input₀ out₀ reached₀ turns₀ memory cache text line input out reached turns =
+    Ready (reached .progress) × (65536 ≡ length input)
 
 abbrev μ-loop : tie.MeasureT-loop
-μ-loop program memory₀ cache₀ line₀ text₀ out₀ reached₀ turns₀ memory cache line text out reached turns =
+μ-loop program memory₀ cache₀ text₀ line₀ input₀ out₀ reached₀ turns₀ memory cache text line input out reached turns =
     turns
 
 pub run-spec : {M : Type 1} → statement M

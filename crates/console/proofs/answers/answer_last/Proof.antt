@@ -9,14 +9,14 @@ returns : tie.Need-returns
 returns c =
     let start = c .before .before .before in
     let a = start .args in
-    (none-last (a .program) (a .progress) (a .memory .now) (a .cache .now) (a .line .now) (c .if1 .taken), (start .pre .0, omega arith))
+    (none-last (a .program) (a .progress) (a .memory .now) (a .cache .now) (a .text .now) (a .line .now) (c .if1 .taken), (start .pre .0, omega arith))
 
 returns-2 : tie.Need-returns-2
 returns-2 c =
-    let start = c .before .before .before .before .before .before .before .before .before .before .before .before in
+    let start = c .before .before .before .before .before .before .before .before .before .before .before .before .before in
     let a = start .args in
     let r = c .before .before .before .answer in (
-      line-last (a .program) (a .progress) (a .memory .now) (a .cache .now) (a .line .now) (start .pre .0) (start .pre .1) (c .before .before .before .before .before .before .before .before .before .if1 .left) (r .ensures .0) (r .ensures .1 .0),
+      line-last (a .program) (a .progress) (a .memory .now) (a .cache .now) (a .text .now) (a .line .now) (start .pre .0) (start .pre .1) (c .before .before .before .before .before .before .before .before .before .before .if1 .left) (r .ensures .0) (r .ensures .1 .0),
       (r .ensures .1 .1, r .ensures .1 .0 .written-within),
     )
 

@@ -9,6 +9,7 @@ use Rattle.board.specs.declared.Phase.the-variants.{Off}
 use Rattle.board.specs.Board.{shaped}
 use Rattle.board.specs.State.{started}
 use Rattle.board.specs.Next.{lent}
+use Rattle.session.specs.Session.{desk}
 use Rattle.console.specs.Transcript.{noneMisread}
 use Rattle.console.specs.Pieces.{carried}
 use Rattle.console.proofs.answers.start.Statement.{statement}
@@ -18,10 +19,11 @@ returns : tie.Need-returns
 returns c =
     let s = c .new .result in
     let w = c .new .ensures in (
-      (λ m c line.
-          ap (λ (x : State). carried (lent x (take (s .memory) m) (take (s .cache) c)) 0 noneMisread []) (w .0)
-          ∙ ap (λ (k : ℕ). carried (lent (started Off (shaped 0) 0) (take k m) (take (s .cache) c)) 0 noneMisread []) (w .1)
-          ∙ ap (λ (k : ℕ). carried (lent (started Off (shaped 0) 0) [] (take k c)) 0 noneMisread []) (w .2)),
+      (λ m c t line.
+          ap (λ (x : State). carried (desk (lent x (take (s .memory) m) (take (s .cache) c)) (take (s .text) t)) 0 noneMisread []) (w .0)
+          ∙ ap (λ (k : ℕ). carried (desk (lent (started Off (shaped 0) 0) (take k m) (take (s .cache) c)) (take (s .text) t)) 0 noneMisread []) (w .1)
+          ∙ ap (λ (k : ℕ). carried (desk (lent (started Off (shaped 0) 0) [] (take k c)) (take (s .text) t)) 0 noneMisread []) (w .2)
+          ∙ ap (λ (k : ℕ). carried (desk (lent (started Off (shaped 0) 0) [] []) (take k t)) 0 noneMisread []) (w .3)),
       search needs,
     )
 

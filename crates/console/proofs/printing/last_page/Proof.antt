@@ -9,7 +9,7 @@ use Rattle.console.proofs.printing.last_page.Tie as tie
 returns : tie.Need-returns
 returns c =
     let last = c .before .before .before .before .before .before .before .before .before .before .before .answer-last in (
-      c .print .ensures .0 ∙ ap (λ (f : Fed). printedOf (f .after .board)) (last .ensures .0),
+      c .print .ensures .0 ∙ ap (λ (f : Fed). printedOf (f .after .desk .board)) (last .ensures .0),
       (c .print .ensures .1, ap (λ (f : Fed). f .after .misread) (last .ensures .0)),
     )
 

@@ -12,8 +12,12 @@ returns-2 c = rw (c .before .before .enum-told2 .given .1) (c .has-byte2 .ensure
 returns-3 : tie.Need-returns-3
 returns-3 c = rw (c .before .before .enum-told3 .given .1) (c .has-byte3 .ensures)
 
+returns-4 : tie.Need-returns-4
+returns-4 c = rw (c .before .before .enum-told4 .given .1) (c .has-byte4 .ensures)
+
 pub has-letter-spec : {M : Type 1} → statement M
 has-letter-spec =
     tie.close
     (tie.spec (search needs) (λ c. search needs) (λ c κs. search needs) (search needs)
-    (λ c. search needs) (λ c κs. search needs) (search needs) (λ c. search needs) (λ c κs. search needs) returns returns-2 returns-3)
+    (λ c. search needs) (λ c κs. search needs) (search needs) (λ c. search needs) (λ c κs. search needs)
+    (search needs) (λ c. search needs) (λ c κs. search needs) returns returns-2 returns-3 returns-4)
