@@ -13,7 +13,11 @@ use Rattle.text.specs.Ascii.{feed, ':'}
 use Rattle.board.specs.Hex.{byteOf, bytesIn, allBytes, sumOf, countOf, bytesOf, addressOf, typeOf, dataOf, recordLength, hasRecord, hasData, hasEnd}
 use Rattle.hex.specs.Storing.{frontOf}
 use Rattle.hex.proofs.Parsing.{in-at, in-length, record-end, record-within}
-use Rattle.hex.proofs.Summing.{and-true}
+
+-- A test and one that holds.
+and-true : (a : Bool) → a && true ≡ a
+and-true true = refl
+and-true false = refl
 
 -- Of two tests one of which holds, where the first fails the second holds.
 or-on : (a b : Bool) → a ≡ false → a || b ≡ true → b ≡ true

@@ -1,14 +1,19 @@
 -- What the contracts of the private functions that look a text through and store its words cite.
 use Prim.Native.Nat.{ℕ, _+_, _*_, _/_, _^_, _<_}
 use mathlib.Core.List.{List, [], _∷_}
-use mathlib.Core.Bool.{cond}
+use mathlib.Core.Bool.{Bool, true, cond}
 use mathlib.Core.Path.{_≡_}
 use lib.ListN.{length, getD, set}
-use Rattle.board.specs.Hex.{hexDigit, file, countOf, hasData, hasEnd, parsed}
+use Rattle.board.specs.Hex.{hexDigit, allBytes, sumOf, file, countOf, hasData, hasEnd, parsed}
 
 -- The table of the digits that characters stand for: an entry for each byte.
 pub record DigitTable (digits : List ℕ) : Type 0 where
   pub entry : (c : ℕ) → c < 256 → getD digits c 0 ≡ hexDigit c
+
+-- `good` says whether all are bytes, and then `sum` is their sum.
+pub record Totals (bytes : List ℕ) (sum : ℕ) (good : Bool) : Type 0 where
+  pub all : good ≡ allBytes bytes
+  pub total : good ≡ true → sum ≡ sumOf bytes
 
 -- What stands at a text's front: 0 for the end record, else how many bytes the data record there has, 256 where there is neither.
 unfoldable pub frontOf : ℕ → List ℕ → ℕ

@@ -4,8 +4,8 @@ ghost use mathlib.Core.Path.{_≡_};
 ghost use mathlib.Core.Bool.{not};
 ghost use lib.ListN.{length};
 ghost use Prim.Native.Nat.{_+_, _*_, _≤_};
-ghost use Rattle.board.specs.Hex.{hexDigit, byteOf, bytesIn, allBytes, sumOf, countOf, hasRecord, addressOf, parsed, isNoFile, readBytes};
-ghost use Rattle.hex.specs.Storing.{DigitTable, frontOf};
+ghost use Rattle.board.specs.Hex.{hexDigit, byteOf, bytesIn, countOf, hasRecord, addressOf, parsed, isNoFile, readBytes};
+ghost use Rattle.hex.specs.Storing.{DigitTable, Totals, frontOf};
 use crate::table;
 
 // Whether a text is a file, and how many bytes it holds: none where it is no file.
@@ -38,21 +38,26 @@ fn byte_of(digits: &[u8; 256], high: u8, low: u8) -> usize
     if (h < 16) & (l < 16) { 16 * h + l } else { 256 }
 }
 
-// The sum of the first `n` bytes that a text's characters write.
+// The sum of the first `n` bytes that a text's characters write, right where all of them are bytes. What are no digits are
+// counted, and not looked for one by one.
 fn sum(digits: &[u8; 256], text: &[u8], n: usize) -> Summed
     requires { ⌜ DigitTable (now digits) × (2 * n ≤ length (now text)) × (n ≤ 260) ⌝ }
-    ensures { λ r. ⌜ (r .bytes ≡ sumOf (bytesIn n (now (text .entry)))) × (r .good ≡ allBytes (bytesIn n (now (text .entry)))) ⌝ }
+    ensures { λ r. ⌜ Totals (bytesIn n (now (text .entry))) (r .bytes) (r .good) ⌝ }
 {
     let mut bytes = 0;
-    let mut good = true;
+    let mut strays = 0;
     let mut k = 0;
     while k < n {
-        let byte = byte_of(digits, text[2 * k], text[2 * k + 1]);
-        bytes += byte;
-        good = good & (byte < 256);
+        let high = digit(digits, text[2 * k]) as usize;
+        let low = digit(digits, text[2 * k + 1]) as usize;
+        bytes += 16 * high + low;
+        strays += high / 16 + low / 16;
         k += 1;
     }
-    Summed { bytes, good }
+    Summed {
+        bytes,
+        good: strays == 0,
+    }
 }
 
 // There is a record at the text's front; `count` is how many bytes of data it says that it has.

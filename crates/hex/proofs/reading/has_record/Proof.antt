@@ -1,13 +1,15 @@
 -- `hex::reading::has_record` meets its contract: the tests of a record, those of its frame first.
 use Prim.Native.Nat.{ℕ, _+_, _%_}
-use mathlib.Core.Path.{_≡_, ap, _∙_}
+use mathlib.Core.Path.{_≡_, sym, ap, _∙_}
 use mathlib.Core.List.{List}
-use mathlib.Core.Bool.{_&&_}
+use mathlib.Core.Bool.{Bool, _&&_}
 use native.Mathlib.Omega.{arith}
 use lib.Dec.{eqb}
 use lib.ListN.{length, drop, length-drop}
 use borrow.Author.Needs.{needs}
 use Rattle.board.specs.Hex.{bytesIn, allBytes, sumOf}
+use Rattle.predicate.proofs.Bools.{split}
+use Rattle.hex.specs.Storing.{Totals}
 use Rattle.hex.proofs.Parsing.{tail}
 use Rattle.hex.proofs.Fronts.{no-room, some-room, no-frame, frame}
 use Rattle.hex.proofs.reading.has_record.Statement.{statement}
@@ -35,13 +37,19 @@ sum-requires c κs =
     let room = some-room t {count = s .args .count} (c .before .before .before .before .if1 .left) in
     (s .pre .0, omega (arith, ap length (tail 1 t), length-drop 1 t, room), omega (arith, room))
 
+-- Where all are bytes, the sum is theirs; else neither test holds.
+both : {bytes : List ℕ} {sum : ℕ} {good : Bool} → Totals bytes sum good → good && eqb (sum % 256) 0 ≡ allBytes bytes && eqb (sumOf bytes % 256) 0
+both {bytes} {sum} {good} t =
+    split good (λ e. (λ i. t .all i && eqb (t .total e i % 256) 0))
+    (λ e. ap (λ (g : Bool). g && eqb (sum % 256) 0) e ∙ sym (ap (λ (g : Bool). g && eqb (sumOf bytes % 256) 0) (sym (t .all) ∙ e)))
+
 returns-3 : tie.Need-returns-3
 returns-3 c =
     let s = c .before .before .before .before .before .before .before .before .before in
     let t = s .args .text .now in
     let sum = c .before .before .sum in
     let all = ap (bytesIn (s .args .count + 5)) (tail 1 t) ∙ ap (λ (n : ℕ). bytesIn (n + 5) (drop 1 t)) (s .pre .2) in
-    (λ i. sum .ensures .1 i && eqb (sum .ensures .0 i % 256) 0) ∙ ap (λ (l : List ℕ). allBytes l && eqb (sumOf l % 256) 0) all
+    both (sum .ensures) ∙ ap (λ (l : List ℕ). allBytes l && eqb (sumOf l % 256) 0) all
     ∙ frame t (s .pre .2) (c .before .before .before .before .if2 .left)
 
 pub has-record-spec : {M : Type 1} → statement M
