@@ -2,6 +2,7 @@
 pub mod Bench
 pub mod Refusals
 pub mod Pages
+pub mod HexTexts
 pub mod Invariant
 pub mod Laws
 pub mod Format

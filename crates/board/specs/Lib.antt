@@ -21,3 +21,4 @@ pub mod HexHistories
 pub mod Bench
 pub mod Refusals
 pub mod Pages
+pub mod HexTexts
