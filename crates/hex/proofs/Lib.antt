@@ -15,3 +15,4 @@ pub mod Stored
 pub mod Filling
 pub mod Shifting
 pub mod Whole
+pub mod Lanes

@@ -6,8 +6,8 @@ use mathlib.Core.Bool.{false, _&&_}
 use native.Mathlib.Omega.{arith}
 use native.Mathlib.Numerals.{add-one}
 use lib.Dec.{leb, eqb}
-use lib.ListN.{length, getD, take, drop, set, length-append}
-use lib.Seq.{drop-cons, drop-length, take-suc}
+use lib.ListN.{length, getD, drop, set, length-append}
+use lib.Seq.{drop-cons, drop-length}
 use borrow.Author.Tests.{eqb-true, leb-true}
 use Rattle.predicate.proofs.Bools.{and-left, and-right, not-off}
 use Rattle.text.specs.Ascii.{feed, ':'}
@@ -49,24 +49,6 @@ pub low-sum : (n w : ℕ) → sumOf (lowBytes n w) ≤ 255 * n
 unfolding lowBytes sumOf
 low-sum zero w = omega arith
 low-sum (suc n) w = omega (arith, low-sum n (w / 256))
-
--- Where those from `k` on are of what is left of the word, the next one is its lowest.
-module _ (bytes : List ℕ) (left n k : ℕ) (size : length bytes ≡ n) (under : k < n) (rest : drop k bytes ≡ lowBytes (n - k) left) where
-  opened : getD bytes k 0 ∷ drop (k + 1) bytes ≡ left % 256 ∷ lowBytes (n - (k + 1)) (left / 256)
-  unfolding lowBytes
-  opened =
-      let one : n - k ≡ suc (n - (k + 1)) = omega arith in
-      ap (λ (j : ℕ). getD bytes k 0 ∷ drop j bytes) (add-one k) ∙ sym (drop-cons bytes k 0 (omega arith)) ∙ rest ∙ ap (λ (m : ℕ). lowBytes m left) one
-
-  -- Those behind it are of what is then left.
-  pub low-next : drop (k + 1) bytes ≡ lowBytes (n - (k + 1)) (left / 256)
-  low-next = cc opened
-
-  -- It stands behind those before it.
-  pub low-taken : take (k + 1) bytes ≡ take k bytes ++ (left % 256 ∷ [])
-  low-taken =
-      let byte : getD bytes k 0 ≡ left % 256 = cc opened in
-      ap (λ (j : ℕ). take j bytes) (add-one k) ∙ take-suc bytes k 0 (omega arith) ∙ ap (λ (b : ℕ). take k bytes ++ (b ∷ [])) byte
 
 -- ---- texts behind texts
 

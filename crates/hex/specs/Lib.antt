@@ -1,3 +1,5 @@
--- `Statements` says what is claimed of HEX text; the text itself is `Hex` of crate `board`. `Storing` has what only private functions' contracts cite.
+-- `Statements` says what is claimed of HEX text; the text itself is `Hex` of crate `board`.
+-- `Storing` and `Lanes` have what only private functions' contracts cite.
 pub mod Statements
 pub mod Storing
+pub mod Lanes

@@ -8,30 +8,32 @@ use Rattle.hex.proofs.writing.put_record.Tie as tie
 
 add-put-tail-4 : tie.Need-add-put-tail-4
 add-put-tail-4 c =
-    let first = c .before .before .before .before .before .before .before in
-    omega (arith, first .put-word .ensures .1, low-sum 8 (first .before .before .before .before .before .before .before .args .v))
+    let second = c .before .before .before .before in
+    let head = second .before .before .before .before .before .before .before .before in
+    record { fits = omega (arith, c .sum .ensures, low-sum 8 (head .before .before .before .args .v)) }
 
 add-put-tail-5 : tie.Need-add-put-tail-5
 add-put-tail-5 c =
-    let second = c .before .before .before in
-    let first = second .before .before .before .before in
-    let a = first .before .before .before .before .before .before .before .args in
-    omega (arith, first .put-word .ensures .1, second .put-word2 .ensures .1, low-sum 8 (a .v), low-sum 8 (a .w))
+    let second = c .before .before .before .before .before in
+    let head = second .before .before .before .before .before .before .before .before in
+    let a = head .before .before .before .args in
+    record { fits = omega (arith, c .before .sum .ensures, c .sum2 .ensures, low-sum 8 (a .v), low-sum 8 (a .w)) }
 
 returns : tie.Need-returns
 returns c =
     let tail = c .before .before in
-    let second = tail .before .before .before .before in
+    let sums = tail .before in
+    let second = sums .before .before .before .before .before in
     let first = second .before .before .before .before in
     let head = first .before .before .before .before in
     let a = head .before .before .before .args in
-    let one = follows (head .put-head .ensures) (first .put-word .ensures .0) refl (omega arith) in
-    let two = follows one (second .put-word2 .ensures .0) (omega arith) (omega arith) in
+    let one = follows (head .put-head .ensures) (first .put-word .ensures) refl (omega arith) in
+    let two = follows one (second .put-word2 .ensures) (omega arith) (omega arith) in
     let all = follows two (tail .put-tail .ensures) (omega arith) (omega arith) in
-    written-as all (record-parts (a .address) (a .v) (a .w) _ (omega (arith, first .put-word .ensures .1, second .put-word2 .ensures .1))) (omega arith)
+    written-as all (record-parts (a .address) (a .v) (a .w) _ (omega (arith, sums .before .sum .ensures, sums .sum2 .ensures))) (omega arith)
 
 pub put-record-spec : {M : Type 1} → statement M
 put-record-spec =
     tie.close
     (tie.spec (search needs) (search needs) (search needs) (search needs) (search needs) (search needs) (search needs) (search needs) (search needs)
-    (search needs) (search needs) (search needs) add-put-tail-4 add-put-tail-5 (search needs) (search needs) returns)
+    (search needs) (search needs) (search needs) (search needs) add-put-tail-4 (search needs) add-put-tail-5 (search needs) (search needs) returns)
