@@ -97,7 +97,7 @@ enum nevrodde_answer {
     NEVRODDE_CHECKPOINT = 10,
     /* last epoch: there is no next one */
     NEVRODDE_EPOCH = 11,
-    /* text row too short */
+    /* text row too short for the page or the HEX text */
     NEVRODDE_TEXT = 12,
     /* coming back in the middle of a checkpoint */
     NEVRODDE_BEGUN = 13,
@@ -107,9 +107,9 @@ enum nevrodde_answer {
     NEVRODDE_LOCK = 15,
     /* lock not held or not free */
     NEVRODDE_HOLDER = 16,
-    /* text that is no HEX file of a memory */
+    /* text is no Intel HEX file that this board reads */
     NEVRODDE_FILE = 19,
-    /* length: no board's memory has it, or the row has another */
+    /* length: no memory has it, or the row has another */
     NEVRODDE_LENGTH = 20
 };
 
