@@ -1,5 +1,5 @@
 -- Document 02, ticket 9: a memory's text worked out, and texts and memories that are turned down and just taken.
-use Prim.Native.Nat.{ℕ, _+_, _*_, _^_}
+use Prim.Native.Nat.{ℕ, _+_, _*_}
 use mathlib.Core.Path.{_≡_}
 use mathlib.Core.List.{List, [], _∷_, _++_, flatten}
 use mathlib.Core.Bool.{Bool, true, cond, _&&_}

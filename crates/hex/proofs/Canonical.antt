@@ -2,13 +2,10 @@
 use Prim.Native.Nat.{ℕ, zero, suc, _+_, _*_, _/_, _%_, _≤_, _<_}
 use mathlib.Core.Path.{_≡_, refl, sym, ap, ap₂, subst, subst₂, _∙_}
 use mathlib.Core.List.{List, [], _∷_, _++_}
-use mathlib.Core.Bool.{true, false, _&&_}
+use mathlib.Core.Bool.{true, false}
 use native.Mathlib.Omega.{arith}
 use lib.ListN.{length, getD, take, drop, length-append}
 use lib.Seq.{take-at, drop-at, append-snoc}
-use lib.Dec.{eqb, leb}
-use borrow.Author.Tests.{eqb-true, leb-true}
-use Rattle.predicate.proofs.Bools.{and-left, and-right, not-off}
 use Rattle.text.specs.Ascii.{feed, ':', 'a'}
 use Rattle.board.specs.Causes.{badLength}
 use Rattle.board.specs.Hex.{bytesText, checkByte, recordBytes, recordText, allBytes, wordBytes, hexFrom, hexText, hexBytes}
@@ -16,6 +13,7 @@ use Rattle.hex.specs.Statements.{HexFile, ends, holds, AllWords, sizes, 
 use Rattle.hex.proofs.Words.{bytes-none, bytes-more, bytes-append, eight-each, words-bytes, words-append}
 use Rattle.hex.proofs.Spelling.{text-spells, upper-left, upper-right, upper-append, text-upper, spells-upper}
 use Rattle.hex.proofs.Files.{record-long}
+use Rattle.hex.proofs.Written.{good-length}
 
 -- ---- one record
 
@@ -157,23 +155,15 @@ only-ours (holds {address = address} {digits = digits} {rest = rest} {more = mor
 
 -- ---- a length that recovery takes
 
--- Its words fill whole records, at addresses of two bytes.
-taken-length : (n : ℕ) → badLength n ≡ false → (n % 8 ≡ 0) × (n ≤ 4096)
-taken-length n e =
-    let most = leb n 4096 in
-    let test = eqb (n % 8) 0 && leb 16 n in
-    let passed = not-off (test && most) e in
-    (eqb-true (n % 8) 0 (and-left (eqb (n % 8) 0) (leb 16 n) (and-left test most passed)), leb-true n 4096 (and-right test most passed))
-
 -- The text of a memory of such a length.
 pub memory-text : (memory : List ℕ) → badLength (length memory) ≡ false → Ours 0 (length memory) (hexText memory) (wordBytes memory)
-memory-text memory e = let t = taken-length (length memory) e in our-text 0 memory (omega arith) (omega arith)
+memory-text memory e = let t = good-length (length memory) e in our-text 0 memory (omega arith) (omega arith)
 
 -- It is the only one of its kind.
 pub canonical : (memory : List ℕ) → AllWords memory → badLength (length memory) ≡ false → Canonical memory
 canonical memory words e =
     let o = memory-text memory e in
-    let t = taken-length (length memory) e in
+    let t = good-length (length memory) e in
     record {
       ours = o .file;
       sixteens = o .sixteens;

@@ -5,7 +5,7 @@ use mathlib.Core.List.{List, [], _∷_, _++_}
 use mathlib.Core.Bool.{Bool, true, false, _&&_, false≢true}
 use native.Mathlib.Omega.{arith}
 use lib.Dec.{eqb, ltb}
-use lib.ListN.{length, getD, take, drop, length-append, length-drop, take-append-drop, drop-of-length-le}
+use lib.ListN.{length, getD, take, drop, length-append, take-append-drop, drop-of-length-le}
 use lib.Seq.{take-at, drop-at, getD-at, append-snoc, drop-cons, take-suc, take-all, length-take-le}
 use borrow.Author.Tests.{eqb-true, ltb-true, eq-eqb, ne-eqb, lt-ltb}
 use Rattle.predicate.proofs.Bools.{split, chosen, passedOver, and-left, and-right, and-both, and-off, and-off-right}
@@ -16,6 +16,8 @@ use Rattle.hex.specs.Statements.{Spells, HexFile, ends, holds, ReadsFile
 use Rattle.hex.proofs.Words.{bytes-first, bytes-rest, bytes-none, bytes-append, bytes-split}
 use Rattle.hex.proofs.Spelling.{spells-length, spells-bytes, spells-in, in-spells}
 use Rattle.hex.proofs.Parsing.{in-length, in-at, readsTo, reads-end, reads-data, record-end, record-within}
+use Rattle.hex.proofs.Fronts.{data-length, record-colon, record-digits, record-summed, record-count}
+use Rattle.hex.proofs.Written.{sum-append}
 
 -- Four tests that all hold, each by itself.
 four-hold : (a b c d : Bool) → a && b && c && d ≡ true → (a ≡ true) × (b ≡ true) × (c ≡ true) × (d ≡ true)
@@ -25,12 +27,6 @@ four-hold a b c d e =
     (and-left a b two, and-right a b two, and-right (a && b) c three, and-right (a && b && c) d e)
 
 -- ---- a record's bytes
-
--- The sum of bytes and bytes.
-sum-append : (a b : List ℕ) → sumOf (a ++ b) ≡ sumOf a + sumOf b
-unfolding sumOf
-sum-append [] b = omega arith
-sum-append (x ∷ a) b = omega (arith, sum-append a b)
 
 -- With the checksum the sum is a multiple of 256.
 sum-right : (front : List ℕ) → sumOf (front ++ (checkByte front ∷ [])) % 256 ≡ 0
@@ -43,14 +39,14 @@ unfolding sumOf
 check-only front c h e = omega (arith, sum-append front (c ∷ []))
 
 -- A record has five bytes more than its data.
-record-length : (address type : ℕ) (some : List ℕ) → length (recordBytes address type some) ≡ length some + 5
-record-length address type some = omega (arith, length-append some (checkByte (length some ∷ address / 256 ∷ address % 256 ∷ type ∷ some) ∷ []))
+five-more : (address type : ℕ) (some : List ℕ) → length (recordBytes address type some) ≡ length some + 5
+five-more address type some = omega (arith, length-append some (checkByte (length some ∷ address / 256 ∷ address % 256 ∷ type ∷ some) ∷ []))
 
 -- A record is a colon, two digits a byte and a line feed, before what follows.
 pub record-long : {digits : List ℕ} (address type : ℕ) (some rest : List ℕ) → Spells digits (recordBytes address type some) →
     length (':' ∷ (digits ++ (feed ∷ rest))) ≡ 2 * length some + 12 + length rest
 record-long {digits} address type some rest s =
-    omega (arith, length-append digits (feed ∷ rest), spells-length s, record-length address type some)
+    omega (arith, length-append digits (feed ∷ rest), spells-length s, five-more address type some)
 
 -- Bytes of which the first says how many there are, with the right sum, are a record's.
 record-made : (bytes : List ℕ) (n : ℕ) → length bytes ≡ n + 5 → getD bytes 0 0 ≡ n → allBytes bytes ≡ true → sumOf bytes % 256 ≡ 0 →
@@ -95,7 +91,7 @@ stands {address} {type} {digits} some rest s =
     let text = ':' ∷ tail in
     let front = length some ∷ address / 256 ∷ address % 256 ∷ type ∷ some in
     let of : List ℕ = recordBytes address type some in
-    let size = record-length address type some in
+    let size = five-more address type some in
     let wide = spells-length s in
     let whole : bytesIn (length of) tail ≡ of = spells-in (feed ∷ rest) s in
     let count : countOf text ≡ length some = ap (λ (l : List ℕ). getD l 0 0) whole in
@@ -135,13 +131,12 @@ apart (c ∷ tail) h =
     let text = c ∷ tail in
     let n = countOf text in
     let inside = record-within text h in
-    let tests = four-hold (eqb c ':') (allBytes (bytesOf text)) (eqb (sumOf (bytesOf text) % 256) 0) _ h in
-    let colon = eqb-true c ':' (tests .0) in
-    let bytes = tests .1 in
-    let sum = eqb-true (sumOf (bytesOf text) % 256) 0 (tests .2) in
+    let colon = record-colon text h in
+    let bytes = record-digits text h in
+    let sum = record-summed text h in
     let size : length (bytesOf text) ≡ n + 5 = in-length (n + 5) tail in
     let made = record-made (bytesOf text) n size (in-at (n + 5) tail 0 (omega arith)) bytes sum in
-    let count : length (dataOf text) ≡ n = length-take-le n (drop 4 (bytesOf text)) (omega (arith, length-drop 4 (bytesOf text))) in
+    let count = data-length text in
     let two = 2 * (n + 5) in
     let near : suc two ≡ 2 * n + 11 = omega arith in
     let far : suc (suc two) ≡ recordLength text = omega arith in
@@ -153,7 +148,7 @@ apart (c ∷ tail) h =
       parts = ap₂ (λ (x : ℕ) (l : List ℕ). x ∷ l) colon (sym (take-append-drop two tail) ∙ ap (λ (l : List ℕ). take two tail ++ l) here);
       spells = subst (Spells (take two tail)) made (in-spells (n + 5) tail bytes);
       count = count;
-      small = omega (arith, bytes-first _ _ (subst (λ (l : List ℕ). allBytes l ≡ true) made bytes));
+      small = omega (arith, record-count text h);
     }
 
 -- ---- a file is read

@@ -2,15 +2,15 @@
 use Prim.Native.Nat.{ℕ, zero, suc, _+_, _*_, _-_, _%_, _≤_, _<_}
 use mathlib.Core.Path.{_≡_, refl, sym, ap, _∙_}
 use mathlib.Core.List.{List, [], _∷_}
-use mathlib.Core.Bool.{Bool, true, false, cond, _&&_}
+use mathlib.Core.Bool.{true, false, cond, _&&_}
 use native.Mathlib.Omega.{arith}
 use lib.Dec.{eqb}
 use lib.ListN.{length, getD, take, drop, length-drop}
 use lib.Seq.{getD-drop, drop-drop, take-all}
 use borrow.Author.Tests.{eqb-true}
-use Rattle.predicate.proofs.Bools.{chosen, passedOver, and-left, and-right}
+use Rattle.predicate.proofs.Bools.{chosen, passedOver, and-right}
 use Rattle.text.specs.Ascii.{feed, ':'}
-use Rattle.board.specs.Hex.{Parsed, noFile, file, inFront, byteOf, bytesIn, allBytes, sumOf, countOf, bytesOf, dataOf, recordLength, hasRecord, hasData, hasEnd, parsedFrom, parsed}
+use Rattle.board.specs.Hex.{Parsed, noFile, file, inFront, byteOf, bytesIn, allBytes, sumOf, countOf, bytesOf, dataOf, recordLength, hasRecord, hasData, hasEnd, parsedFrom}
 
 -- ---- the bytes that characters write
 

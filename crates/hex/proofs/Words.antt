@@ -50,7 +50,7 @@ bytes-split (x ∷ a) b e =
 -- ---- one word
 
 -- There are as many low bytes as asked for.
-low-length : (n w : ℕ) → length (lowBytes n w) ≡ n
+pub low-length : (n w : ℕ) → length (lowBytes n w) ≡ n
 unfolding lowBytes
 low-length zero w = refl
 low-length (suc n) w = ap suc (low-length n (w / 256))

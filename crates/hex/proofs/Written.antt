@@ -15,6 +15,7 @@ use Rattle.text.specs.Writing.{put, Put}
 use Rattle.text.proofs.Writing.{put-set, put-put, and-then}
 use Rattle.board.specs.Causes.{badLength}
 use Rattle.board.specs.Hex.{bytesText, sumOf, recordText, lowBytes, wordBytes, hexFrom}
+use Rattle.hex.proofs.Words.{low-length}
 
 -- ---- bytes as digits
 
@@ -37,12 +38,6 @@ sum-append [] ys = omega arith
 sum-append (x ∷ xs) ys = omega (arith, sum-append xs ys)
 
 -- ---- a word's bytes
-
--- There are as many as asked for.
-pub low-length : (n w : ℕ) → length (lowBytes n w) ≡ n
-unfolding lowBytes
-low-length zero w = refl
-low-length (suc n) w = ap suc (low-length n (w / 256))
 
 -- Each is below 256, and so their sum has a bound.
 pub low-sum : (n w : ℕ) → sumOf (lowBytes n w) ≤ 255 * n
