@@ -1,4 +1,5 @@
--- Document 02, ticket 9, "Intel HEX of the memory": the text of a memory, which texts are read and to which bytes, why either call is turned down, and what it leaves.
+-- Document 02, ticket 9, "Intel HEX of the memory": the text of a memory, which texts are read and to which bytes, why either call is turned down, and what
+-- it leaves.
 use Prim.Native.Nat.{ℕ, zero, suc, _+_, _*_, _-_, _/_, _%_}
 use mathlib.Core.Path.{_≡_}
 use mathlib.Core.List.{List, [], _∷_, _++_}
@@ -48,7 +49,8 @@ unfoldable pub wordBytes : List ℕ → List ℕ
 wordBytes [] = []
 wordBytes (w ∷ ws) = lowBytes 8 w ++ wordBytes ws
 
--- "in records of 16 bytes, addresses rising .. then the end record": words as text from `address` on. A last word alone, which no length that recovery takes leaves, has a record of its own.
+-- "in records of 16 bytes, addresses rising .. then the end record": words as text from `address` on. A last word alone, which no length that recovery takes
+-- leaves, has a record of its own.
 unfoldable pub hexFrom : ℕ → List ℕ → List ℕ
 hexFrom address [] = recordText 0 1 []
 hexFrom address (v ∷ []) = recordText address 0 (wordBytes (v ∷ [])) ++ recordText 0 1 []

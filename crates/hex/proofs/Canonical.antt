@@ -9,7 +9,7 @@ use lib.Seq.{take-at, drop-at, append-snoc}
 use Rattle.text.specs.Ascii.{feed, ':', 'a'}
 use Rattle.board.specs.Causes.{badLength}
 use Rattle.board.specs.Hex.{bytesText, checkByte, recordBytes, recordText, allBytes, wordBytes, hexFrom, hexText, hexBytes}
-use Rattle.hex.specs.Statements.{HexFile, ends, holds, AllWords, sizes, OnlySixteens, NoLower, Canonical}
+use Rattle.hex.specs.Statements.{HexFile, ends, holds, sizes, OnlySixteens, NoLower, Canonical}
 use Rattle.hex.proofs.Words.{bytes-none, bytes-more, bytes-append, eight-each, words-bytes, words-append}
 use Rattle.hex.proofs.Spelling.{text-spells, upper-left, upper-right, upper-append, text-upper, spells-upper}
 use Rattle.hex.proofs.Files.{record-long}
@@ -160,8 +160,8 @@ pub memory-text : (memory : List ℕ) → badLength (length memory) ≡ false �
 memory-text memory e = let t = good-length (length memory) e in our-text 0 memory (omega arith) (omega arith)
 
 -- It is the only one of its kind.
-pub canonical : (memory : List ℕ) → AllWords memory → badLength (length memory) ≡ false → Canonical memory
-canonical memory words e =
+pub canonical : (memory : List ℕ) → badLength (length memory) ≡ false → Canonical memory
+canonical memory e =
     let o = memory-text memory e in
     let t = good-length (length memory) e in
     record {

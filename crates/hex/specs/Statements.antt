@@ -7,17 +7,20 @@ use mathlib.Core.Bool.{true, false}
 use lib.ListN.{length, getD, take}
 use Rattle.text.specs.Ascii.{feed, ':', 'a', 'z'}
 use Rattle.board.specs.Causes.{badLength}
-use Rattle.board.specs.Hex.{hexDigit, recordBytes, wordBytes, hexText, hexBytes, parsed, file, hexWriteCause, hexReadCause, HexWritePerformed, HexReadPerformed}
+use Rattle.board.specs.Hex.{hexDigit, recordBytes, wordBytes, hexText, hexBytes, parsed, file}
+use Rattle.board.specs.Hex.{hexWriteCause, hexReadCause, HexWritePerformed, HexReadPerformed}
 
 -- ---- which texts are files
 
 -- `Spells text bytes`: the text writes the bytes, two digits each, the high one first, letters in either case.
 pub data Spells : List ℕ → List ℕ → Type 0 where
   none : Spells [] []
-  byte : {text bytes : List ℕ} (high low : ℕ) → hexDigit high < 16 → hexDigit low < 16 → Spells text bytes → Spells (high ∷ low ∷ text) ((16 * hexDigit high + hexDigit low) ∷ bytes)
+  byte : {text bytes : List ℕ} (high low : ℕ) → hexDigit high < 16 → hexDigit low < 16 → Spells text bytes →
+      Spells (high ∷ low ∷ text) ((16 * hexDigit high + hexDigit low) ∷ bytes)
 
--- `HexFile address text bytes`: from `address` on the text holds the bytes: records of 1 to 255 bytes of type 00, each at the address where the last one ended,
--- then the end record, of type 01 and none at address 0, and nothing after it. A record is a colon, its bytes as digits with the right checksum, and a line feed.
+-- `HexFile address text bytes`: from `address` on the text holds the bytes: records of 1 to 255 bytes of type 00, each at the address where the last one
+-- ended, then the end record, of type 01 and none at address 0, and nothing after it. A record is a colon, its bytes as digits with the right checksum, and
+-- a line feed.
 pub data HexFile : ℕ → List ℕ → List ℕ → Type 0 where
   ends : {address : ℕ} {digits : List ℕ} → Spells digits (recordBytes 0 1 []) → HexFile address (':' ∷ (digits ++ (feed ∷ []))) []
   holds : {address : ℕ} {digits rest more : List ℕ} (some : List ℕ) → 1 ≤ length some → length some ≤ 255 → Spells digits (recordBytes address 0 some) →
@@ -81,7 +84,7 @@ ReadTaken =
     (text row left : List ℕ) → HexReadPerformed text row 0 left ↔
     (AllWords left × (length left ≡ length row) × (badLength (length row) ≡ false) × HexFile 0 text (wordBytes left))
 
--- 19 is the answer exactly to a text that is no file, whatever the row; so 20 is that of a file which the row does not fit.
+-- 19 is the answer exactly to a text that is no file, whatever the row.
 abbrev pub NoFile : Type 0
 NoFile = (text row : List ℕ) → (hexReadCause text row ≡ 19) ↔ ((bytes : List ℕ) → HexFile 0 text bytes → ⊥)
 
@@ -108,7 +111,7 @@ pub record HexHolds : Type 0 where
   pub written : WriteTaken
   pub room : TextBytes
   pub back : ReadsBack
-  pub canonical : (memory : List ℕ) → AllWords memory → badLength (length memory) ≡ false → Canonical memory
+  pub canonical : (memory : List ℕ) → badLength (length memory) ≡ false → Canonical memory
   pub eight : EightEach
   pub taken : ReadTaken
   pub none : NoFile

@@ -7,10 +7,10 @@ mod writing;
 
 ghost use mathlib.Core.Path.{_≡_};
 ghost use Rattle.board.specs.Hex.{hexWords, HexWritePerformed, HexReadPerformed};
-use causes::FILE;
-use causes::LENGTH;
-use causes::TAKEN;
-use causes::TEXT;
+pub use causes::TAKEN;
+pub use causes::order::FILE;
+pub use causes::order::LENGTH;
+pub use causes::order::TEXT;
 use checks::rows;
 
 // A memory as text into the text row; bytes past the text stay.
