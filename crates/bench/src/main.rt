@@ -4,6 +4,7 @@ ghost use Rattle.bench.specs.Plans.{Allowed};
 mod pages;
 mod rounds;
 mod setup;
+mod texts;
 mod workloads;
 
 use rounds::Plan;

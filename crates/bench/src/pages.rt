@@ -70,17 +70,6 @@ fn fill(marks: Marks, plan: Plan, cache: &mut [u64])
     }
 }
 
-// The sum of the bytes of a page, each with all before it.
-fn summed(sum: u64, text: &[u8]) -> u64 {
-    let mut all = sum;
-    let mut i = 0;
-    while i < text.len() {
-        all = setup::with_byte(all, text[i]);
-        i += 1;
-    }
-    all
-}
-
 // The pages of a plan, the host putting a random record between them: the sum of their answers and of the last one's bytes.
 fn print(
     plan: Plan,
@@ -102,7 +91,7 @@ fn print(
         drawn = draw(plan, drawn.random);
         left -= 1;
     }
-    summed(sum, text)
+    setup::with_bytes(sum, text)
 }
 
 // The workload: the cells put, and the pages printed.

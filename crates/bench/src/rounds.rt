@@ -46,10 +46,17 @@ pub enum Marks {
     Mixed,
 }
 
+// What is done with HEX texts of the memory.
+pub enum Direction {
+    Write,
+    Read,
+}
+
 // What a KIND on the command line stands for.
 pub enum Workload {
     Calls(Round),
     Pages(Marks),
+    Texts(Direction),
     Unknown,
 }
 
@@ -68,6 +75,8 @@ pub fn numbered(kind: u64) -> Workload {
         10 => Workload::Calls(Round::CheckpointPairs),
         11 => Workload::Calls(Round::Locks),
         12 => Workload::Pages(Marks::Mixed),
+        13 => Workload::Texts(Direction::Write),
+        14 => Workload::Texts(Direction::Read),
         _ => Workload::Unknown,
     }
 }
@@ -128,6 +137,7 @@ pub fn has_lines(kind: Workload, plan: Plan) -> bool
             _ => true,
         },
         Workload::Pages(_) => true,
+        Workload::Texts(_) => true,
         Workload::Unknown => true,
     }
 }

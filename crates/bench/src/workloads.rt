@@ -13,6 +13,7 @@ use crate::rounds::Workload;
 use crate::rounds::call_at;
 use crate::rounds::calls_in;
 use crate::rounds::draw;
+use crate::texts;
 use board::State;
 use line::Field;
 
@@ -144,7 +145,7 @@ fn measured(
     memory: &mut [u64],
     cache: &mut [u64],
 ) -> Summed
-    requires { ⌜ Allowed plan × (length (now cache) ≡ rowWords (plan .lines)) ⌝ }
+    requires { ⌜ Allowed plan × (length (now memory) ≡ rowWords (plan .lines)) × (length (now cache) ≡ rowWords (plan .lines)) ⌝ }
 {
     let fresh = formatted(plan, memory, cache);
     match kind {
@@ -152,6 +153,10 @@ fn measured(
         Workload::Pages(marks) => Summed {
             state: fresh,
             sum: pages::printed(marks, plan, rounds, fresh, memory, cache),
+        },
+        Workload::Texts(direction) => Summed {
+            state: fresh,
+            sum: texts::played(direction, plan, rounds, memory),
         },
         Workload::Unknown => Summed {
             state: fresh,
@@ -162,7 +167,7 @@ fn measured(
 
 // A workload's checksum: the sum of its rounds, and of a read of every cell after them.
 pub fn run(kind: Workload, plan: Plan, rounds: u32, memory: &mut [u64], cache: &mut [u64]) -> u64
-    requires { ⌜ Allowed plan × (length (now cache) ≡ rowWords (plan .lines)) ⌝ }
+    requires { ⌜ Allowed plan × (length (now memory) ≡ rowWords (plan .lines)) × (length (now cache) ≡ rowWords (plan .lines)) ⌝ }
 {
     let done = measured(kind, plan, rounds, memory, cache);
     let end = done.state;

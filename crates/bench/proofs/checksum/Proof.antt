@@ -13,7 +13,9 @@ slice-aggregate-run-2 : tie.Need-slice-aggregate-run-2
 slice-aggregate-run-2 c = sym (length-take-le _ _ (omega arith))
 
 run-requires : tie.Need-run-requires
-run-requires c κs = (search needs, length-take-le _ _ (omega arith) ∙ c .before .before .row-words .ensures)
+run-requires c κs =
+    let words = c .before .before .row-words .ensures in
+    (search needs, length-take-le _ _ (omega arith) ∙ words, length-take-le _ _ (omega arith) ∙ words)
 
 pub checksum-spec : {M : Type 1} → statement M
 checksum-spec =
