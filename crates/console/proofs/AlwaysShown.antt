@@ -1,14 +1,14 @@
 -- A memory that recovery's start takes is shown: once it is recovered, no cause turns its page down.
 use Prim.Native.Nat.{ℕ, zero, suc}
 use mathlib.Core.Path.{_≡_, refl, ap, subst, _∙_}
-use mathlib.Core.Bool.{Bool, true, false, not, _&&_, _||_}
+use mathlib.Core.Bool.{Bool, true, false, _&&_, _||_}
 use native.Mathlib.Omega.{arith}
 use lib.ListN.{length}
 use borrow.Author.Tests.{le-ltb}
 use Rattle.board.specs.declared.Call.the-variants.{RecoveryStart, Step, WriteBack}
 use Rattle.board.specs.Board.{Board, shapeOf}
 use Rattle.board.specs.State.{isRecovering, isRunning}
-use Rattle.board.specs.Causes.{badRecord, badRows, causes, cause}
+use Rattle.board.specs.Causes.{badRecord, causes, cause}
 use Rattle.board.specs.Next.{Taken, next}
 use Rattle.board.specs.Page.{pageBytes, pageCauses, pageCause}
 use Rattle.board.specs.Sequence.{Run, opening, takenCall, performs, History, begun, further, recoverySteps}

@@ -1,7 +1,7 @@
 -- What is shown of a HEX text, from what reading it, its recovery and its page left.
 use Prim.Native.Nat.{ℕ, _*_, _%_, _≤_}
 use mathlib.Core.Path.{_≡_, refl, sym, ap, subst, _∙_}
-use mathlib.Core.Bool.{cond, _&&_}
+use mathlib.Core.Bool.{_&&_}
 use mathlib.Core.List.{List, [], _++_}
 use native.Mathlib.Omega.{arith}
 use lib.Dec.{eqb, leb}
@@ -16,7 +16,7 @@ use Rattle.board.specs.State.{started}
 use Rattle.board.specs.Causes.{badLength, causes, cause}
 use Rattle.board.specs.Next.{lent, next, Outcome, outcome, Performed}
 use Rattle.board.specs.Statements.{stepsFrom}
-use Rattle.board.specs.Hex.{hexReadCause, hexReadLeft, HexRead, HexReadPerformed}
+use Rattle.board.specs.Hex.{hexReadCause, HexRead, HexReadPerformed}
 use Rattle.board.proofs.Laws.Taken.{numbered, Clear, first-clear}
 use Rattle.predicate.proofs.Bools.{chosen, passedOver, and-left, and-right, not-off, or-left}
 use Rattle.text.specs.Writing.{Put}

@@ -44,6 +44,15 @@ fn with_one(letter: u8, a: u64) -> Line
     }
 }
 
+// "Y i v".
+fn text_put(at: u64, byte: u64) -> Line
+    ensures { λ r. ⌜ r ≡ Line.Text (TextWork.Put at byte) ⌝ }
+{
+    Line::Text {
+        work: TextWork::Put { at, byte },
+    }
+}
+
 // "f L W", "W m c", "M i v", "N i v", "Q i v", "B k v", "O k h", "Y i v".
 fn with_two(letter: u8, a: u64, b: u64) -> Line
     ensures { λ r. ⌜ r ≡ damaging letter (a ∷ b ∷ []) ⌝ }
@@ -79,9 +88,7 @@ fn with_two(letter: u8, a: u64, b: u64) -> Line
         b'O' => Line::Damage {
             damage: Damage::Holder { lock: a, holder: b },
         },
-        b'Y' => Line::Text {
-            work: TextWork::Put { at: a, byte: b },
-        },
+        b'Y' => text_put(a, b),
         _ => Line::Unknown,
     }
 }

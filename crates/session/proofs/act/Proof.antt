@@ -1,5 +1,5 @@
 -- `session::act` meets its contract: each arm is told the line, and its contract is that line's.
-use mathlib.Core.Path.{refl, _∙_}
+use mathlib.Core.Path.{refl}
 use borrow.Author.Needs.{needs}
 use Rattle.session.proofs.Acts.{acted, by-parts, hidden, cut-off, same-within}
 use Rattle.session.proofs.act.Statement.{statement}

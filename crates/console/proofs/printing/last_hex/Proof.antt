@@ -1,6 +1,5 @@
 -- `console::printing::last_hex` meets its contract: the text is that of the memory left, the lines tallied those of the input.
 use mathlib.Core.Path.{ap, _∙_}
-use native.Mathlib.Omega.{arith}
 use borrow.Author.Needs.{needs}
 use Rattle.console.specs.Pieces.{Fed}
 use Rattle.console.specs.Printing.{hexPrintedOf}

@@ -1,4 +1,5 @@
 -- `script::damages::with_two` meets its contract: each letter's arm is its case of `damaging`.
+use borrow.Author.Needs.{needs}
 use borrow.Author.Tests.{ne-eqb}
 use Rattle.script.specs.Grammar.{damaging}
 use Rattle.script.proofs.damages.with_two.Statement.{statement}
@@ -34,11 +35,11 @@ returns-7 c = rw (c .match .keys7)
 
 returns-8 : tie.Need-returns-8
 unfolding damaging
-returns-8 c = rw (c .match .keys8)
+returns-8 c = rw (c .before .match .keys8) (c .text-put .ensures)
 
 returns-9 : tie.Need-returns-9
 unfolding damaging
 returns-9 c = simp (ne-eqb _ _ (c .match .rest .0 .0 .0 .0 .0 .0 .0 .1), ne-eqb _ _ (c .match .rest .0 .0 .0 .0 .0 .0 .1), ne-eqb _ _ (c .match .rest .0 .0 .0 .0 .0 .1), ne-eqb _ _ (c .match .rest .0 .0 .0 .0 .1), ne-eqb _ _ (c .match .rest .0 .0 .0 .1), ne-eqb _ _ (c .match .rest .0 .0 .1), ne-eqb _ _ (c .match .rest .0 .1), ne-eqb _ _ (c .match .rest .1))
 
 pub with-two-spec : {M : Type 1} → statement M
-with-two-spec = tie.close (tie.spec returns returns-2 returns-3 returns-4 returns-5 returns-6 returns-7 returns-8 returns-9)
+with-two-spec = tie.close (tie.spec (search needs) returns returns-2 returns-3 returns-4 returns-5 returns-6 returns-7 returns-8 returns-9)

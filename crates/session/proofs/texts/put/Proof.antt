@@ -1,6 +1,5 @@
 -- `session::texts::put` meets its contract.
 use mathlib.Core.Path.{refl, _∙_}
-use native.Mathlib.Omega.{arith}
 use borrow.Author.Needs.{needs}
 use Rattle.session.proofs.Acts.{by-parts}
 use Rattle.session.proofs.TextWork.{put-past, put-large, put-shown}

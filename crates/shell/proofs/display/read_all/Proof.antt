@@ -1,7 +1,6 @@
 -- `shell::display::read_all` is safe and ends: each read but the last brings bytes, and they are within the buffer.
 use Prim.Native.Nat.{_-_, _≤_}
-use mathlib.Core.Path.{_≡_, refl}
-use native.Mathlib.Omega.{arith}
+use mathlib.Core.Path.{_≡_}
 use lib.ListN.{length}
 use borrow.Author.Needs.{needs}
 use Rattle.shell.proofs.display.read_all.Statement.{statement}
