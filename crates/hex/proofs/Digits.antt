@@ -53,6 +53,13 @@ module _ (c : ℕ) where
       (λ d. split (between 'A' 'F' c) (λ u. omega (arith, inside 'A' 'F' c u, upper d u))
       (λ u. split (between 'a' 'f' c) (λ l. omega (arith, inside 'a' 'f' c l, lower d u l)) (λ l. absurd (omega (arith, no-digit d u l)))))
 
+  -- A digit stands below character 128.
+  pub digit-under : hexDigit c < 16 → c < 128
+  digit-under h =
+      split (between '0' '9' c) (λ d. omega (arith, inside '0' '9' c d))
+      (λ d. split (between 'A' 'F' c) (λ u. omega (arith, inside 'A' 'F' c u))
+      (λ u. split (between 'a' 'f' c) (λ l. omega (arith, inside 'a' 'f' c l)) (λ l. absurd (omega (arith, no-digit d u l)))))
+
 -- A table that passes the test at each byte is that of the digits.
 pub digit-table : {table : List ℕ} → anyUnder 256 (λ c. not (eqb (getD table c 0) (hexDigit c))) ≡ false → DigitTable table
 digit-table {table} t =

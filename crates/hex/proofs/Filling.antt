@@ -2,9 +2,9 @@
 use Prim.Native.Nat.{ℕ, _+_, _*_, _≤_, _<_}
 use mathlib.Core.Path.{_≡_, refl, sym, ap, subst, _∙_}
 use mathlib.Core.List.{List, [], _++_}
-use mathlib.Core.Bool.{true, false}
+use mathlib.Core.Bool.{true}
 use native.Mathlib.Omega.{arith}
-use lib.ListN.{length, getD, take, drop, length-drop, length-append}
+use lib.ListN.{length, getD, drop, length-drop, length-append}
 use lib.Seq.{drop-drop, getD-drop, getD-take, ext-getD}
 use Rattle.predicate.proofs.Bools.{split}
 use Rattle.board.specs.Hex.{file, byteOf, bytesIn, allBytes, countOf, bytesOf, dataOf, recordLength, hasRecord, hasData, hasEnd, parsed, readBytes}
@@ -12,7 +12,7 @@ use Rattle.hex.specs.Storing.{stored, Filling}
 use Rattle.hex.proofs.Parsing.{in-at, in-length, readsTo, reads-end, reads-data, reads-none, record-within}
 use Rattle.hex.proofs.Words.{bytes-split}
 use Rattle.hex.proofs.Files.{behind, file-bytes, reads-files}
-use Rattle.hex.proofs.Fronts.{data-length, data-record, data-some, end-record, end-none, record-count}
+use Rattle.hex.proofs.Fronts.{data-length, data-record, data-some, end-record, end-none}
 use Rattle.hex.proofs.Stored.{stored-length, stored-append}
 
 -- A record's data are the bytes from its tenth character on.

@@ -2,15 +2,15 @@
 use Prim.Native.Nat.{ℕ, zero, suc, _+_, _*_, _-_, _%_, _≤_, _<_}
 use mathlib.Core.Path.{_≡_, refl, sym, ap, _∙_}
 use mathlib.Core.List.{List, [], _∷_}
-use mathlib.Core.Bool.{Bool, true, false, cond, not, _&&_, _||_, true≢false}
+use mathlib.Core.Bool.{Bool, true, false, not, _&&_, _||_, true≢false}
 use native.Mathlib.Omega.{arith}
 use lib.Dec.{eqb, leb, ltb}
-use lib.ListN.{length, getD, take, drop, length-drop}
+use lib.ListN.{length, getD, drop, length-drop}
 use lib.Seq.{getD-drop, length-take-le}
 use borrow.Author.Tests.{eqb-true, eqb-false, ltb-true, ltb-false, leb-true, leb-false, eq-eqb}
 use Rattle.predicate.proofs.Bools.{chosen, passedOver, split, clash, and-left, and-right, or-left, or-right, not-off, not-of}
 use Rattle.text.specs.Ascii.{feed, ':'}
-use Rattle.board.specs.Hex.{byteOf, bytesIn, allBytes, sumOf, countOf, bytesOf, addressOf, typeOf, dataOf, recordLength, hasRecord, hasData, hasEnd}
+use Rattle.board.specs.Hex.{byteOf, allBytes, sumOf, countOf, bytesOf, addressOf, typeOf, dataOf, hasRecord, hasData, hasEnd}
 use Rattle.hex.specs.Storing.{frontOf}
 use Rattle.hex.proofs.Parsing.{in-at, in-length, record-end, record-within}
 

@@ -14,11 +14,11 @@ use Rattle.hex.specs.Lanes.{lanes, spaced, pairOf, Paired}
 -- ---- masks
 
 -- Four numbers, equal by equal ones.
-same-lanes : {a b c d a' b' c' d' : ℕ} → a ≡ a' → b ≡ b' → c ≡ c' → d ≡ d' → lanes a b c d ≡ lanes a' b' c' d'
+pub same-lanes : {a b c d a' b' c' d' : ℕ} → a ≡ a' → b ≡ b' → c ≡ c' → d ≡ d' → lanes a b c d ≡ lanes a' b' c' d'
 same-lanes p q r s = λ i. lanes (p i) (q i) (r i) (s i)
 
 -- Each is masked by itself.
-and-lanes : (a b c d m : ℕ) → a < 65536 → b < 65536 → c < 65536 → m < 65536 →
+pub and-lanes : (a b c d m : ℕ) → a < 65536 → b < 65536 → c < 65536 → m < 65536 →
     bitAnd (lanes a b c d) (lanes m m m m) ≡ lanes (bitAnd a m) (bitAnd b m) (bitAnd c m) (bitAnd d m)
 unfolding lanes
 and-lanes a b c d m ha hb hc hm =
@@ -33,7 +33,7 @@ and-lanes a b c d m ha hb hc hm =
 -- ---- a half word's bytes
 
 -- What stands in its low byte, of each of two numbers of 32 bits.
-low-twos : (p q : ℕ) → p < 4294967296 → bitAnd (p + q * 4294967296) 1095216660735 ≡ p % 256 + q % 256 * 4294967296
+pub low-twos : (p q : ℕ) → p < 4294967296 → bitAnd (p + q * 4294967296) 1095216660735 ≡ p % 256 + q % 256 * 4294967296
 low-twos p q h =
     let turned : p + q * 4294967296 ≡ q * 4294967296 + p = omega arith in
     ap (λ (n : ℕ). bitAnd n 1095216660735) turned

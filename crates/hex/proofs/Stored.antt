@@ -1,10 +1,10 @@
 -- Bytes stored into a row, one after the other.
-use Prim.Native.Nat.{ℕ, zero, suc, _+_, _*_, _-_, _/_, _%_, _^_, _≤_, _<_}
+use Prim.Native.Nat.{ℕ, suc, _+_, _*_, _-_, _/_, _≤_, _<_}
 use mathlib.Core.Path.{_≡_, refl, sym, ap, _∙_}
 use mathlib.Core.List.{List, [], _∷_, _++_}
 use mathlib.Core.Bool.{true}
 use native.Mathlib.Omega.{arith}
-use lib.ListN.{length, getD, take, drop, set, length-set, length-append}
+use lib.ListN.{length, getD, drop, set, length-set}
 use Rattle.board.specs.Hex.{byteOf, bytesIn, allBytes}
 use Rattle.hex.specs.Storing.{shiftedIn, stored}
 use Rattle.hex.proofs.Parsing.{in-at, in-length, in-next}

@@ -1,4 +1,4 @@
--- Four numbers in one word, sixteen bits each, as the private functions that write a word's digits hold them.
+-- Four numbers in one word, sixteen bits each, as the private functions that write and read a word's digits hold them.
 use Prim.Native.Nat.{ℕ, _+_, _*_, _/_, _%_, _<_}
 use mathlib.Core.Path.{_≡_}
 use Rattle.board.specs.Hex.{hexCharacter}

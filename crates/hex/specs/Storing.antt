@@ -4,6 +4,7 @@ use mathlib.Core.List.{List, [], _∷_}
 use mathlib.Core.Bool.{Bool, true, cond}
 use mathlib.Core.Path.{_≡_}
 use lib.ListN.{length, getD, set}
+use Rattle.hex.specs.Lanes.{lanes}
 use Rattle.board.specs.Hex.{hexDigit, allBytes, sumOf, file, countOf, hasData, hasEnd, parsed}
 
 -- The table of the digits that characters stand for: an entry for each byte.
@@ -18,6 +19,14 @@ pub record Totals (bytes : List ℕ) (sum : ℕ) (good : Bool) : Type 0 where
 -- What stands at a text's front: 0 for the end record, else how many bytes the data record there has, 256 where there is neither.
 unfoldable pub frontOf : ℕ → List ℕ → ℕ
 frontOf address text = cond (hasEnd text) 0 (cond (hasData address text) (countOf text) 256)
+
+-- Two characters of a text from `at` on, the first of them low.
+abbrev pub twoAt : List ℕ → ℕ → ℕ
+twoAt text at = getD text at 0 + 256 * getD text (at + 1) 0
+
+-- Its first eight, two by two.
+unfoldable pub eightOf : List ℕ → ℕ
+eightOf text = lanes (twoAt text 0) (twoAt text 2) (twoAt text 4) (twoAt text 6)
 
 -- A byte shifted into a word from above: after eight of them nothing of the old word is left.
 abbrev pub shiftedIn : ℕ → ℕ → ℕ

@@ -4,7 +4,7 @@ ghost use mathlib.Core.Bool.{true};
 ghost use lib.ListN.{length};
 ghost use Prim.Native.Nat.{_+_, _*_, _<_, _≤_};
 ghost use Rattle.board.specs.Hex.{hexDigit, byteOf, bytesIn, allBytes, countOf, hasRecord, parsed, readBytes, wordOf, wordsOf};
-ghost use Rattle.hex.specs.Storing.{stored, Filling};
+ghost use Rattle.hex.specs.Storing.{twoAt, eightOf, stored, Filling};
 
 // The digit that a character stands for, where it is one: letters of either case are in the same places of two rows of 64.
 fn digit(c: u8) -> u64
@@ -35,18 +35,52 @@ fn store_bytes(text: &[u8], n: usize, row: &mut [u64], from: usize)
     }
 }
 
+// A character as a number of 64 bits.
+fn wide(c: u8) -> u64
+    ensures { λ r. ⌜ (r ≡ c) × (r < 256) ⌝ }
+{
+    c as u64
+}
+
+// Two characters of a text from `at` on, the first of them low.
+fn pair(text: &[u8], at: usize) -> u64
+    requires { ⌜ at + 2 ≤ length (now text) ⌝ }
+    ensures { λ r. ⌜ (r ≡ twoAt (now (text .entry)) at) × (r < 65536) ⌝ }
+{
+    wide(text[at]) + 256 * wide(text[at + 1])
+}
+
+// A text's first eight characters, the first of them lowest. The compiler joins the loads.
+fn characters(text: &[u8]) -> u64
+    requires { ⌜ 8 ≤ length (now text) ⌝ }
+    ensures { λ r. ⌜ r ≡ eightOf (now (text .entry)) ⌝ }
+{
+    pair(text, 0)
+        + 65536 * pair(text, 2)
+        + 0x1_0000_0000 * pair(text, 4)
+        + 0x1_0000_0000_0000 * pair(text, 6)
+}
+
+// The half word that a text's first eight digits write: all of them at once, then two by two, then the bytes moved together.
+fn half_of(text: &[u8]) -> u64
+    requires { ⌜ (8 ≤ length (now text)) × (allBytes (bytesIn 4 (now text)) ≡ true) ⌝ }
+    ensures { λ r. ⌜ r ≡ wordOf (bytesIn 4 (now (text .entry))) ⌝ }
+{
+    let places = characters(text);
+    let digits = (places & 0x0F0F_0F0F_0F0F_0F0F) + (places & 0x4040_4040_4040_4040) / 64 * 9;
+    let high = digits & 0x00FF_00FF_00FF_00FF;
+    let bytes = high * 16 + (digits - high) / 256;
+    let even = bytes & 0x0000_00FF_0000_00FF;
+    let twos = even + (bytes - even) / 256;
+    twos % 0x1_0000_0000 + twos / 0x1_0000_0000 * 65536
+}
+
 // The word that a text's first sixteen digits write.
 fn word_of(text: &[u8]) -> u64
     requires { ⌜ (16 ≤ length (now text)) × (allBytes (bytesIn 8 (now text)) ≡ true) ⌝ }
     ensures { λ r. ⌜ r ≡ wordOf (bytesIn 8 (now (text .entry))) ⌝ }
 {
-    let mut word: u64 = 0;
-    let mut k = 8;
-    while k > 0 {
-        k -= 1;
-        word = word * 256 + byte_of(text[2 * k], text[2 * k + 1]);
-    }
-    word
+    half_of(text) + half_of(&text[8..]) * 0x1_0000_0000
 }
 
 // The first `n` words that a text's digits write, stored from word `from` of the row on.

@@ -2,7 +2,6 @@
 use Prim.Native.Nat.{_+_, _*_}
 use mathlib.Core.Path.{sym, _∙_}
 use native.Mathlib.Omega.{arith}
-use borrow.Author.Needs.{needs}
 use Rattle.hex.proofs.Digits.{by-digits}
 use Rattle.hex.proofs.storing.byte_of.Statement.{statement}
 use Rattle.hex.proofs.storing.byte_of.Tie as tie

@@ -1,71 +1,56 @@
--- `hex::storing::word_of` meets its contract. The invariant: the bytes from the `k`th on are gathered.
-use Prim.Native.Nat.{ℕ, _+_, _*_, _-_, _<_}
-use mathlib.Core.Path.{_≡_, subst}
+-- `hex::storing::word_of` meets its contract: a word is its two halves.
+use Prim.Native.Nat.{ℕ, _<_}
+use mathlib.Core.Path.{_≡_, sym, ap, subst, _∙_}
+use mathlib.Core.List.{List}
+use mathlib.Core.Bool.{true}
 use native.Mathlib.Omega.{arith}
-use lib.ListN.{getD}
+use lib.ListN.{length, drop, length-drop}
 use borrow.Author.Needs.{needs}
-use Rattle.board.specs.Hex.{byteOf}
-use Rattle.hex.proofs.Stored.{text-byte}
-use Rattle.hex.proofs.Whole.{Gathering, gathering-begins, gathering-room, gathering-more, gathering-ends}
+use Rattle.board.specs.Hex.{bytesIn, allBytes, wordOf}
+use Rattle.hex.proofs.Parsing.{tail}
+use Rattle.hex.proofs.Whole.{all-part, halves-write, half-under}
 use Rattle.hex.proofs.storing.word_of.Statement.{statement}
 use Rattle.hex.proofs.storing.word_of.Tie as tie
 
-abbrev Inv-loop : tie.InvT-loop
-Inv-loop text word₀ k₀ word k = Gathering text k word
+-- Both halves' characters are digits.
+low-bytes : (text : List ℕ) → allBytes (bytesIn 8 text) ≡ true → allBytes (bytesIn 4 text) ≡ true
+low-bytes text e = all-part 8 text e 0 4 (omega arith)
 
-abbrev μ-loop : tie.MeasureT-loop
-μ-loop text word₀ k₀ word k = k
+high-bytes : (text : List ℕ) → allBytes (bytesIn 8 text) ≡ true → allBytes (bytesIn 4 (drop 8 text)) ≡ true
+high-bytes text e = all-part 8 text e 4 4 (omega arith)
 
-loop-holds : tie.Need-loop-holds Inv-loop μ-loop
-loop-holds c = gathering-begins _
+half-of-requires : tie.Need-half-of-requires
+half-of-requires c κs = (omega (arith, c .before .pre .0), low-bytes (c .before .args .text .now) (c .before .pre .1))
 
--- The next byte is one.
-is-byte : (c : tie.In-loop Inv-loop μ-loop) → let t = c .before .before .before .args .text .now in
-    byteOf (getD t (2 * (c .before .loop .k - 1)) 0) (getD t (2 * (c .before .loop .k - 1) + 1) 0) < 256
-is-byte c =
+half-of-requires-2 : tie.Need-half-of-requires-2
+half-of-requires-2 c κs =
     let s = c .before .before .before in
-    text-byte 8 (s .args .text .now) (c .before .loop .k - 1) (s .pre .1) (omega (arith, c .before .loop .inv .most, c .loop-test .taken))
+    let t = s .args .text .now in (
+      omega (arith, ap length (tail 8 t), length-drop 8 t, s .pre .0),
+      subst (λ (u : List ℕ). allBytes (bytesIn 4 u) ≡ true) (sym (tail 8 t)) (high-bytes t (s .pre .1)),
+    )
 
-sub-k : tie.Need-sub-k Inv-loop μ-loop
-sub-k c = omega (arith, c .loop-test .taken)
+-- What the second call answers.
+high : (c : tie.After-half-of2) → c .half-of2 .result ≡ wordOf (bytesIn 4 (drop 8 (c .before .before .before .before .args .text .now)))
+high c = c .half-of2 .ensures ∙ ap (λ (u : List ℕ). wordOf (bytesIn 4 u)) (tail 8 (c .before .before .before .before .args .text .now))
 
-mul-word : tie.Need-mul-word Inv-loop μ-loop
-mul-word c = record { fits = omega (arith, gathering-room (c .before .before .before .pre .1) (c .before .loop .inv) (c .loop-test .taken)) }
+-- Both are halves.
+both : (c : tie.After-half-of2) → (c .before .before .half-of .result < 4294967296) × (c .half-of2 .result < 4294967296)
+both c =
+    let s = c .before .before .before .before in
+    let t = s .args .text .now in (
+      omega (arith, c .before .before .half-of .ensures, half-under t (low-bytes t (s .pre .1))),
+      omega (arith, high c, half-under (drop 8 t) (high-bytes t (s .pre .1))),
+    )
 
-mul-byte-of : tie.Need-mul-byte-of Inv-loop μ-loop
-mul-byte-of c = record { fits = omega (arith, c .before .loop .inv .most) }
+mul-result : tie.Need-mul-result
+mul-result c = record { fits = omega (arith, both c) }
 
-shared-slice-read-byte-of : tie.Need-shared-slice-read-byte-of Inv-loop μ-loop
-shared-slice-read-byte-of c = omega (arith, c .before .before .before .before .pre .0, c .before .before .loop .inv .most, c .before .loop-test .taken)
+add-result : tie.Need-add-result
+add-result c = record { fits = omega (arith, both c) }
 
-mul-byte-of-2 : tie.Need-mul-byte-of-2 Inv-loop μ-loop
-mul-byte-of-2 c = record { fits = omega (arith, c .before .before .loop .inv .most) }
-
-add-byte-of : tie.Need-add-byte-of Inv-loop μ-loop
-add-byte-of c = record { fits = omega (arith, c .before .before .loop .inv .most) }
-
-shared-slice-read-byte-of-2 : tie.Need-shared-slice-read-byte-of-2 Inv-loop μ-loop
-shared-slice-read-byte-of-2 c = omega (arith, c .before .before .before .before .before .pre .0, c .before .before .before .loop .inv .most, c .before .before .loop-test .taken)
-
-byte-of-requires : tie.Need-byte-of-requires Inv-loop μ-loop
-byte-of-requires c κs = is-byte (c .before .before)
-
-add-word : tie.Need-add-word Inv-loop μ-loop
-add-word c = record { fits = omega (arith, gathering-room (c .before .before .before .before .before .before .pre .1) (c .before .before .before .before .loop .inv) (c .before .before .before .loop-test .taken), c .byte-of .ensures, is-byte (c .before .before .before)) }
-
-loop-less : tie.Need-loop-less Inv-loop μ-loop
-loop-less c = omega (arith, c .before .before .before .loop-test .taken)
-
-loop-again : tie.Need-loop-again Inv-loop μ-loop
-loop-again c = gathering-more (c .before .before .before .before .loop .inv) (c .before .before .before .loop-test .taken) (c .byte-of .ensures)
-
-returns : tie.Need-returns Inv-loop μ-loop
-returns c =
-    let l = c .before .loop in
-    let none : l .k ≡ 0 = omega arith in
-    gathering-ends (subst (λ (k : ℕ). Gathering (c .before .before .before .args .text .now) k (l .word)) none (l .inv))
+returns : tie.Need-returns
+returns c = omega (arith, c .before .before .half-of .ensures, high c, halves-write (c .before .before .before .before .args .text .now))
 
 pub word-of-spec : {M : Type 1} → statement M
-word-of-spec =
-    tie.close
-    (tie.spec Inv-loop μ-loop loop-holds sub-k mul-word mul-byte-of shared-slice-read-byte-of mul-byte-of-2 add-byte-of shared-slice-read-byte-of-2 byte-of-requires add-word loop-less loop-again returns)
+word-of-spec = tie.close (tie.spec half-of-requires (search needs) (search needs) (search needs) half-of-requires-2 mul-result add-result returns)
