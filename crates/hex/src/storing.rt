@@ -51,7 +51,7 @@ fn pair(text: &[u8], at: usize) -> u64
 }
 
 // A text's first eight characters, the first of them lowest. The compiler joins the loads.
-fn characters(text: &[u8]) -> u64
+fn eight_of(text: &[u8]) -> u64
     requires { ⌜ 8 ≤ length (now text) ⌝ }
     ensures { λ r. ⌜ r ≡ eightOf (now (text .entry)) ⌝ }
 {
@@ -66,7 +66,7 @@ fn half_of(text: &[u8]) -> u64
     requires { ⌜ (8 ≤ length (now text)) × (allBytes (bytesIn 4 (now text)) ≡ true) ⌝ }
     ensures { λ r. ⌜ r ≡ wordOf (bytesIn 4 (now (text .entry))) ⌝ }
 {
-    let places = characters(text);
+    let places = eight_of(text);
     let digits = (places & 0x0F0F_0F0F_0F0F_0F0F) + (places & 0x4040_4040_4040_4040) / 64 * 9;
     let high = digits & 0x00FF_00FF_00FF_00FF;
     let bytes = high * 16 + (digits - high) / 256;

@@ -69,7 +69,7 @@ fn put_word(text: &mut [u8], at: usize, word: u64)
 }
 
 // The sum of a word's bytes: four sums of two, two of four, and one.
-fn sum(word: u64) -> u64
+fn byte_sum(word: u64) -> u64
     ensures { λ r. ⌜ r ≡ sumOf (lowBytes 8 word) ⌝ }
 {
     let twos = spread(word % 0x1_0000_0000) + spread(word / 0x1_0000_0000);
@@ -111,7 +111,7 @@ fn put_record(text: &mut [u8], at: usize, address: u16, v: u64, w: u64)
     put_tail(
         text,
         at + 41,
-        16 + high as u64 + low as u64 + sum(v) + sum(w),
+        16 + high as u64 + low as u64 + byte_sum(v) + byte_sum(w),
     );
 }
 

@@ -19,35 +19,35 @@ twos-most : (n : ℕ) → twosFrom (bytesFrom (digitsFrom n)) < 1000000000000000
 twos-most n = omega (arith, bytes-most n, and-le-r (bytesFrom (digitsFrom n)) 1095216660735)
 
 mul-digits : tie.Need-mul-digits
-mul-digits c = record { fits = omega (arith, and-le-r (c .characters .result) 4629771061636907072) }
+mul-digits c = record { fits = omega (arith, and-le-r (c .eight-of .result) 4629771061636907072) }
 
 add-digits : tie.Need-add-digits
-add-digits c = record { fits = omega (arith, digits-most (c .characters .result)) }
+add-digits c = record { fits = omega (arith, digits-most (c .eight-of .result)) }
 
 mul-bytes : tie.Need-mul-bytes
-mul-bytes c = record { fits = omega (arith, and-le-r (digitsFrom (c .characters .result)) 71777214294589695) }
+mul-bytes c = record { fits = omega (arith, and-le-r (digitsFrom (c .eight-of .result)) 71777214294589695) }
 
 sub-bytes : tie.Need-sub-bytes
-sub-bytes c = and-le-l (digitsFrom (c .characters .result)) 71777214294589695
+sub-bytes c = and-le-l (digitsFrom (c .eight-of .result)) 71777214294589695
 
 add-bytes : tie.Need-add-bytes
-add-bytes c = record { fits = omega (arith, bytes-most (c .characters .result)) }
+add-bytes c = record { fits = omega (arith, bytes-most (c .eight-of .result)) }
 
 sub-twos : tie.Need-sub-twos
-sub-twos c = and-le-l (bytesFrom (digitsFrom (c .characters .result))) 1095216660735
+sub-twos c = and-le-l (bytesFrom (digitsFrom (c .eight-of .result))) 1095216660735
 
 add-twos : tie.Need-add-twos
-add-twos c = record { fits = omega (arith, twos-most (c .characters .result)) }
+add-twos c = record { fits = omega (arith, twos-most (c .eight-of .result)) }
 
 mul-result : tie.Need-mul-result
-mul-result c = record { fits = omega (arith, twos-most (c .characters .result)) }
+mul-result c = record { fits = omega (arith, twos-most (c .eight-of .result)) }
 
 add-result : tie.Need-add-result
-add-result c = record { fits = omega (arith, twos-most (c .characters .result)) }
+add-result c = record { fits = omega (arith, twos-most (c .eight-of .result)) }
 
 returns : tie.Need-returns
 returns c =
-    ap (λ (n : ℕ). halfFrom (bytesFrom (digitsFrom n))) (c .characters .ensures)
+    ap (λ (n : ℕ). halfFrom (bytesFrom (digitsFrom n))) (c .eight-of .ensures)
     ∙ half-right (c .before .before .args .text .now) (c .before .before .pre .1)
 
 pub half-of-spec : {M : Type 1} → statement M

@@ -10,14 +10,14 @@ add-put-tail-4 : tie.Need-add-put-tail-4
 add-put-tail-4 c =
     let second = c .before .before .before .before in
     let head = second .before .before .before .before .before .before .before .before in
-    record { fits = omega (arith, c .sum .ensures, low-sum 8 (head .before .before .before .args .v)) }
+    record { fits = omega (arith, c .byte-sum .ensures, low-sum 8 (head .before .before .before .args .v)) }
 
 add-put-tail-5 : tie.Need-add-put-tail-5
 add-put-tail-5 c =
     let second = c .before .before .before .before .before in
     let head = second .before .before .before .before .before .before .before .before in
     let a = head .before .before .before .args in
-    record { fits = omega (arith, c .before .sum .ensures, c .sum2 .ensures, low-sum 8 (a .v), low-sum 8 (a .w)) }
+    record { fits = omega (arith, c .before .byte-sum .ensures, c .byte-sum2 .ensures, low-sum 8 (a .v), low-sum 8 (a .w)) }
 
 returns : tie.Need-returns
 returns c =
@@ -30,7 +30,7 @@ returns c =
     let one = follows (head .put-head .ensures) (first .put-word .ensures) refl (omega arith) in
     let two = follows one (second .put-word2 .ensures) (omega arith) (omega arith) in
     let all = follows two (tail .put-tail .ensures) (omega arith) (omega arith) in
-    written-as all (record-parts (a .address) (a .v) (a .w) _ (omega (arith, sums .before .sum .ensures, sums .sum2 .ensures))) (omega arith)
+    written-as all (record-parts (a .address) (a .v) (a .w) _ (omega (arith, sums .before .byte-sum .ensures, sums .byte-sum2 .ensures))) (omega arith)
 
 pub put-record-spec : {M : Type 1} → statement M
 put-record-spec =
