@@ -9,3 +9,4 @@ pub mod Sample
 pub mod Recovered
 pub mod Displays
 pub mod AlwaysShown
+pub mod ShownAsRead

@@ -14,7 +14,7 @@ use Rattle.board.specs.Causes.{cause}
 use Rattle.board.specs.Next.{lent, next}
 use Rattle.board.specs.Sequence.{recoverySteps}
 use Rattle.board.specs.Statements.{stepsFrom}
-use Rattle.board.specs.Hex.{hexWords, hexReadCause, hexReadLeft}
+use Rattle.board.specs.Hex.{hexWords, hexReadCause, hexReadLeft, HexReadPerformed}
 use Rattle.text.specs.Ascii.{blank, feed}
 use Rattle.text.specs.Numbers.{numberText}
 use Rattle.console.specs.Printing.{Printed, printing, printedOf}
@@ -64,6 +64,10 @@ textShown text =
 -- A memory that recovery's start takes is shown: its page is never refused.
 abbrev pub AlwaysShown : Type 0
 AlwaysShown = (b : Board) → cause RecoveryStart b ≡ 0 → printedOf (recovered b) .number ≡ 0
+
+-- A text that can be read is shown as the memory that a reading of it leaves, whatever row that was read into.
+abbrev pub ShownAsRead : Type 0
+ShownAsRead = (text row left : List ℕ) → HexReadPerformed text row 0 left → textShown text ≡ memoryShown left
 
 -- ---- what contracts say
 

@@ -2,7 +2,7 @@
 use Prim.Native.Nat.{ℕ, zero, suc, _+_, _*_, _-_, _%_, _≤_, _<_}
 use mathlib.Core.Path.{_≡_, refl, sym, ap, _∙_}
 use mathlib.Core.List.{List, [], _∷_}
-use mathlib.Core.Bool.{true, false, cond, _&&_}
+use mathlib.Core.Bool.{true, false, cond, _&&_, true≢false}
 use native.Mathlib.Omega.{arith}
 use lib.Dec.{eqb}
 use lib.ListN.{length, getD, take, drop, length-drop}
@@ -11,6 +11,7 @@ use borrow.Author.Tests.{eqb-true}
 use Rattle.predicate.proofs.Bools.{chosen, passedOver, and-right}
 use Rattle.text.specs.Ascii.{feed, ':'}
 use Rattle.board.specs.Hex.{Parsed, noFile, file, inFront, byteOf, bytesIn, allBytes, sumOf, countOf, bytesOf, dataOf, recordLength, hasRecord, hasData, hasEnd, parsedFrom}
+use Rattle.board.specs.Hex.{isNoFile, readBytes}
 
 -- ---- the bytes that characters write
 
@@ -113,6 +114,11 @@ reads-end address text e = opened address text ∙ chosen (hasEnd text) _ _ e
 pub reads-data : (address : ℕ) (text : List ℕ) → hasEnd text ≡ false → hasData address text ≡ true →
     readsTo address text ≡ inFront (dataOf text) (readsTo (address + countOf text) (drop (recordLength text) text))
 reads-data address text e d = opened address text ∙ passedOver (hasEnd text) _ _ e ∙ chosen (hasData address text) _ _ d
+
+-- What is a file reads to its bytes.
+pub is-file : (p : Parsed) → isNoFile p ≡ false → p ≡ file (readBytes p)
+is-file noFile e = absurd (true≢false e)
+is-file (file bytes) e = refl
 
 -- With neither it is no file.
 pub reads-none : (address : ℕ) (text : List ℕ) → hasEnd text ≡ false → hasData address text ≡ false → readsTo address text ≡ noFile

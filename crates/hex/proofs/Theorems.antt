@@ -1,8 +1,8 @@
 -- Proves what is claimed of HEX text.
-use Prim.Native.Nat.{ℕ, _+_, _*_, _<_}
+use Prim.Native.Nat.{ℕ, _+_, _*_, _/_, _%_, _<_}
 use mathlib.Core.Path.{_≡_, refl, sym, ap, ap₂, subst, _∙_}
 use mathlib.Core.List.{List}
-use mathlib.Core.Bool.{Bool, true, false, cond, true≢false}
+use mathlib.Core.Bool.{Bool, true, false, cond}
 use native.Mathlib.Omega.{arith}
 use lib.Dec.{eqb, ltb}
 use lib.ListN.{length, take, drop}
@@ -11,9 +11,10 @@ use borrow.Author.Tests.{ltb-true, ltb-false, lt-ltb, le-ltb, eqb-true, eq-eqb, 
 use Rattle.predicate.proofs.Bools.{split, chosen, passedOver, clash, or-left, or-right, or-none, not-off, not-on}
 use Rattle.text.specs.Writing.{put}
 use Rattle.board.specs.Causes.{badLength, firstStanding}
-use Rattle.board.specs.Hex.{wordBytes, wordsOf, hexText, hexBytes, Parsed, noFile, file, parsed, isNoFile, readBytes, misfits}
-use Rattle.board.specs.Hex.{hexWriteCause, hexWriteCauses, hexWriteLeft, hexReadCause, hexReadCauses, hexReadLeft, HexRead, HexWritten, HexReadPerformed}
-use Rattle.hex.specs.Statements.{HexFile, AllWords, WriteTaken, TextBytes, ReadsBack, ReadTaken, NoFile, Misfit, Untouched, WriteRefused, HexHolds}
+use Rattle.board.specs.Hex.{wordBytes, wordsOf, hexText, hexBytes, Parsed, file, parsed, isNoFile, readBytes, misfits}
+use Rattle.board.specs.Hex.{hexWriteCause, hexWriteCauses, hexWriteLeft, hexReadCause, hexReadCauses, hexReadLeft, hexWords, HexRead, HexWritten, HexReadPerformed}
+use Rattle.hex.specs.Statements.{HexFile, AllWords, WriteTaken, TextBytes, ReadsBack, ReadTaken, NoFile, Misfit, Untouched, WriteRefused, WordsHeld, HexHolds}
+use Rattle.hex.proofs.Parsing.{is-file}
 use Rattle.hex.proofs.Words.{eight-each, words-back, words-length, bytes-back, all-words}
 use Rattle.hex.proofs.Files.{file-bytes, reads-files}
 use Rattle.hex.proofs.Canonical.{memory-text, canonical}
@@ -72,10 +73,6 @@ text-bytes memory e = memory-text memory e .long
 -- ---- reading
 
 -- What is not turned down as no file is one.
-is-file : (p : Parsed) → isNoFile p ≡ false → p ≡ file (readBytes p)
-is-file noFile e = absurd (true≢false e)
-is-file (file bytes) e = refl
-
 -- A row is left with the words of the text where reading is taken.
 left-words : (text row : List ℕ) → hexReadCause text row ≡ 0 → hexReadLeft text row ≡ wordsOf (length row) (readBytes (parsed text))
 unfolding hexReadLeft
@@ -118,6 +115,16 @@ file-taken text row left words size good f =
 -- Reading is taken exactly where the text is a file of the words of a row of this length, and leaves these words.
 read-taken : ReadTaken
 read-taken text row left = (taken-file text row left, (λ h. file-taken text row left (h .0) (h .1) (h .2) (h .3)))
+
+-- The row of a reading that is taken has the words that the text holds.
+words-held : WordsHeld
+unfolding hexReadCause hexReadCauses hexWords firstStanding
+words-held text row e =
+    let bytes = readBytes (parsed text) in
+    let none = neither 19 20 (isNoFile (parsed text)) (misfits bytes row) (omega arith) (omega arith) e in
+    let fills = eqb-true (length bytes) (8 * length row) (not-off _ (or-right (badLength (length row)) _ (none .1))) in
+    let words : length bytes / 8 ≡ length row = omega arith in
+    chosen (eqb (length bytes % 8) 0) _ _ (eq-eqb (length bytes % 8) 0 (omega arith)) ∙ words
 
 -- 19 is the answer exactly to a text that is no file.
 no-file : NoFile
@@ -191,4 +198,5 @@ hex-holds =
       misfit = misfit;
       untouched = untouched;
       refused = write-refused;
+      words = words-held;
     }

@@ -8,7 +8,7 @@ use lib.ListN.{length, getD, take}
 use Rattle.text.specs.Ascii.{feed, ':', 'a', 'z'}
 use Rattle.board.specs.Causes.{badLength}
 use Rattle.board.specs.Hex.{hexDigit, recordBytes, wordBytes, hexText, hexBytes, parsed, file}
-use Rattle.board.specs.Hex.{hexWriteCause, hexReadCause, HexWritePerformed, HexReadPerformed}
+use Rattle.board.specs.Hex.{hexWriteCause, hexReadCause, hexWords, HexWritePerformed, HexReadPerformed}
 
 -- ---- which texts are files
 
@@ -105,6 +105,10 @@ WriteRefused =
     ((hexWriteCause memory text ≡ 20) ↔ (badLength (length memory) ≡ true))
     × ((hexWriteCause memory text ≡ 12) ↔ ((badLength (length memory) ≡ false) × (length text < hexBytes (length memory))))
 
+-- A text is read into rows of one length alone, and `hexWords` tells it.
+abbrev pub WordsHeld : Type 0
+WordsHeld = (text row : List ℕ) → hexReadCause text row ≡ 0 → hexWords text ≡ length row
+
 -- All that is claimed of HEX text.
 pub record HexHolds : Type 0 where
   pub files : ReadsFiles
@@ -118,3 +122,4 @@ pub record HexHolds : Type 0 where
   pub misfit : Misfit
   pub untouched : Untouched
   pub refused : WriteRefused
+  pub words : WordsHeld

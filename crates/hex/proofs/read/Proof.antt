@@ -1,7 +1,7 @@
 -- `hex::read` meets its contract: taken, the row has the text's words; refused, it stays.
 use Prim.Native.Nat.{ℕ, _*_}
 use mathlib.Core.Path.{_≡_, refl, sym, ap, _∙_}
-use mathlib.Core.Bool.{true, false, not, _||_, true≢false}
+use mathlib.Core.Bool.{true, false, not, _||_}
 use mathlib.Core.List.{List}
 use lib.Dec.{eqb}
 use lib.ListN.{length}
@@ -9,7 +9,8 @@ use borrow.Author.Needs.{needs}
 use borrow.Author.Tests.{eqb-true}
 use Rattle.predicate.proofs.Bools.{chosen, passedOver, not-off, not-of, or-left, or-right}
 use Rattle.board.specs.Causes.{badLength, firstStanding}
-use Rattle.board.specs.Hex.{Parsed, noFile, file, parsed, readBytes, isNoFile, misfits, wordsOf, hexReadCauses, hexReadCause, hexReadLeft, HexReadPerformed}
+use Rattle.board.specs.Hex.{file, parsed, readBytes, isNoFile, misfits, wordsOf, hexReadCauses, hexReadCause, hexReadLeft, HexReadPerformed}
+use Rattle.hex.proofs.Parsing.{is-file as reads-to}
 use Rattle.hex.proofs.Written.{good-length}
 use Rattle.hex.proofs.read.Statement.{statement}
 use Rattle.hex.proofs.read.Tie as tie
@@ -40,11 +41,6 @@ module _ (text row : List ℕ) where
       let none : hexReadCause text row ≡ 0 = passedOver (isNoFile (parsed text)) 19 _ e ∙ passedOver (misfits (readBytes (parsed text)) row) 20 0 m in
       let same = w ∙ sym (chosen (eqb (hexReadCause text row) 0) (wordsOf (length row) (readBytes (parsed text))) row (ap (λ (k : ℕ). eqb k 0) none)) in
       λ i. record { number = sym none i; row = same i }
-
--- A text that is a file reads to its bytes.
-file-of : (p : Parsed) → isNoFile p ≡ false → p ≡ file (readBytes p)
-file-of noFile e = absurd (true≢false e)
-file-of (file bytes) e = refl
 
 -- What the test of the length asks.
 fit-test : (c : tie.After-struct-known2) → let a = c .before .before .before .before .before .before .before .args in
@@ -77,7 +73,7 @@ store-requires c κs =
     let wrong = not (eqb (length bytes) (8 * length (a .row .now))) in (
       record {
         bytes = bytes;
-        parses = file-of (parsed (a .text .now)) (is-file (e .before .before .before));
+        parses = reads-to (parsed (a .text .now)) (is-file (e .before .before .before));
         fills = eqb-true (length bytes) (8 * length (a .row .now)) (not-off _ (or-right bad wrong m));
       },
       good-length (length (a .row .now)) (or-left bad wrong m) .1,
