@@ -1,4 +1,6 @@
 // Workloads for measuring the calls: `bench KIND L W N ROUNDS SEED` prints the same checksum as the reference program's.
+#![tactic(auto)]
+
 ghost use Rattle.bench.specs.Plans.{Allowed};
 
 mod pages;

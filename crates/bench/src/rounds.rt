@@ -6,7 +6,7 @@ use crate::setup;
 use board::Call;
 
 // What one round is.
-#[derive(Drop)]
+#[derive(Clone, Copy)]
 pub enum Round {
     // A format's start and its L + 2 steps.
     Format,
@@ -41,7 +41,7 @@ pub enum Round {
 }
 
 // The marks of the cells of which pages are printed. `Mixed` are equal ones, half of the cells being unchanged.
-#[derive(Drop)]
+#[derive(Clone, Copy)]
 pub enum Marks {
     Equal,
     Rising,
@@ -50,14 +50,14 @@ pub enum Marks {
 }
 
 // What is done with HEX texts of the memory.
-#[derive(Drop)]
+#[derive(Clone, Copy)]
 pub enum Direction {
     Write,
     Read,
 }
 
 // What a KIND on the command line stands for.
-#[derive(Drop)]
+#[derive(Clone, Copy)]
 pub enum Workload {
     Calls(Round),
     Pages(Marks),
@@ -88,7 +88,7 @@ pub fn numbered(kind: u64) -> Workload {
 
 // A board's L and W, the cell n that a fill stops before (n cells are then marked for a checkpoint), the worker that
 // updates, and the seed.
-#[derive(Drop)]
+#[derive(Clone, Copy)]
 pub struct Plan {
     pub lines: u16,
     pub workers: u16,
@@ -98,7 +98,7 @@ pub struct Plan {
 }
 
 // A random number, and the data cell that it picks.
-#[derive(Drop)]
+#[derive(Clone, Copy)]
 pub struct Drawn {
     pub random: u64,
     pub cell: u64,

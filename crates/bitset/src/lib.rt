@@ -1,4 +1,6 @@
 // A set of numbers below 512, a bit each, in eight words (document 02, ticket 5: the dirty lines).
+#![tactic(auto)]
+
 ghost use Rattle.std.specs.Prelude.{◌≡◌, [], ◌∷◌, ℕ, ◌+◌, ◌-◌, ◌*◌, ◌/◌, ◌^◌, ◌≤◌, ◌<◌, get_or, ltb};
 ghost use Rattle.predicate.specs.Passing.{any_under, count_under, nth_under};
 ghost use Rattle.bitset.specs.Words.{bit_of, with_bit, inserted, size, nth, strays};

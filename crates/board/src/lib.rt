@@ -1,10 +1,12 @@
 // The declared types of the board: its state record and the calls that a host can make (document 01).
+#![tactic(auto)]
+
 ghost use Rattle.std.specs.Prelude.{◌≡◌};
 ghost use Rattle.board.specs.Board.{shaped, cells, row_words};
 ghost use Rattle.board.specs.Page.{page_bytes};
 
 // What the board is doing.
-#[derive(Drop)]
+#[derive(Clone, Copy)]
 pub enum Phase {
     Off,
     Formatting,
@@ -13,7 +15,7 @@ pub enum Phase {
 }
 
 // The next store of an unfinished update.
-#[derive(Drop)]
+#[derive(Clone, Copy)]
 pub enum Store {
     Backup,
     Mark,
@@ -21,7 +23,7 @@ pub enum Store {
 }
 
 // The next step at a recovery's cell.
-#[derive(Drop)]
+#[derive(Clone, Copy)]
 pub enum UndoStep {
     Restore,
     Unmark,
@@ -31,7 +33,7 @@ pub enum UndoStep {
 // What a worker is doing; an update of a cell under W is a restart point. A worker that is away (document 02's word)
 // waits for something outside, a coin say, and lets checkpoints go on without it. The order of an update's fields,
 // with the small ones first, leaves no gap that the compiler could only keep in memory (docs/BENCH.md).
-#[derive(Drop)]
+#[derive(Clone, Copy)]
 pub enum Condition {
     Free,
     Waiting,
@@ -40,7 +42,7 @@ pub enum Condition {
 }
 
 // A worker, with the data of its update inside.
-#[derive(Drop)]
+#[derive(Clone, Copy)]
 pub struct Worker {
     pub condition: Condition,
 }
@@ -49,7 +51,7 @@ pub struct Worker {
 // the holders of the locks, four bits a lock (crate `locks`), the dirty lines, which the next checkpoint writes back, a
 // bit a line (crate `bitset`), and the eight workers. The order of the small fields leaves no gap after them
 // (docs/BENCH.md).
-#[derive(Drop)]
+#[derive(Clone, Copy)]
 pub struct State {
     pub phase: Phase,
     pub workers: u8,
@@ -63,7 +65,7 @@ pub struct State {
 }
 
 // The fourteen calls with their arguments, any numbers a host may pass: nine of document 01, five of document 02.
-#[derive(Drop)]
+#[derive(Clone, Copy)]
 pub enum Call {
     FormatStart { lines: u64, workers: u64 },
     RecoveryStart,

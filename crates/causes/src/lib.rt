@@ -1,5 +1,7 @@
 // Why a call is turned down: for each call the number of its first cause, 0 where it is taken. Document 01's table and
 // what document 02 adds, with a field for each row that the call is tested by.
+#![tactic(auto)]
+
 pub mod order;
 
 ghost use Rattle.std.specs.Prelude.{◌≡◌, ℕ};

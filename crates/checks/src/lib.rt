@@ -1,4 +1,6 @@
 // One function for each test of the cause table of documents 01 and 02, and a worker's condition.
+#![tactic(auto)]
+
 pub mod holders;
 pub mod limits;
 pub mod marks;

@@ -7,7 +7,7 @@ ghost use Rattle.checks.specs.Sought.{sought_in, sought_at};
 use board::{Condition, State, Worker};
 
 // What a scan looks for in a worker under W.
-#[derive(Drop)]
+#[derive(Clone, Copy)]
 pub enum Sought {
     // an unfinished update of this cell or a later one
     CellFrom(u64),

@@ -54,7 +54,8 @@ fn append(out: &mut [u8], used: usize, text: &[u8], n: usize) -> usize
     ensures value { result ≡ used + n }
     ensures out_after { out.new ≡ put out.old used (take n text.now) }
 {
-    used + bytes::copy(&text[..n], &mut out[used..])
+    out[used..used + n].copy_from_slice(&text[..n]);
+    used + n
 }
 
 // More bytes of a line of which `begun` are kept; what comes after 80 bytes is dropped. Gives how many are kept.

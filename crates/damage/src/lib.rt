@@ -1,4 +1,6 @@
 // What a line of the fault program does to a board: the damage that a repair workshop puts in, and checksums.
+#![tactic(auto)]
+
 mod checksum;
 mod damages;
 mod record;
@@ -10,7 +12,7 @@ pub use damages::carry_out;
 use script::Shown;
 
 // How many words of the memory and cache arrays are in use.
-#[derive(Drop)]
+#[derive(Clone, Copy)]
 pub struct Sizes {
     pub memory: usize,
     pub cache: usize,

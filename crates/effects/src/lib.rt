@@ -1,4 +1,6 @@
 // What a taken call does, store by store (document 01, "Steps"). For the engine's own use: each function asks for what a passed cause table gives.
+#![tactic(auto)]
+
 mod cells;
 mod checkpoint;
 mod format;

@@ -1,5 +1,7 @@
 // The calls of documents 01 and 02 that a host can make. Each is lent both rows and says its complete outcome, taken or
 // refused, as one equation with a definition of crate `board`.
+#![tactic(auto)]
+
 mod advances;
 mod dispatch;
 mod steps;

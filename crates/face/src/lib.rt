@@ -1,5 +1,7 @@
 // What a host in C calls: exported functions on numbers and slices, a slice as a pointer and its length. `include/nevrodde.h`
 // says each promise in words. Each is one of our calls under a name that begins `nevrodde_`.
+#![tactic(auto)]
+
 ghost use Rattle.board.specs.Hex.{HexWritePerformed, HexReadPerformed};
 
 // A memory as HEX text into the text row (document 02, ticket 9).

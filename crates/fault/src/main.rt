@@ -1,4 +1,6 @@
 // The fault program, the drill with damage: a script on standard input, its answers on standard output.
+#![tactic(auto)]
+
 use script::Program;
 
 fn main() {

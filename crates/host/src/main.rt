@@ -1,5 +1,7 @@
 // An example of a host (docs/HOST.md): it boots on a blank memory, changes a cell under its lock, takes a checkpoint,
 // changes the cell again, is cut, boots again, and prints what the cell reads before the cut and after it.
+#![tactic(auto)]
+
 mod boot;
 mod runs;
 

@@ -14,7 +14,7 @@ pub const WORDS: usize = 8 * (LINES + 1);
 pub type Row = [u64; WORDS];
 
 // What a run of calls is to lead to.
-#[derive(Drop)]
+#[derive(Clone, Copy)]
 pub enum Aim {
     // no aim: the call is made as often as is asked
     Nothing,

@@ -1,5 +1,7 @@
 // Intel HEX of the memory (document 02, ticket 9): a memory written as text, and a text read into a row of words. Neither
 // call takes a state record.
+#![tactic(auto)]
+
 mod reading;
 mod storing;
 mod table;

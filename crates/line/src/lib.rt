@@ -1,4 +1,6 @@
 // The leaves: a cell's fields in a line's part, and a row by line (document 01, "Lines and cells").
+#![tactic(auto)]
+
 mod cell;
 mod row;
 

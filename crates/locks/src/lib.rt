@@ -1,5 +1,7 @@
 // The holders of sixteen locks in one word, four bits a lock (document 02, ticket 6): 0 where nobody holds the lock, else
 // the number of the worker that does and 1.
+#![tactic(auto)]
+
 ghost use Rattle.std.specs.Prelude.{◌≡◌, ◌*◌, ◌<◌, ltb};
 ghost use Rattle.predicate.specs.Passing.{any_under};
 ghost use Rattle.locks.specs.Holders.{digit_of, unheld, holds, holds_any, held_from, held_by, given_back, with_digit};

@@ -1,4 +1,6 @@
 // A page of cells for the van (document 02, ticket 1): the call, and how its text is written.
+#![tactic(auto)]
+
 mod lines;
 mod merge;
 mod order;

@@ -1,4 +1,6 @@
 // The page program: a script on standard input, the page of the board that it leaves on standard output.
+#![tactic(auto)]
+
 use script::Program;
 
 fn main() {

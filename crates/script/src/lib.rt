@@ -1,5 +1,7 @@
 // The lines of the drill (document 01, "The drill program"), of the fault program, the drill with damage, and of the page
 // and HEX programs, which have the drill's: a line of the script read, a line of the answer written.
+#![tactic(auto)]
+
 mod answer;
 mod commands;
 mod damages;
@@ -109,14 +111,14 @@ pub enum Shown {
 }
 
 // What one field is.
-#[derive(Drop)]
+#[derive(Clone, Copy)]
 pub enum Number {
     Value(u64),
     Bad,
 }
 
 // What the fields after the letter are: up to five numbers.
-#[derive(Drop)]
+#[derive(Clone, Copy)]
 enum Numbers {
     Zero,
     One(u64),

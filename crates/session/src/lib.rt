@@ -1,4 +1,6 @@
 // What a line of the script does to the board and to the text.
+#![tactic(auto)]
+
 mod texts;
 
 ghost use Rattle.std.specs.Prelude.{◌≡◌, List, ℕ, ◌≤◌, length, replicate};
@@ -17,7 +19,7 @@ use engine::Reading;
 use script::{Damage, Line, Shown};
 
 // The board's state record, and how many words of the memory and cache arrays and bytes of the text array are in use.
-#[derive(Drop)]
+#[derive(Clone, Copy)]
 pub struct Session {
     pub state: State,
     pub memory: usize,

@@ -5,6 +5,8 @@
 // the transcript of the whole input, or what is printed of the board that it leaves, however it was cut into pieces, is
 // proved (`AnyPieces`, `AnyPiecesPrinted`, `AnyPiecesHexPrinted`); that what is carried of lines that were no calls is
 // the whole input's, `AnyPiecesMisread`.
+#![tactic(auto)]
+
 mod display;
 mod messages;
 

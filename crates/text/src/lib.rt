@@ -1,5 +1,7 @@
 // Text written into a lent row of bytes: bytes, texts, and numbers in decimal. A row is written from `at` on and keeps all
 // other bytes.
+#![tactic(auto)]
+
 mod digits;
 mod number;
 mod table;
