@@ -15,7 +15,7 @@ pub use fields::number as decimal;
 pub use reasons::{number_of as reason_number, why};
 
 // The programs, each with its letters.
-#[derive(Drop)]
+#[derive(Clone, Copy)]
 pub enum Program {
     Drill,
     Fault,
@@ -103,7 +103,7 @@ pub enum Reason {
 }
 
 // What stands in the column of the answer or the value: `?`, `-` or a number.
-#[derive(Drop)]
+#[derive(Clone, Copy)]
 pub enum Shown {
     Unknown,
     Nothing,
