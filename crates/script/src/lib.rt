@@ -25,7 +25,7 @@ pub enum Program {
 
 // What a line of the script asks for: a format to the end, one call of the board, one call whose value is shown, a cut,
 // damage, a page in a text row of `room` bytes, work with the text, or nothing that is known.
-#[derive(Drop)]
+#[derive(Clone, Copy)]
 pub enum Line {
     Format { lines: u64, workers: u64 },
     Make { call: Call },
@@ -40,7 +40,7 @@ pub enum Line {
 // What a line of the fault program puts into the board: the rows' lengths, a word of memory, one of the cache, one of
 // the dirty lines' bits, a field of the record, a worker, a lock's holder; or nothing, with the checksum of everything
 // shown.
-#[derive(Drop)]
+#[derive(Clone, Copy)]
 pub enum Damage {
     Lengths {
         memory: u64,
@@ -78,7 +78,7 @@ pub enum Damage {
 
 // What a line of the fault program does with the text: memory written as HEX into a text of `room` bytes, a byte of it put,
 // or its first bytes read into memory.
-#[derive(Drop)]
+#[derive(Clone, Copy)]
 pub enum TextWork {
     Write { room: u64 },
     Put { at: u64, byte: u64 },
