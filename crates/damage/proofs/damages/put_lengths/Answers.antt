@@ -1,0 +1,48 @@
+-- `damage::damages::put_lengths` meets its contract: the new lengths are within the room.
+use Rattle.std.proofs.Common.{◌≡◌, true, sym, ◌∙◌, arith, rules}
+use Rattle.damage.specs.Damages.{room_for}
+use Rattle.damage.proofs.Fits.{room-bounds}
+use Rattle.damage.proofs.Arms.{by_parts, kept-within, lengths-put, lengths-off}
+use Rattle.damage.proofs.damages.put_lengths.Goals as goal
+
+-- The function's start, seen from where there is room.
+abbrev start : tie.Then1 → tie.Start
+start c = c.before.before.before.before
+
+-- There is room for the new lengths.
+room : (c : tie.Then1) → room_for (start c).args.m (start c).args.c ≡ true
+room c = sym c.before.has_room.ensures ∙ c.if1.true
+
+pub resize-requires : goal.resize-requires
+resize-requires c =
+    let s = start c in
+    let fits = room-bounds s.args.m s.args.c (room c) in
+    (omega (arith, s.pre.0.memory-within, s.pre.1.memory-room), omega (arith, s.pre.1.memory-room))
+
+pub resize-requires-then-has_room : goal.resize-requires-then-has_room
+resize-requires-then-has_room c =
+    let t = c in
+    let s = start t in
+    let fits = room-bounds s.args.m s.args.c (room t) in
+    (omega (arith, s.pre.0.cache-within, s.pre.1.cache-room), omega (arith, s.pre.1.cache-room))
+
+pub returns-then-has_room : goal.returns-then-has_room
+returns-then-has_room c =
+    let m' = c.resize in
+    let c' = c.resize-then-has_room in
+    let t = c in
+    let a = (start t).args in
+    let fits = room-bounds a.m a.c (room t) in (
+      by_parts m'.new.row c'.new.row c.shown.ensures
+          ∙ lengths-put a.state a.sizes a.memory.now a.cache.now a.m a.c m'.new.row c'.new.row (room t) m'.ensures c'.ensures,
+      kept-within c.shown.ensures.1 (record { memory-within = fits.0; cache-within = fits.1 }),
+    )
+
+pub returns : goal.returns
+returns c =
+    let s = c in
+    let a = s.args in (
+      by_parts a.memory.now a.cache.now c.shown-2.ensures
+          ∙ lengths-off a.state a.sizes a.memory.now a.cache.now a.m a.c (sym c.has_room.ensures ∙ c.if-has_room.false),
+      kept-within c.shown-2.ensures.1 s.requires.0,
+    )

@@ -1,0 +1,60 @@
+use Prim.Native.Nat.{◌+◌, ◌*◌, ◌-◌, ◌≤◌}
+use mathlib.Core.Path.{ap, ◌∙◌}
+use native.Mathlib.Omega.{arith}
+use lib.ListN.{length}
+use borrow.Author.Rules.{rules}
+use Rattle.intel_hex.specs.Storing.{front_of}
+use Rattle.intel_hex.proofs.Parsing.{tail}
+use Rattle.intel_hex.proofs.Measuring.{Measuring, some_next, none-next, measuring-begins, next-within, measuring-more, measuring-ends, measuring-stops}
+use Rattle.intel_hex.proofs.reading.measure.Goals as goal
+
+pub front-n-requires : goal.front-n-requires
+front-n-requires c = c.digits-digits.ensures
+
+pub front-n-requires-in-loop-n : goal.front-n-requires-in-loop-n
+front-n-requires-in-loop-n c = c.digits-digits.ensures
+
+pub loop-n-init : goal.loop-n-init
+loop-n-init c = measuring-begins c.front-n.ensures
+
+pub overflow_mul-at : goal.overflow_mul-at
+overflow_mul-at c = record { fits = omega (arith, some_next c.loop-n.n c.loop-n-test.true) }
+
+pub overflow_add-at : goal.overflow_add-at
+overflow_add-at c = record { fits = omega (arith, some_next c.loop-n.n c.loop-n-test.true) }
+
+-- The next record ends within the text.
+ends : (c : tie.In-loop invariant-loop decreases-loop) → c.before.loop.at + (2 * c.before.loop.n + 12) ≤ length c.before.before.before.before.before.before.args.text.now
+ends c =
+    let some = some_next c.before.loop.n c.loop-test.true in
+    next-within c.before.loop.invariant some.0 some.1
+
+pub overflow_add-at-in-loop-n : goal.overflow_add-at-in-loop-n
+overflow_add-at-in-loop-n c = record { fits = omega (arith, ends c) }
+
+pub overflow_add-address : goal.overflow_add-address
+overflow_add-address c = record { fits = omega (arith, ends c, c.loop-n.invariant.fewer) }
+
+pub slice_bounds-front-count : goal.slice_bounds-front-count
+slice_bounds-front-count c = ends c
+
+pub slice_bounds-front-start : goal.slice_bounds-front-start
+slice_bounds-front-start c = ends c
+
+pub slice_bounds-front-end : goal.slice_bounds-front-end
+slice_bounds-front-end c = search rules
+
+pub loop-n-smaller : goal.loop-n-smaller
+loop-n-smaller c = omega (arith, ends c)
+
+pub loop-n-preserved : goal.loop-n-preserved
+loop-n-preserved c =
+    let l = c in
+    let some = some_next l.loop-n.n c.loop-n-test.true in
+    measuring-more l.loop-n.invariant some.0 some.1 (c.front-n-in-loop-n.ensures ∙ ap (front_of (l.loop-n.address + l.loop-n.n)) (tail (l.loop-n.at + (2 * l.loop-n.n + 12)) l.args.text.now))
+
+pub returns-then-n-eq0 : goal.returns-then-n-eq0
+returns-then-n-eq0 c = measuring-ends (rw c.if-n-eq0.true at c.loop-n.invariant)
+
+pub returns : goal.returns
+returns c = measuring-stops c.loop-n.invariant (none-next c.loop-n.n c.loop-n-test.false c.if-n-eq0.false)

@@ -1,0 +1,47 @@
+use Prim.Native.Nat.{◌+◌, ◌*◌, ◌-◌, ◌≤◌}
+use native.Mathlib.Omega.{arith}
+use lib.ListN.{get_or}
+use borrow.Author.Rules.{rules}
+use Rattle.intel_hex.proofs.Digits.{digit-most}
+use Rattle.intel_hex.proofs.Summing.{Summing, summing-begins, summing-more, summing-ends}
+use Rattle.intel_hex.proofs.reading.sum.Goals as goal
+
+pub loop-k-init : goal.loop-k-init
+loop-k-init c = summing-begins _ _
+
+pub bounds-text-k : goal.bounds-text-k
+bounds-text-k c = omega (arith, c.requires, c.loop-k.invariant.within)
+
+pub digit-high-requires : goal.digit-high-requires
+digit-high-requires c = c.requires.0
+
+pub digit-low-requires : goal.digit-low-requires
+digit-low-requires c = c.requires.0
+
+-- Both digits are at most 16.
+both : (c : tie.After-digit2 invariant-loop decreases-loop) → (c.before.before.digit.result ≤ 16) × (c.digit2.result ≤ 16)
+both c =
+    let t = c.before.before.before.before.before.before.before.args.text.now in
+    let k = c.before.before.before.before.before.loop.k in
+    (omega (arith, c.before.before.digit.ensures, digit-most (get_or t (2 * k) 0)), omega (arith, c.digit2.ensures, digit-most (get_or t (2 * k + 1) 0)))
+
+pub overflow_mul-bytes : goal.overflow_mul-bytes
+overflow_mul-bytes c = record { fits = omega (arith, both c, c.loop-k.invariant.most, c.loop-k.invariant.few, c.loop-k.invariant.within, c.requires) }
+
+pub overflow_add-bytes : goal.overflow_add-bytes
+overflow_add-bytes c = record { fits = omega (arith, both c, c.loop-k.invariant.most, c.loop-k.invariant.few, c.loop-k.invariant.within, c.requires) }
+
+pub overflow_add-bytes-in-loop-k : goal.overflow_add-bytes-in-loop-k
+overflow_add-bytes-in-loop-k c = record { fits = omega (arith, both c, c.loop-k.invariant.most, c.loop-k.invariant.few, c.loop-k.invariant.within, c.requires) }
+
+pub overflow_add-strays : goal.overflow_add-strays
+overflow_add-strays c = record { fits = omega (arith, both c, c.loop-k.invariant.most, c.loop-k.invariant.few, c.loop-k.invariant.within, c.requires) }
+
+pub overflow_add-strays-in-loop-k : goal.overflow_add-strays-in-loop-k
+overflow_add-strays-in-loop-k c = record { fits = omega (arith, both c, c.loop-k.invariant.most, c.loop-k.invariant.few, c.loop-k.invariant.within, c.requires) }
+
+pub loop-k-preserved : goal.loop-k-preserved
+loop-k-preserved c = summing-more c.loop-k.invariant c.loop-k-test.true c.digit-high.ensures c.digit-low.ensures
+
+pub returns : goal.returns
+returns c = summing-ends c.loop-k.invariant (omega arith)

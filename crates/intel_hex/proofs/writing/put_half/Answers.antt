@@ -1,0 +1,24 @@
+-- `hex::writing::put_half` meets its contract: four pairs of characters, one behind the other.
+use mathlib.Core.Path.{refl, subst}
+use Prim.Native.Nat.{ℕ}
+use native.Mathlib.Omega.{arith}
+use borrow.Author.Rules.{rules}
+use Rattle.intel_hex.specs.Lanes.{Paired}
+use Rattle.intel_hex.proofs.Lanes.{half-text}
+use Rattle.intel_hex.proofs.Written.{written_as, follows}
+use Rattle.intel_hex.proofs.writing.put_half.Goals as goal
+
+pub returns : goal.returns
+returns c =
+    let fourth = c in
+    let third = fourth in
+    let second = third in
+    let first = second in
+    let chars = first in
+    let spread = chars in
+    let a = spread.args in
+    let two = follows first.put_pair.ensures second.put_pair-2.ensures refl (omega arith) in
+    let three = follows two third.put_pair-3.ensures (omega arith) (omega arith) in
+    let four = follows three fourth.put_pair-4.ensures (omega arith) (omega arith) in
+    let pairs = subst (λ (n : ℕ). Paired n chars.characters-pairs.result) spread.spread.ensures chars.characters-pairs.ensures in
+    written_as four (half-text a.half chars.characters-pairs.result pairs) (omega arith)

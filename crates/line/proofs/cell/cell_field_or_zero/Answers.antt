@@ -1,0 +1,24 @@
+-- `line::cell::cell_field_or_zero` meets its contract: past the end stands the default.
+use Prim.Native.Nat.{ℕ, ◌+◌, ◌*◌}
+use native.Mathlib.Omega.{arith}
+use mathlib.Core.Path.{◌≡◌, sym, ap, ◌∙◌}
+use lib.ListN.{get_or, get_or-eq_default}
+use borrow.Author.Rules.{rules}
+use Rattle.line.specs.Cell.{field_index, field_of}
+use Rattle.line.proofs.cell.cell_field_or_zero.Goals as goal
+
+-- Where the field stands.
+index : (c : tie.After-word) →
+    8 * c.before.cell-line.result + c.word.result ≡ field_index c.before.before.before.args.cell c.before.before.before.args.field
+unfolding field_index
+index c = omega (arith, c.before.cell-line.ensures, c.word.ensures.0)
+
+pub returns-then-at-row : goal.returns-then-at-row
+unfolding field_of
+returns-then-at-row c = ap (λ (i : ℕ). get_or c.args.row.now i 0) (index c)
+
+pub returns-else-at-row : goal.returns-else-at-row
+unfolding field_of
+returns-else-at-row c =
+    let row = c.args.row.now in
+    sym (ap (λ (i : ℕ). get_or row i 0) (sym (index c)) ∙ get_or-eq_default row 0 c.if-at-row.false)

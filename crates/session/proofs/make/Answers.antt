@@ -1,0 +1,22 @@
+-- `session::make` meets its contract: the parts lent are within the rows.
+use mathlib.Core.Path.{refl}
+use native.Mathlib.Omega.{arith}
+use lib.ListN.{take}
+use borrow.Author.Rules.{rules}
+use Rattle.session.specs.Lines.{repeated}
+use Rattle.session.proofs.Rows.{part-size}
+use Rattle.session.proofs.Acts.{made}
+use Rattle.session.proofs.make.Goals as goal
+
+pub returns : goal.returns
+unfolding repeated
+returns c =
+    let p = c.repeat-r in
+    let start = c in
+    let a = start.args in
+    let s = a.session in (
+      (λ text. made s.memory s.cache a.memory.now a.cache.now p.new.state.1.0 p.new.state.1.1.0
+          start.requires.memory-fits start.requires.cache-fits p.auto.state.1.0 p.auto.state.1.1.0
+          a.call s.state p.result.state p.result.number p.result.value (take s.text text) p.ensures),
+      (refl, refl, refl),
+    )
