@@ -18,6 +18,62 @@ NAME = r"[^\s(){}\[\],;.:=λ|\"@]+"
 PATH = re.compile(r"(?<![\w.'\-])(" + NAME + r")((?:\." + NAME + r")+)")
 
 
+def clauses(kind):
+    """The names of each function's clauses, where it has several, by its name."""
+    found = {}
+    for path in glob.glob("crates/*/src/**/*.rt", recursive=True):
+        text = open(path, encoding="utf-8").read()
+        for m in re.finditer(r"(?m)^ *(?:pub )?fn (\w+)", text):
+            head = re.split(r"\n *\{\n", text[m.end() :], maxsplit=1)[0]
+            head = re.split(r"(?m)^(?:pub )?fn ", head)[0]
+            names = re.findall(r"(?m)^ *" + kind + r" (\w+) \{", head)
+            if len(names) > 1:
+                found[(path.split("/")[1], m.group(1))] = names
+    return found
+
+
+ENSURES, REQUIRES = clauses("ensures"), clauses("requires")
+
+
+def last_tuple(body):
+    """Where the tuple at the end of a term stands, and its parts."""
+    end = len(body.rstrip())
+    if not body[:end].endswith(")"):
+        return None
+    depth, start, cuts = 0, None, []
+    for i in range(end - 1, -1, -1):
+        ch = body[i]
+        if ch in ")]}":
+            depth += 1
+        elif ch in "([{":
+            depth -= 1
+            if depth == 0:
+                start = i
+                break
+        elif ch == "," and depth == 1:
+            cuts.append(i)
+    if start is None or not cuts:
+        return None
+    before = body[:start].rstrip()
+    if not (before.endswith("=") or before.endswith(" in") or before.endswith("\nin")):
+        return None
+    edges = [start] + sorted(cuts) + [end - 1]
+    parts = [body[a + 1 : b].strip() for a, b in zip(edges, edges[1:])]
+    return start, [p for p in parts if p]
+
+
+def by_clauses(eqs, names):
+    """A goal of several clauses is a record of them."""
+    got = last_tuple(eqs)
+    if got:
+        start, parts = got
+        if len(parts) > len(names):
+            parts = parts[: len(names) - 1] + ["(" + ", ".join(parts[len(names) - 1 :]) + ")"]
+        if len(parts) == len(names):
+            return eqs[:start] + "record { " + "; ".join(f"{n} = {p}" for n, p in zip(names, parts)) + " }"
+    return None
+
+
 def alike(name):
     return re.sub(r"[-_]", "", name).lower()
 
@@ -97,7 +153,7 @@ def in_step(step, rest):
         rest[1] = fields[int(rest[1])]
     if len(rest) >= 2 and rest[0] in ("new", "auto") and rest[1].isdigit() and int(rest[1]) < len(params):
         rest[1] = params[int(rest[1])]
-        if rest[0] == "new" and len(rest) >= 3 and rest[2] == "0":
+        if len(rest) >= 3 and rest[2] == "0":
             del rest[2]
     return rest
 
@@ -120,8 +176,6 @@ def turned(body, function, k, root="c"):
             return name, parts, "root"
         for label, inner, new_step, field in arms:
             if alike(parts[0]) == label and parts[1 : 1 + len(inner)] == [str(x) for x in inner]:
-                if field.endswith("-own"):
-                    return name, [new_step] + parts[1 + len(inner) :], None
                 return name, [new_step, field] + parts[1 + len(inner) :], None
         if parts == ["args"]:
             return name, parts, "args"
@@ -151,7 +205,11 @@ def turned(body, function, k, root="c"):
         elif bound and kind is None and re.match(r"\s+in\b", body[m.end() :]):
             alias.pop(bound.group(1), None)
     out.append(body[at:])
-    return "".join(out)
+    text = "".join(out)
+    for name in [a for a, kind in alias.items() if kind is None and a != root]:
+        text = re.sub(r"let " + re.escape(name) + r" = " + re.escape(root) + r" in\s*", "", text)
+        text = re.sub(r"(?<![\w.'\-])" + re.escape(name) + r"(?![\w'\-])", root, text)
+    return text
 
 
 def invariant(decl, function, said):
@@ -193,6 +251,7 @@ def convert(path, names, crate, rel):
     module = "Rattle." + crate + ".proofs." + rel.replace("/", ".")
     kept = [u for u in uses if not re.search(r"\.(Statement|Tie|Goals|Given)\b", u)]
     inv, ans, plain = [], [], []
+    shared, more = "", []
     for d in decls:
         t = "\n".join(d["lines"])
         sig = t.split("\n" + d["name"])[0]
@@ -215,6 +274,21 @@ def convert(path, names, crate, rel):
             eqs = re.sub(r"(?m)^(" + re.escape(new) + r" \S+) κs(?= )", r"\1", eqs)
             root = re.match(re.escape(new) + r" (\S+)", eqs)
             eqs = turned(eqs, function, k, root.group(1) if root else "c")
+            names_of = None
+            if new == "returns" or new.startswith("returns-"):
+                names_of = ENSURES.get((crate, rel.split("/")[-1]))
+            elif new.split("-")[-1] == "requires" or re.search(r"-requires-\d+$", new):
+                callee = new.split("-")[0]
+                names_of = next((v for (c, f), v in REQUIRES.items() if f == callee), None)
+            own = REQUIRES.get((crate, rel.split("/")[-1]))
+            if own:
+                eqs = re.sub(r"(?<![\w'\-])c\.requires\.(\d)", lambda m: "c.requires." + own[int(m.group(1))], eqs)
+            if names_of:
+                r = by_clauses(eqs, names_of)
+                if r is None:
+                    said.append(f"by hand: {new} has clauses {names_of}")
+                else:
+                    eqs = r
             ans.append("\n".join(d["notes"] + [f"pub {new} : goal.{new}"] + unf + [eqs.rstrip()]))
             d["new"] = new
         else:
@@ -227,12 +301,19 @@ def convert(path, names, crate, rel):
     if inv:
         used = "\n".join(inv)
         wanted = [p for p in plain if re.search(r"(?<![\w.'\-])" + re.escape(p[0]) + r"(?![\w'\-])", used)]
-        more = [w[1] for w in wanted]
+        more = []
         if wanted:
             said.append("the invariant uses " + ", ".join(w[0] for w in wanted))
+            drop = [w[1] for w in wanted]
+            ans = [a for a in ans if a not in drop]
+            more = [re.sub(r"(?m)^(abbrev |unfoldable )?(pub )?(record |data )?(?=" + re.escape(w[0]) + r"[ :])",
+                           lambda m: (m.group(1) or "") + "pub " + (m.group(3) or ""), w[1], count=1) for w in wanted]
+            shared = ", ".join(w[0] for w in wanted)
         body = "\n".join(head + kept + [f"use {module}.Given as goal", ""]) + "\n" + "\n\n".join(more + inv) + "\n"
         open(os.path.join(folder, "Invariants.antt"), "w", encoding="utf-8").write(body)
     if ans:
+        if shared:
+            kept = kept + [f"use {module}.Invariants.{{{shared}}}"]
         lines = (head if not inv else []) + kept + [f"use {module}.Goals as goal", ""]
         open(os.path.join(folder, "Answers.antt"), "w", encoding="utf-8").write("\n".join(lines) + "\n" + "\n\n".join(ans) + "\n")
     os.remove(path)

@@ -24,17 +24,8 @@ each words a b c d e f g h (suc (suc (suc (suc (suc (suc (suc (suc k)))))))) l =
 
 pub returns : goal.returns
 returns c =
-    let c7 = c in
-    let c6 = c7 in
-    let c5 = c6 in
-    let c4 = c5 in
-    let c3 = c4 in
-    let c2 = c3 in
-    let c1 = c2 in (
-      (λ i.
-          c1.ones-a.ensures.value i + c2.ones-b.ensures.value i + c3.ones-c.ensures.value i + c4.ones-d.ensures.value i
-          + c5.ones-e.ensures.value i + c6.ones-f.ensures.value i + c7.ones-g.ensures.value i + c.ones-h.ensures.value i)
-          ∙ sym (size-words c1.args.words),
-      each c1.args.words c1.ones-a.ensures.value c2.ones-b.ensures.value c3.ones-c.ensures.value c4.ones-d.ensures.value
-          c5.ones-e.ensures.value c6.ones-f.ensures.value c7.ones-g.ensures.value c.ones-h.ensures.value,
-    )
+    record { size_value = (λ i.
+          c.ones-a.ensures.value i + c.ones-b.ensures.value i + c.ones-c.ensures.value i + c.ones-d.ensures.value i
+          + c.ones-e.ensures.value i + c.ones-f.ensures.value i + c.ones-g.ensures.value i + c.ones-h.ensures.value i)
+          ∙ sym (size-words c.args.words); by_index = each c.args.words c.ones-a.ensures.value c.ones-b.ensures.value c.ones-c.ensures.value c.ones-d.ensures.value
+          c.ones-e.ensures.value c.ones-f.ensures.value c.ones-g.ensures.value c.ones-h.ensures.value }

@@ -37,7 +37,7 @@ returns-in-6 c = rw (c.with_bit-in-6.ensures, c.in-6.is)
 pub returns-in_default : goal.returns-in_default
 unfolding inserted
 returns-in_default c =
-    let none = c.in_default.rest in
+    let none = c.in_default.in_default-own.rest in
     let four : 4 ≤ c.args.i / 64 = omega (arith, none.0.0.0) in
     let last : c.args.i / 64 ≡ 7 = omega (arith, c.requires, four, none.0.0.1, none.0.1, none.1) in
     rw (c.with_bit-in_default.ensures, last)

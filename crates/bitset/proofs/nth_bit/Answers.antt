@@ -30,7 +30,4 @@ returns c =
     let l = c.loop-left in
     let a = c.args in
     let zeros = swept-zeros a.word a.p l.rest l.left c.requires l.invariant in
-    let low = swept-lowest a.word a.p l.rest l.left c.requires l.invariant in (
-      zeros ∙ ap (nth_under 64 (bit_of a.word)) (omega arith),
-      omega (arith, low.found.within),
-    )
+    let low = swept-lowest a.word a.p l.rest l.left c.requires l.invariant in record { value = zeros ∙ ap (nth_under 64 (bit_of a.word)) (omega arith); upper_bound = omega (arith, low.found.within) }

@@ -8,4 +8,4 @@ pub overflow_cast-result : goal.overflow_cast-result
 overflow_cast-result c = record { fits = omega (arith, ones-le 64 c.args.word (omega arith)) }
 
 pub returns : goal.returns
-returns c = (ones-count 64 c.args.word (omega arith), ones-le 64 c.args.word (omega arith))
+returns c = record { value = ones-count 64 c.args.word (omega arith); upper_bound = ones-le 64 c.args.word (omega arith) }

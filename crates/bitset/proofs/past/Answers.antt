@@ -60,8 +60,7 @@ returns-in-7 c = in-word 7 c c.in-7.is (omega arith) c.after-in-7.ensures
 
 pub returns-in_default : goal.returns-in_default
 returns-in_default c =
-    let s = c in
-    let none = c.in_default.rest in
-    let four : 4 ≤ s.args.last / 64 = omega (arith, none.0.0.0.0) in
-    past-none (words s) s.args.last (small s) refl
+    let none = c.in_default.in_default-own.rest in
+    let four : 4 ≤ c.args.last / 64 = omega (arith, none.0.0.0.0) in
+    past-none (words c) c.args.last (small c) refl
     (omega (arith, four, none.0.0.0.1, none.0.0.1, none.0.1, none.1))

@@ -24,9 +24,8 @@ nth_bit-requires c = omega (arith, read c)
 
 pub returns-then-size-p : goal.returns-then-size-p
 returns-then-size-p c =
-    let s = c in
-    let a = s.args in
-    (s.counted-all.ensures.size_value, sym (nth-none a.words a.p (omega (arith, s.counted-all.ensures.size_value))))
+    let a = c.args in
+    (c.counted-all.ensures.size_value, sym (nth-none a.words a.p (omega (arith, c.counted-all.ensures.size_value))))
 
 pub returns-then-left-count : goal.returns-then-left-count
 returns-then-left-count c =
@@ -40,8 +39,7 @@ returns-then-left-count c =
 
 pub loop-k-preserved : goal.loop-k-preserved
 loop-k-preserved c =
-    let l = c in
-    (omega (arith, read c, count_word (first l).before.args.t1 l.loop-k.k), omega arith)
+    (omega (arith, read c, count_word (first c).before.args.t1 c.loop-k.k), omega arith)
 
 pub returns : goal.returns
 returns c =

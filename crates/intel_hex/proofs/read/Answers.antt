@@ -61,15 +61,14 @@ returns-then-bad_length-measured c =
 
 pub store-requires : goal.store-requires
 store-requires c =
-    let e = c in
-    let a = e.args in
-    let m = sym (fit-test e) ∙ e.if-bad_length-measured.false in
+    let a = c.args in
+    let m = sym (fit-test c) ∙ c.if-bad_length-measured.false in
     let bytes = read_bytes (parsed a.text.now) in
     let bad = bad_length (length a.row.now) in
     let wrong = not (eqb (length bytes) (8 * length a.row.now)) in (
       record {
         bytes = bytes;
-        parses = reads-to (parsed a.text.now) (is-file e);
+        parses = reads-to (parsed a.text.now) (is-file c);
         fills = eqb-true (length bytes) (8 * length a.row.now) (not-off _ (or_right bad wrong m));
       },
       (good_length (length a.row.now) (or_left bad wrong m)).1,
@@ -77,6 +76,5 @@ store-requires c =
 
 pub returns : goal.returns
 returns c =
-    let e = c in
-    let a = e.args in
-    taken a.text.now a.row.now (is-file e) (sym (fit-test e) ∙ e.if-bad_length-measured.false) c.store.ensures
+    let a = c.args in
+    taken a.text.now a.row.now (is-file c) (sym (fit-test c) ∙ c.if-bad_length-measured.false) c.store.ensures

@@ -70,6 +70,5 @@ put_memory-requires c = (good c, c.if-text-memory.false)
 
 pub returns : goal.returns
 returns c =
-    let passed = c in
-    let a = passed.args in
-    taken a.memory.now a.text.now (good passed) passed.if-text-memory.false c.put_memory.ensures
+    let a = c.args in
+    taken a.memory.now a.text.now (good c) c.if-text-memory.false c.put_memory.ensures

@@ -11,7 +11,7 @@ pub returns-then-lock-lt16 : goal.returns-then-lock-lt16
 unfolding digit_of
 returns-then-lock-lt16 c =
     let a = c.args in
-    (ap (λ (x : ℕ). a.holders / x % 16) (sym (power-bits a.lock)), omega arith)
+    record { value = ap (λ (x : ℕ). a.holders / x % 16) (sym (power-bits a.lock)); upper_bound = omega arith }
 
 pub returns-else-lock-lt16 : goal.returns-else-lock-lt16
-returns-else-lock-lt16 c = let a = c.args in (sym (digit-past a.holders a.lock (omega arith) (omega arith)), omega arith)
+returns-else-lock-lt16 c = let a = c.args in record { value = sym (digit-past a.holders a.lock (omega arith) (omega arith)); upper_bound = omega arith }

@@ -7,11 +7,8 @@ use lib.Dec.{eqb}
 use borrow.Author.Tests.{ne_eqb}
 use Rattle.locks.specs.Holders.{digit_of, holds, holds_any}
 use Rattle.locks.proofs.Holders.{any_digit, digits-on, digits-end}
+use Rattle.locks.proofs.holds_any.Invariants.{own}
 use Rattle.locks.proofs.holds_any.Goals as goal
-
--- A worker's own digit.
-abbrev own : ℕ → ℕ → Bool
-own worker digit = eqb digit (suc worker)
 
 own-zero : (w : ℕ) → own w 0 ≡ false
 own-zero w = ne_eqb 0 (suc w) (λ same. omega arith)

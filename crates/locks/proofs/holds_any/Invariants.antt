@@ -11,7 +11,7 @@ use Rattle.locks.proofs.Holders.{any_digit, digits-on, digits-end}
 use Rattle.locks.proofs.holds_any.Given as goal
 
 -- A worker's own digit.
-abbrev own : ℕ → ℕ → Bool
+abbrev pub own : ℕ → ℕ → Bool
 own worker digit = eqb digit (suc worker)
 
 abbrev pub invariant-loop-rest : goal.invariant-loop-rest

@@ -52,14 +52,12 @@ board c = lent c.args.state c.args.memory.now c.args.cache.now
 
 pub put_page-requires : goal.put_page-requires
 put_page-requires c =
-    let start = c in
-    let p = passed (board start) start.args.text.now (sym c.of_page-number.ensures ∙ c.if-number-eq-TAKEN.true) in
+    let p = passed (board c) c.args.text.now (sym c.of_page-number.ensures ∙ c.if-number-eq-TAKEN.true) in
     (p.lines, p.cache, p.room)
 
 pub returns-then-number-eq-TAKEN : goal.returns-then-number-eq-TAKEN
 returns-then-number-eq-TAKEN c =
-    let start = c in
-    page-taken (board start) start.args.text.now _ c.of_page-number.result c.of_page-number.ensures c.if-number-eq-TAKEN.true c.put_page.ensures
+    page-taken (board c) c.args.text.now _ c.of_page-number.result c.of_page-number.ensures c.if-number-eq-TAKEN.true c.put_page.ensures
 
 pub returns-else-number-eq-TAKEN : goal.returns-else-number-eq-TAKEN
 returns-else-number-eq-TAKEN c = page-refused (board c) c.args.text.now c.of_page-number.result c.of_page-number.ensures c.if-number-eq-TAKEN.false

@@ -29,19 +29,17 @@ sort-requires c = c.number-2.ensures ∙ ap numbers_under c.requires.1 ∙ sym c
 
 pub put_cells-requires : goal.put_cells-requires
 put_cells-requires c =
-    let start = c in
-    let cache = start.args.cache.now in
-    let n = length start.args.cells.now in
+    let cache = c.args.cache.now in
+    let n = length c.args.cells.now in
     let is : c.sort.new.row ≡ cell_order cache n = c.sort.ensures ∙ ap (ordered (before cache)) c.number.ensures in
-    (subst (AllInCache cache) (sym is) (all_held cache n start.requires.2), omega (arith, ap length is, order-length cache n, start.requires.3, c.put_heading.auto.text))
+    (subst (AllInCache cache) (sym is) (all_held cache n c.requires.2), omega (arith, ap length is, order-length cache n, c.requires.3, c.put_heading.auto.text))
 
 pub returns : goal.returns
 returns c =
-    let start = c in
-    let cache = start.args.cache.now in
-    let n = length start.args.cells.now in
+    let cache = c.args.cache.now in
+    let n = length c.args.cells.now in
     let is : c.sort.new.row ≡ cell_order cache n = c.sort.ensures ∙ ap (ordered (before cache)) c.number.ensures in
     c.put_cells.ensures
     ∙ ap (λ (l : List ℕ). put l 68 (flatten (map (cell_text cache) c.sort.new.row))) c.put_heading.ensures
-    ∙ ap (λ (l : List ℕ). put (put start.args.text.now 0 heading_text) 68 (flatten (map (cell_text cache) l))) is
-    ∙ page-written start.args.text.now cache n (omega (arith, start.requires.3))
+    ∙ ap (λ (l : List ℕ). put (put c.args.text.now 0 heading_text) 68 (flatten (map (cell_text cache) l))) is
+    ∙ page-written c.args.text.now cache n (omega (arith, c.requires.3))

@@ -28,18 +28,16 @@ slice_bounds-put_ordered-end-2 c = sym (length-take-le _ _ (few c))
 
 pub put_ordered-requires : goal.put_ordered-requires
 put_ordered-requires c =
-    let start = c in
     let n = c.cells-n in
     let size = length-take-le n.result _ (few c) in (
       subst (λ (k : ℕ). k ≤ 1022) (sym size) (few c),
       refl,
-      subst (InCacheUnder start.args.cache.now) (sym (size ∙ n.ensures)) (all_held start.args.cache.now start.args.lines start.requires.0 start.requires.1),
-      omega (arith, size, n.ensures, start.requires.2),
+      subst (InCacheUnder c.args.cache.now) (sym (size ∙ n.ensures)) (all_held c.args.cache.now c.args.lines c.requires.0 c.requires.1),
+      omega (arith, size, n.ensures, c.requires.2),
     )
 
 pub returns : goal.returns
 returns c =
-    let start = c in
     let n = c.cells-n in
     c.put_ordered.ensures
-    ∙ ap (λ (k : ℕ). put start.args.text.now 0 (page_text start.args.cache.now k)) (length-take-le n.result _ (few c) ∙ n.ensures)
+    ∙ ap (λ (k : ℕ). put c.args.text.now 0 (page_text c.args.cache.now k)) (length-take-le n.result _ (few c) ∙ n.ensures)

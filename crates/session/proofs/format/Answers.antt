@@ -22,9 +22,8 @@ bound c = lines-within (start c).args.lines (start c).args.workers (inside c)
 
 pub returns-then-outside : goal.returns-then-outside
 returns-then-outside c =
-    let s = c in
-    let a = s.args in
-    ((λ text. format-down a.lines a.workers (desk_of a.session a.memory.now a.cache.now text) (sym c.outside.ensures ∙ c.if-outside.true)), s.requires.0)
+    let a = c.args in
+    record { by_index = (λ text. format-down a.lines a.workers (desk_of a.session a.memory.now a.cache.now text) (sym c.outside.ensures ∙ c.if-outside.true)); within_2 = c.requires.within }
 
 pub overflow_cast-lines : goal.overflow_cast-lines
 overflow_cast-lines c = omega (arith, bound c)
@@ -37,7 +36,7 @@ slice_bounds-format_rows-end-2 c = part-size _ _ (slice-relend-prefix-format-row
 
 pub slice_bounds-format_rows-end-3 : goal.slice_bounds-format_rows-end-3
 slice_bounds-format_rows-end-3 c =
-    let sized = c in omega (arith, bound sized, sized.row_words-words.ensures, (start sized).requires.1.cache-room)
+    omega (arith, bound c, c.row_words-words.ensures, (start c).requires.1.cache-room)
 
 pub slice_bounds-format_rows-end-4 : goal.slice_bounds-format_rows-end-4
 slice_bounds-format_rows-end-4 c = part-size _ _ (slice-relend-prefix-format-rows-2 c)
@@ -48,14 +47,9 @@ format_rows-next-requires c = bound c
 pub returns : goal.returns
 returns c =
     let r = c.format_rows-next in
-    let lent = c in
-    let sized = lent in
-    let a = (start sized).args in
-    let within = bound sized in
-    let words = sized.row_words-words.ensures in (
-      (λ text. format-up a.lines a.workers sized.row_words-words.result a.session.state r.result (desk_of a.session a.memory.now a.cache.now text)
-          a.memory.now a.cache.now r.new.memory r.new.memory.1.0 words (inside sized) refl
-          (slice-relend-prefix-format-rows sized) (slice-relend-prefix-format-rows-2 lent)
-          r.auto.memory.0 r.auto.memory.1.0 r.ensures),
-      record { memory-within = omega (arith, within, words); cache-within = omega (arith, within, words); text-within = (start sized).requires.0.text-within },
-    )
+    let a = (start c).args in
+    let within = bound c in
+    let words = c.row_words-words.ensures in record { by_index = (λ text. format-up a.lines a.workers c.row_words-words.result a.session.state r.result (desk_of a.session a.memory.now a.cache.now text)
+          a.memory.now a.cache.now r.new.memory r.new.memory.1.0 words (inside c) refl
+          (slice-relend-prefix-format-rows c) (slice-relend-prefix-format-rows-2 c)
+          r.auto.memory r.auto.memory.1.0 r.ensures); within_2 = record { memory-within = omega (arith, within, words); cache-within = omega (arith, within, words); text-within = (start c).requires.0.text-within } }

@@ -12,11 +12,7 @@ pub returns : goal.returns
 unfolding repeated
 returns c =
     let p = c.repeat-r in
-    let start = c in
-    let a = start.args in
-    let s = a.session in (
-      (λ text. made s.memory s.cache a.memory.now a.cache.now p.new.state.1.0 p.new.state.1.1.0
-          start.requires.memory-fits start.requires.cache-fits p.auto.state.1.0 p.auto.state.1.1.0
-          a.call s.state p.result.state p.result.number p.result.value (take s.text text) p.ensures),
-      (refl, refl, refl),
-    )
+    let a = c.args in
+    let s = a.session in record { by_index = (λ text. made s.memory s.cache a.memory.now a.cache.now p.new.state.1.0 p.new.state.1.1.0
+          c.requires.memory-fits c.requires.cache-fits p.auto.state.1.0 p.auto.state.1.1.0
+          a.call s.state p.result.state p.result.number p.result.value (take s.text text) p.ensures); memory_value = (refl, refl, refl) }

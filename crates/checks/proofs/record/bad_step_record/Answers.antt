@@ -6,7 +6,5 @@ use Rattle.checks.proofs.record.bad_step_record.Goals as goal
 
 pub returns-then-is_running-unready : goal.returns-then-is_running-unready
 returns-then-is_running-unready c =
-    let on = c in
-    let start = on in
     rw (c.bad_head.ensures, c.head_of.ensures)
-    (head-told start.args.state ∙ ready-record start.args.state on.is_running.ensures start.requires on.if-is_running-unready.true)
+    (head-told c.args.state ∙ ready-record c.args.state c.is_running.ensures c.requires c.if-is_running-unready.true)

@@ -35,17 +35,12 @@ stepping s t = and_right (is_running s.phase) s.requested t
 
 pub returns-then-checkpointing-epoch_spent : goal.returns-then-checkpointing-epoch_spent
 returns-then-checkpointing-epoch_spent c m =
-    let on = c in
-    let spent = on in
-    let checked = spent in
-    let given = checked.args in
+    let given = c.args in
     let state = given.state in
-    let steps = checked.checkpointing.ensures in
-    let requested = stepping state (sym steps ∙ and_left _ _ on.if-checkpointing-epoch_spent.true) in
-    rw (c.size.ensures, ← epoch-next (lent state m given.cache.now) requested) (between _ _ _ steps (spent.epoch_spent.ensures state m) on.if-checkpointing-epoch_spent.true)
+    let steps = c.checkpointing.ensures in
+    let requested = stepping state (sym steps ∙ and_left _ _ c.if-checkpointing-epoch_spent.true) in
+    rw (c.size.ensures, ← epoch-next (lent state m given.cache.now) requested) (between _ _ _ steps (c.epoch_spent.ensures state m) c.if-checkpointing-epoch_spent.true)
 
 pub returns-else-checkpointing-epoch_spent : goal.returns-else-checkpointing-epoch_spent
 returns-else-checkpointing-epoch_spent c m =
-    let spent = c in
-    let checked = spent in
-    not-both _ _ _ checked.checkpointing.ensures (spent.epoch_spent.ensures checked.args.state m) c.if-checkpointing-epoch_spent.false
+    not-both _ _ _ c.checkpointing.ensures (c.epoch_spent.ensures c.args.state m) c.if-checkpointing-epoch_spent.false

@@ -36,7 +36,7 @@ returns-in-7 c = rw (c.condition_in-in-7.ensures, c.in-7.is)
 pub returns-in_default : goal.returns-in_default
 returns-in_default c =
     let eight : length c.args.state.worker ≡ 8 = search (rules, length-unmade) in
-    let none = c.in_default.rest in
+    let none = c.in_default.in_default-own.rest in
     let four : 4 ≤ c.args.worker = omega (arith, none.0.0.0.0) in
     let past : length c.args.state.worker ≤ c.args.worker = omega (arith, four, none.0.0.0.1, none.0.0.1, none.0.1, none.1) in
     ap (λ (w : Worker). w.condition) (sym (get_or-eq_default c.args.state.worker free_worker past))

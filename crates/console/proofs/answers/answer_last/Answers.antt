@@ -5,15 +5,10 @@ use Rattle.console.proofs.answers.answer_last.Goals as goal
 
 pub returns-then-progress-eq0 : goal.returns-then-progress-eq0
 returns-then-progress-eq0 c =
-    let start = c in
-    let a = start.args in
-    (none_last a.program a.progress a.memory.now a.cache.now a.text.now a.line.now c.if-progress-eq0.true, (start.requires.0, omega arith))
+    let a = c.args in
+    record { finishes = none_last a.program a.progress a.memory.now a.cache.now a.text.now a.line.now c.if-progress-eq0.true; ready = (c.requires.0, omega arith) }
 
 pub returns : goal.returns
 returns c =
-    let start = c in
-    let a = start.args in
-    let r = c.answer-r in (
-      line-last a.program a.progress a.memory.now a.cache.now a.text.now a.line.now start.requires.0 start.requires.1 c.if-progress-eq0.false r.ensures.fed r.ensures.stops.0,
-      (r.ensures.stops.1, r.ensures.stops.0.written-within),
-    )
+    let a = c.args in
+    let r = c.answer-r in record { finishes = line-last a.program a.progress a.memory.now a.cache.now a.text.now a.line.now c.requires.0 c.requires.1 c.if-progress-eq0.false r.ensures.fed r.ensures.stops.0; ready = (r.ensures.stops.1, r.ensures.stops.0.written-within) }

@@ -17,23 +17,16 @@ put_byte-requires c =
 pub returns : goal.returns
 unfolding header_line
 returns c =
-    let c6 = c in
-    let c5 = c6 in
-    let c4 = c5 in
-    let c3 = c4 in
-    let c2 = c3 in
-    let c1 = c2 in
-    let c0 = c1 in
-    let room = c0.requires.1 in
-    let ends0 = c0.put_words-a.ensures.ends in
-    let ends1 = c1.put_number-b.ensures.1 in
-    let ends2 = c2.put_words-c.ensures.ends in
-    let ends3 = c3.put_number-d.ensures.1 in
-    let ends4 = c4.put_words-e.ensures.ends in
-    let ends5 = c5.put_number-f.ensures.1 in
-    let t1 = and_then c0.put_words-a.ensures c1.put_number-b.ensures.0 (omega (arith, room, ends0)) in
-    let t2 = and_then t1 c2.put_words-c.ensures (omega (arith, room, ends0, ends1)) in
-    let t3 = and_then t2 c3.put_number-d.ensures.0 (omega (arith, room, ends0, ends1, ends2)) in
-    let t4 = and_then t3 c4.put_words-e.ensures (omega (arith, room, ends0, ends1, ends2, ends3)) in
-    let t5 = and_then t4 c5.put_number-f.ensures.0 (omega (arith, room, ends0, ends1, ends2, ends3, ends4)) in
-    (and_then t5 c6.put_byte.ensures (omega (arith, room, ends0, ends1, ends2, ends3, ends4, ends5)), omega (arith, ends0, ends1, ends2, ends3, ends4, ends5, c6.put_byte.ensures.ends))
+    let room = c.requires.1 in
+    let ends0 = c.put_words-a.ensures.ends in
+    let ends1 = c.put_number-b.ensures.1 in
+    let ends2 = c.put_words-c.ensures.ends in
+    let ends3 = c.put_number-d.ensures.1 in
+    let ends4 = c.put_words-e.ensures.ends in
+    let ends5 = c.put_number-f.ensures.1 in
+    let t1 = and_then c.put_words-a.ensures c.put_number-b.ensures.0 (omega (arith, room, ends0)) in
+    let t2 = and_then t1 c.put_words-c.ensures (omega (arith, room, ends0, ends1)) in
+    let t3 = and_then t2 c.put_number-d.ensures.0 (omega (arith, room, ends0, ends1, ends2)) in
+    let t4 = and_then t3 c.put_words-e.ensures (omega (arith, room, ends0, ends1, ends2, ends3)) in
+    let t5 = and_then t4 c.put_number-f.ensures.0 (omega (arith, room, ends0, ends1, ends2, ends3, ends4)) in
+    (and_then t5 c.put_byte.ensures (omega (arith, room, ends0, ends1, ends2, ends3, ends4, ends5)), omega (arith, ends0, ends1, ends2, ends3, ends4, ends5, c.put_byte.ensures.ends))

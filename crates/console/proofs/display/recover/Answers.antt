@@ -7,10 +7,9 @@ pub returns-then-begun-ne0 : goal.returns-then-begun-ne0
 returns-then-begun-ne0 c =
     let r = c.recovery_start-begun in
     let off = c.off in
-    let start = c in
-    let a = start.args in
+    let a = c.args in
     record {
-      told = start-told a.memory.now a.cache.now r.new.memory.1.0 off.result r.result.state r.result.number 0 off.ensures start.requires r.ensures;
+      told = start-told a.memory.now a.cache.now r.new.memory.1.0 off.result r.result.state r.result.number 0 off.ensures c.requires r.ensures;
       leaves = λ z. absurd (c.if-begun-ne0.true z);
     }
 
@@ -20,10 +19,9 @@ returns c =
     let none = c.if-begun-ne0.false in
     let r = c.recovery_start-begun in
     let off = c.off in
-    let start = c in
-    let a = start.args in
-    let from = start-told a.memory.now a.cache.now r.new.memory.1.0 off.result r.result.state r.result.number 0 off.ensures start.requires r.ensures in
+    let a = c.args in
+    let from = start-told a.memory.now a.cache.now r.new.memory.1.0 off.result r.result.state r.result.number 0 off.ensures c.requires r.ensures in
     record {
       told = omega (arith, from, none);
-      leaves = λ z. steps-recover a.memory.now a.cache.now r.new.memory.1.0 off.result r.result.state r.result.number 0 off.ensures start.requires r.ensures _ none (search rules) steps.ensures;
+      leaves = λ z. steps-recover a.memory.now a.cache.now r.new.memory.1.0 off.result r.result.state r.result.number 0 off.ensures c.requires r.ensures _ none (search rules) steps.ensures;
     }

@@ -13,20 +13,15 @@ returns-then-number-ne0 c =
     let told = c.refused.ensures in
     let read = c.read-number in
     let words = c.words_for-words in
-    let start = c in
-    let a = start.args in (
-      refused-shown _ _ told
-          ∙ text-down a.text.now a.memory.now read.new.row words.result read.result start.requires.0 words.ensures.1 words.ensures.0 read.ensures c.if-number-ne0.true,
-      (omega (arith, told.1), omega (arith, told.2)),
-    )
+    let a = c.args in record { shows = refused-shown _ _ told
+          ∙ text-down a.text.now a.memory.now read.new.row words.result read.result c.requires.0 words.ensures.1 words.ensures.0 read.ensures c.if-number-ne0.true; within = (omega (arith, told.1), omega (arith, told.2)) }
 
 pub slice_bounds-show_memory-end : goal.slice_bounds-show_memory-end
 slice_bounds-show_memory-end c =
     let read = c.read-number in
     let words = c.words_for-words in
-    let start = c in
-    let full = zeros-length _ start.requires.0 in
-    omega (arith, words.ensures.1, full, back-size words.result start.args.memory.now read.new.row (omega (arith, words.ensures.1, full)) read.auto.row.0)
+    let full = zeros-length _ c.requires.0 in
+    omega (arith, words.ensures.1, full, back-size words.result c.args.memory.now read.new.row (omega (arith, words.ensures.1, full)) read.auto.row)
 
 pub slice_bounds-show_memory-end-3 : goal.slice_bounds-show_memory-end-3
 slice_bounds-show_memory-end-3 c = omega (arith, c.words_for-words.ensures.1, zeros-length _ c.requires.1)
@@ -35,15 +30,13 @@ pub show_memory-requires : goal.show_memory-requires
 show_memory-requires c =
     let read = c.read-number in
     let words = c.words_for-words in
-    let start = c in
-    let a = start.args in
-    (cache-zeros a.text.now a.memory.now read.new.row words.result read.result start.requires.0 words.ensures.1 words.ensures.0 read.ensures a.cache.now start.requires.1 read.auto.row.0, start.requires.2)
+    let a = c.args in
+    (cache-zeros a.text.now a.memory.now read.new.row words.result read.result c.requires.0 words.ensures.1 words.ensures.0 read.ensures a.cache.now c.requires.1 read.auto.row, c.requires.2)
 
 pub returns : goal.returns
 returns c =
     let shown = c.show_memory in
     let read = c.read-number in
     let words = c.words_for-words in
-    let start = c in
-    let a = start.args in
-    (shown.ensures.shows ∙ text-up a.text.now a.memory.now read.new.row words.result read.result start.requires.0 words.ensures.1 words.ensures.0 read.ensures read.auto.row.0 c.if-number-ne0.false, shown.ensures.within)
+    let a = c.args in
+    record { shows = shown.ensures.shows ∙ text-up a.text.now a.memory.now read.new.row words.result read.result c.requires.0 words.ensures.1 words.ensures.0 read.ensures read.auto.row c.if-number-ne0.false; within = shown.ensures.within }

@@ -12,14 +12,13 @@ returns-then-answer-ne0 c =
     let told = c.refused.ensures in
     let r = c.recover-answer in
     let a = c.args in
-    (refused-shown _ _ told ∙ memory-down a.memory.now r.result.number r.ensures.told c.if-answer-ne0.true, (omega (arith, told.1), omega (arith, told.2)))
+    record { shows = refused-shown _ _ told ∙ memory-down a.memory.now r.result.number r.ensures.told c.if-answer-ne0.true; within = (omega (arith, told.1), omega (arith, told.2)) }
 
 pub print-page-requires : goal.print-page-requires
 print-page-requires c =
     let r = c.recover-answer in
-    let start = c in
-    let cache = ap length start.requires.0 ∙ length-replicate {A = ℕ} (length start.args.memory.now) 0 in
-    record { memory-fits = omega (arith, r.auto.memory); cache-fits = omega (arith, r.auto.cache.0, cache) }
+    let cache = ap length c.requires.0 ∙ length-replicate {A = ℕ} (length c.args.memory.now) 0 in
+    record { memory-fits = omega (arith, r.auto.memory); cache-fits = omega (arith, r.auto.cache, cache) }
 
 pub returns-then-page-ne0 : goal.returns-then-page-ne0
 returns-then-page-ne0 c =
@@ -27,22 +26,17 @@ returns-then-page-ne0 c =
     let page = c.print-page in
     let none = c.if-answer-ne0.false in
     let r = c.recover-answer in
-    let start = c in
-    let memory = start.args.memory.now in
-    let cache = ap length start.requires.0 ∙ length-replicate {A = ℕ} (length memory) 0 in
-    let board = whole-rows r.result.state (length memory) r.new.memory r.new.cache r.auto.memory (r.auto.cache.0 ∙ cache) ∙ r.ensures.leaves none in
-    let printed = page.ensures.prints ∙ ap (λ (b : Board). printed_of b) board in (
-      refused-shown _ _ told
+    let memory = c.args.memory.now in
+    let cache = ap length c.requires.0 ∙ length-replicate {A = ℕ} (length memory) 0 in
+    let board = whole-rows r.result.state (length memory) r.new.memory r.new.cache r.auto.memory (r.auto.cache ∙ cache) ∙ r.ensures.leaves none in
+    let printed = page.ensures.prints ∙ ap (λ (b : Board). printed_of b) board in record { shows = refused-shown _ _ told
           ∙ page-down (recovered (unrecovered memory)) page.result.number _ printed c.if-page-ne0.true
-          ∙ memory-up memory r.result.number r.ensures.told none,
-      (omega (arith, told.1), omega (arith, told.2)),
-    )
+          ∙ memory-up memory r.result.number r.ensures.told none; within = (omega (arith, told.1), omega (arith, told.2)) }
 
 pub put_heading-requires : goal.put_heading-requires
 put_heading-requires c =
     let r = c.recover-answer in
-    let start = c in
-    (omega (arith, start-length start.args.memory.now (sym r.ensures.told ∙ c.if-answer-ne0.false), r.auto.memory), omega (arith, start.requires.1))
+    (omega (arith, start-length c.args.memory.now (sym r.ensures.told ∙ c.if-answer-ne0.false), r.auto.memory), omega (arith, c.requires.1))
 
 pub returns : goal.returns
 returns c =
@@ -50,14 +44,10 @@ returns c =
     let page = c.print-page in
     let none = c.if-answer-ne0.false in
     let r = c.recover-answer in
-    let start = c in
-    let memory = start.args.memory.now in
-    let cache = ap length start.requires.0 ∙ length-replicate {A = ℕ} (length memory) 0 in
+    let memory = c.args.memory.now in
+    let cache = ap length c.requires.0 ∙ length-replicate {A = ℕ} (length memory) 0 in
     let left = r.ensures.leaves none in
-    let board = whole-rows r.result.state (length memory) r.new.memory r.new.cache r.auto.memory (r.auto.cache.0 ∙ cache) ∙ left in
+    let board = whole-rows r.result.state (length memory) r.new.memory r.new.cache r.auto.memory (r.auto.cache ∙ cache) ∙ left in
     let printed = page.ensures.prints ∙ ap (λ (b : Board). printed_of b) board in
-    let line = line-front put.ensures.0 put.ensures.1 start.requires.1 ∙ ap (λ (b : Board). header_line b.memory) left in (
-      page-up (recovered (unrecovered memory)) page.result.number _ printed _ c.if-page-ne0.false line
-          ∙ memory-up memory r.result.number r.ensures.told none,
-      (put.ensures.1, page.ensures.within),
-    )
+    let line = line-front put.ensures.0 put.ensures.1 c.requires.1 ∙ ap (λ (b : Board). header_line b.memory) left in record { shows = page-up (recovered (unrecovered memory)) page.result.number _ printed _ c.if-page-ne0.false line
+          ∙ memory-up memory r.result.number r.ensures.told none; within = (put.ensures.1, page.ensures.within) }

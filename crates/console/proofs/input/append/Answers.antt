@@ -13,7 +13,4 @@ pub returns : goal.returns
 returns c =
     let a = c.args in
     let copied = c.copy in
-    let size = length-take-le a.n a.text.now (omega arith) in (
-      ap (λ (k : ℕ). a.used + k) (copied.ensures.0 ∙ size),
-      appended a.out.now a.used (take a.n a.text.now) copied.new.1.0 (omega (arith, size)) copied.ensures.1,
-    )
+    let size = length-take-le a.n a.text.now (omega arith) in record { value = ap (λ (k : ℕ). a.used + k) (copied.ensures.0 ∙ size); out_after = appended a.out.now a.used (take a.n a.text.now) copied.new.1.0 (omega (arith, size)) copied.ensures.1 }

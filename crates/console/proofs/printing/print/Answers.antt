@@ -9,7 +9,7 @@ pub returns-then-number-ne0 : goal.returns-then-number-ne0
 returns-then-number-ne0 c =
     let a = c.args in
     let page = c.put_page-number in
-    (refused-printed (board_of a.session a.memory.now a.cache.now) a.row.now page.new.memory.1.1.0 page.result (search rules) page.ensures c.if-number-ne0.true, omega arith)
+    record { prints = refused-printed (board_of a.session a.memory.now a.cache.now) a.row.now page.new.memory.1.1.0 page.result (search rules) page.ensures c.if-number-ne0.true; within = omega arith }
 
 pub returns : goal.returns
 returns c =

@@ -9,7 +9,7 @@ pub returns-then-number-ne0 : goal.returns-then-number-ne0
 returns-then-number-ne0 c =
     let a = c.args in
     let write = c.write-number in
-    (refused-hex (take a.session.memory a.memory.now) a.row.now write.new.text write.result (search rules) write.ensures c.if-number-ne0.true, omega arith)
+    record { prints = refused-hex (take a.session.memory a.memory.now) a.row.now write.new.text write.result (search rules) write.ensures c.if-number-ne0.true; within = omega arith }
 
 -- A memory that is written has at most 4,096 words.
 few : (c : tie.Else1) → c.before.before.before.before.before.args.session.memory ≤ 4096
@@ -28,10 +28,9 @@ overflow_add-result c = omega (arith, few c)
 
 pub returns : goal.returns
 returns c =
-    let start = c in
-    let a = start.args in
+    let a = c.args in
     let write = c.write-number in
     let words = a.session.memory in
     let part = take words a.memory.now in
-    let bytes : 22 * words + 12 ≡ 22 * length part + 12 = ap (λ (n : ℕ). 22 * n + 12) (part-size words a.memory.now start.requires) in
+    let bytes : 22 * words + 12 ≡ 22 * length part + 12 = ap (λ (n : ℕ). 22 * n + 12) (part-size words a.memory.now c.requires) in
     taken-hex part a.row.now write.new.text write.result (search rules) write.ensures (22 * words + 12) c.if-number-ne0.false bytes (hex-holds.room part)

@@ -21,28 +21,19 @@ resize-requires c =
 
 pub resize-requires-then-has_room : goal.resize-requires-then-has_room
 resize-requires-then-has_room c =
-    let t = c in
-    let s = start t in
-    let fits = room-bounds s.args.m s.args.c (room t) in
+    let s = start c in
+    let fits = room-bounds s.args.m s.args.c (room c) in
     (omega (arith, s.pre.0.cache-within, s.pre.1.cache-room), omega (arith, s.pre.1.cache-room))
 
 pub returns-then-has_room : goal.returns-then-has_room
 returns-then-has_room c =
     let m' = c.resize in
     let c' = c.resize-then-has_room in
-    let t = c in
-    let a = (start t).args in
-    let fits = room-bounds a.m a.c (room t) in (
-      by_parts m'.new.row c'.new.row c.shown.ensures
-          ∙ lengths-put a.state a.sizes a.memory.now a.cache.now a.m a.c m'.new.row c'.new.row (room t) m'.ensures c'.ensures,
-      kept-within c.shown.ensures.1 (record { memory-within = fits.0; cache-within = fits.1 }),
-    )
+    let a = (start c).args in
+    let fits = room-bounds a.m a.c (room c) in record { cache_after = by_parts m'.new.row c'.new.row c.shown.ensures
+          ∙ lengths-put a.state a.sizes a.memory.now a.cache.now a.m a.c m'.new.row c'.new.row (room c) m'.ensures c'.ensures; sizes_within = kept-within c.shown.ensures.1 (record { memory-within = fits.0; cache-within = fits.1 }) }
 
 pub returns : goal.returns
 returns c =
-    let s = c in
-    let a = s.args in (
-      by_parts a.memory.now a.cache.now c.shown-2.ensures
-          ∙ lengths-off a.state a.sizes a.memory.now a.cache.now a.m a.c (sym c.has_room.ensures ∙ c.if-has_room.false),
-      kept-within c.shown-2.ensures.1 s.requires.0,
-    )
+    let a = c.args in record { cache_after = by_parts a.memory.now a.cache.now c.shown-2.ensures
+          ∙ lengths-off a.state a.sizes a.memory.now a.cache.now a.m a.c (sym c.has_room.ensures ∙ c.if-has_room.false); sizes_within = kept-within c.shown-2.ensures.1 c.requires.0 }

@@ -15,7 +15,6 @@ returns-then-holder-gt8 c =
 
 pub returns : goal.returns
 returns c =
-    let h = c in
-    let a = h.args in
-    let on = and_both _ _ (lt-ltb _ _ h.if-lock-ge16.false) (le-leb _ _ h.if-holder-gt8.false) in
-    (sym on, ap (locked a.state) h.with_holder-holders.ensures ∙ sym (chosen _ _ _ on))
+    let a = c.args in
+    let on = and_both _ _ (lt-ltb _ _ c.if-lock-ge16.false) (le-leb _ _ c.if-holder-gt8.false) in
+    (sym on, ap (locked a.state) c.with_holder-holders.ensures ∙ sym (chosen _ _ _ on))

@@ -6,15 +6,15 @@ use Rattle.damage.proofs.record.with_field.Goals as goal
 
 pub overflow_cast-result : goal.overflow_cast-result
 unfolding field_fits
-overflow_cast-result c = let s = c in omega (arith, field_bound s.args.field 1 s.args.number 65535 c.in-1.is s.requires refl)
+overflow_cast-result c = omega (arith, field_bound c.args.field 1 c.args.number 65535 c.in-1.is c.requires refl)
 
 pub overflow_cast-result-in-2 : goal.overflow_cast-result-in-2
 unfolding field_fits
-overflow_cast-result-in-2 c = let s = c in omega (arith, field_bound s.args.field 2 s.args.number 255 c.in-2.is s.requires refl)
+overflow_cast-result-in-2 c = omega (arith, field_bound c.args.field 2 c.args.number 255 c.in-2.is c.requires refl)
 
 pub overflow_cast-result-in-4 : goal.overflow_cast-result-in-4
 unfolding field_fits
-overflow_cast-result-in-4 c = let s = c in omega (arith, field_bound s.args.field 4 s.args.number 65535 c.in-4.is s.requires refl)
+overflow_cast-result-in-4 c = omega (arith, field_bound c.args.field 4 c.args.number 65535 c.in-4.is c.requires refl)
 
 pub returns-in-0 : goal.returns-in-0
 unfolding with_field
@@ -42,4 +42,4 @@ returns-in-6 c = rw c.in-6.is
 
 pub returns-in_default : goal.returns-in_default
 unfolding with_field
-returns-in_default c = simp (ne_eqb _ _ c.in_default.rest.0.0.0.0.0.1, ne_eqb _ _ c.in_default.rest.0.0.0.0.1, ne_eqb _ _ c.in_default.rest.0.0.0.1, ne_eqb _ _ c.in_default.rest.0.0.1, ne_eqb _ _ c.in_default.rest.0.1, ne_eqb _ _ c.in_default.rest.1)
+returns-in_default c = simp (ne_eqb _ _ c.in_default.in_default-own.rest.0.0.0.0.0.1, ne_eqb _ _ c.in_default.in_default-own.rest.0.0.0.0.1, ne_eqb _ _ c.in_default.in_default-own.rest.0.0.0.1, ne_eqb _ _ c.in_default.in_default-own.rest.0.0.1, ne_eqb _ _ c.in_default.in_default-own.rest.0.1, ne_eqb _ _ c.in_default.in_default-own.rest.1)

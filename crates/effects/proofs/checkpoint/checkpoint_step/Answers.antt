@@ -6,8 +6,7 @@ use Rattle.effects.proofs.checkpoint.checkpoint_step.Goals as goal
 
 pub write_back-requires : goal.write_back-requires
 write_back-requires c =
-    let counted = c in
-    dirty-in _ _ _ counted.requires counted.ranked-next.ensures.0 c.if-place-n.true counted.ranked-next.ensures.1
+    dirty-in _ _ _ c.requires c.ranked-next.ensures.0 c.if-place-n.true c.ranked-next.ensures.1
 
 pub returns-then-place-n : goal.returns-then-place-n
 returns-then-place-n c = search (rules, writes-dirty)

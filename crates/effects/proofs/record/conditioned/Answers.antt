@@ -28,7 +28,7 @@ returns-in-6 c = rw (c.rebuilt-condition.ensures, c.in-6.is)
 
 pub returns-in_default : goal.returns-in_default
 returns-in_default c =
-    let none = c.in_default.rest in
+    let none = c.in_default.in_default-own.rest in
     let four : 4 ≤ c.args.worker = omega (arith, none.0.0.0) in
     let last : c.args.worker ≡ 7 = omega (arith, c.requires, four, none.0.0.1, none.0.1, none.1) in
     rw (c.rebuilt-condition.ensures, last)

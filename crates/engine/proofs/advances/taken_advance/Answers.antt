@@ -21,8 +21,7 @@ returns-in-Waiting c = in-condition _ _ _ _ (sym c.condition_of-condition.ensure
 pub returns-in-Updating : goal.returns-in-Updating
 unfolding advance_of
 returns-in-Updating c =
-    let called = c in
-    in-condition _ _ _ _ (sym called.condition_of-condition.ensures ∙ called.in-Updating.is) (called.store_next.ensures _)
+    in-condition _ _ _ _ (sym c.condition_of-condition.ensures ∙ c.in-Updating.is) (c.store_next.ensures _)
 
 pub returns-in-Away : goal.returns-in-Away
 unfolding advance_of

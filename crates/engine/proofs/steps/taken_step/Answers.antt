@@ -23,17 +23,14 @@ returns-in-Off c = in-phase _ _ _ c.in-Off.is (same-board c.placed.ensures refl 
 pub returns-in-Formatting : goal.returns-in-Formatting
 unfolding step
 returns-in-Formatting c =
-    let called = c in
-    in-phase _ _ _ called.in-Formatting.is called.format_step.ensures
+    in-phase _ _ _ c.in-Formatting.is c.format_step.ensures
 
 pub returns-in-Recovering : goal.returns-in-Recovering
 unfolding step
 returns-in-Recovering c =
-    let called = c in
-    in-phase _ _ _ called.in-Recovering.is called.recovery_step.ensures
+    in-phase _ _ _ c.in-Recovering.is c.recovery_step.ensures
 
 pub returns-in-Running : goal.returns-in-Running
 unfolding step
 returns-in-Running c =
-    let called = c in
-    in-phase _ _ _ called.in-Running.is called.checkpoint_step.ensures
+    in-phase _ _ _ c.in-Running.is c.checkpoint_step.ensures

@@ -16,25 +16,21 @@ use Rattle.intel_hex.proofs.reading.has_record.Goals as goal
 
 pub returns-then-count-text : goal.returns-then-count-text
 returns-then-count-text c =
-    let s = c in
-    no_room s.args.text.now s.requires.2 c.if-count-text.true
+    no_room c.args.text.now c.requires.2 c.if-count-text.true
 
 pub bounds-text-end : goal.bounds-text-end
 bounds-text-end c =
-    let s = c in
-    (some-room s.args.text.now c.if-count-text.false).1
+    (some-room c.args.text.now c.if-count-text.false).1
 
 pub returns-then-text-end : goal.returns-then-text-end
 returns-then-text-end c =
-    let s = c in
-    no-frame s.args.text.now s.requires.2 c.if-text-end.true
+    no-frame c.args.text.now c.requires.2 c.if-text-end.true
 
 pub sum-all-requires : goal.sum-all-requires
 sum-all-requires c =
-    let s = c in
-    let t = s.args.text.now in
-    let room = some-room t {count = s.args.count} c.if-count-text.false in
-    (s.requires.0, omega (arith, ap length (tail 1 t), length-drop 1 t, room), omega (arith, room))
+    let t = c.args.text.now in
+    let room = some-room t {count = c.args.count} c.if-count-text.false in
+    (c.requires.0, omega (arith, ap length (tail 1 t), length-drop 1 t, room), omega (arith, room))
 
 -- Where all are bytes, the sum is theirs; else neither test holds.
 both : {bytes : List ℕ} {sum : ℕ} {good : Bool} → Totals bytes sum good → good && eqb (sum % 256) 0 ≡ all_bytes bytes && eqb (sum_of bytes % 256) 0
@@ -45,9 +41,8 @@ both {bytes} {sum} {good} t =
 
 pub returns : goal.returns
 returns c =
-    let s = c in
-    let t = s.args.text.now in
+    let t = c.args.text.now in
     let sum = c.sum-all in
-    let all = ap (bytes_in (s.args.count + 5)) (tail 1 t) ∙ ap (λ (n : ℕ). bytes_in (n + 5) (drop 1 t)) s.requires.2 in
+    let all = ap (bytes_in (c.args.count + 5)) (tail 1 t) ∙ ap (λ (n : ℕ). bytes_in (n + 5) (drop 1 t)) c.requires.2 in
     both sum.ensures ∙ ap (λ (l : List ℕ). all_bytes l && eqb (sum_of l % 256) 0) all
-    ∙ frame t s.requires.2 c.if-text-end.false
+    ∙ frame t c.requires.2 c.if-text-end.false

@@ -49,9 +49,8 @@ loop-n-smaller c = omega (arith, ends c)
 
 pub loop-n-preserved : goal.loop-n-preserved
 loop-n-preserved c =
-    let l = c in
-    let some = some_next l.loop-n.n c.loop-n-test.true in
-    measuring-more l.loop-n.invariant some.0 some.1 (c.front-n-in-loop-n.ensures ∙ ap (front_of (l.loop-n.address + l.loop-n.n)) (tail (l.loop-n.at + (2 * l.loop-n.n + 12)) l.args.text.now))
+    let some = some_next c.loop-n.n c.loop-n-test.true in
+    measuring-more c.loop-n.invariant some.0 some.1 (c.front-n-in-loop-n.ensures ∙ ap (front_of (c.loop-n.address + c.loop-n.n)) (tail (c.loop-n.at + (2 * c.loop-n.n + 12)) c.args.text.now))
 
 pub returns-then-n-eq0 : goal.returns-then-n-eq0
 returns-then-n-eq0 c = measuring-ends (rw c.if-n-eq0.true at c.loop-n.invariant)

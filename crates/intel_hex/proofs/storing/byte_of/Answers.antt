@@ -16,10 +16,8 @@ digit-requires-2 c = (by_digits c.args.high c.args.low c.requires).1
 
 pub overflow_add-result : goal.overflow_add-result
 overflow_add-result c =
-    let s = c in
-    omega (arith, c.digit.ensures, c.digit-2.ensures, by_digits s.args.high s.args.low s.requires)
+    omega (arith, c.digit.ensures, c.digit-2.ensures, by_digits c.args.high c.args.low c.requires)
 
 pub returns : goal.returns
 returns c =
-    let s = c in
-    (λ i. 16 * c.digit.ensures i + c.digit-2.ensures i) ∙ sym (by_digits s.args.high s.args.low s.requires).2
+    (λ i. 16 * c.digit.ensures i + c.digit-2.ensures i) ∙ sym (by_digits c.args.high c.args.low c.requires).2

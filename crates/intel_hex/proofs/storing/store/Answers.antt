@@ -40,13 +40,12 @@ slice_bounds-store_part-end c = search rules
 
 pub store_part-requires : goal.store_part-requires
 store_part-requires c =
-    let i = c in
-    let l = i.loop-n in
-    let t = i.args.text.now in (
-      omega (arith, ap length (tail (l.at + 9) t), length-drop (l.at + 9) t, ends i),
-      subst (λ (u : List ℕ). all_bytes (bytes_in l.n u) ≡ true) (sym (tail (l.at + 9) t)) (storing-fits l.invariant i.loop-n-test.true).0,
-      fits i,
-      omega (arith, l.invariant.size, i.requires.1),
+    let l = c.loop-n in
+    let t = c.args.text.now in (
+      omega (arith, ap length (tail (l.at + 9) t), length-drop (l.at + 9) t, ends c),
+      subst (λ (u : List ℕ). all_bytes (bytes_in l.n u) ≡ true) (sym (tail (l.at + 9) t)) (storing-fits l.invariant c.loop-n-test.true).0,
+      fits c,
+      omega (arith, l.invariant.size, c.requires.1),
     )
 
 pub overflow_mul-at : goal.overflow_mul-at
@@ -90,11 +89,10 @@ shape_of-row c = c.loop-n.invariant.size
 
 pub returns : goal.returns
 returns c =
-    let s = c in
-    let t = s.args.text.now in
-    let r = s.args.row.now in
+    let t = c.args.text.now in
+    let r = c.args.row.now in
     let l = c.loop-n in
     let none : l.n ≡ 0 = omega arith in
     storing-ends (subst (λ (n : ℕ). Storing t r l.row l.at l.from n) none l.invariant)
-    ∙ words-stored (length r) r 0 (read_bytes (parsed t)) (omega arith) (ap (λ (p : Parsed). length (read_bytes p)) s.requires.0.parses ∙ s.requires.0.fills)
+    ∙ words-stored (length r) r 0 (read_bytes (parsed t)) (omega arith) (ap (λ (p : Parsed). length (read_bytes p)) c.requires.0.parses ∙ c.requires.0.fills)
     (λ i h. (c.slice_known-1.given i).fits)

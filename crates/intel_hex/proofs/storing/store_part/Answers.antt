@@ -20,18 +20,16 @@ eights from n e =
 
 pub store_words-requires : goal.store_words-requires
 store_words-requires c =
-    let s = c in
-    let w = eights s.args.from s.args.n c.if-from-n.true in
-    (omega (arith, s.requires), subst (λ (k : ℕ). all_bytes (bytes_in k s.args.text.now) ≡ true) (sym w.1) s.requires.1, omega (arith, s.requires), s.requires.3)
+    let w = eights c.args.from c.args.n c.if-from-n.true in
+    (omega (arith, c.requires), subst (λ (k : ℕ). all_bytes (bytes_in k c.args.text.now) ≡ true) (sym w.1) c.requires.1, omega (arith, c.requires), c.requires.3)
 
 pub store_bytes-requires : goal.store_bytes-requires
 store_bytes-requires c = c.requires
 
 pub returns-then-from-n : goal.returns-then-from-n
 returns-then-from-n c =
-    let s = c in
-    let w = eights s.args.from s.args.n c.if-from-n.true in
-    c.store_words_lem.ensures ∙ (λ i. stored s.args.row.now (w.0 i) (bytes_in (w.1 i) s.args.text.now))
+    let w = eights c.args.from c.args.n c.if-from-n.true in
+    c.store_words_lem.ensures ∙ (λ i. stored c.args.row.now (w.0 i) (bytes_in (w.1 i) c.args.text.now))
 
 pub returns-else-from-n : goal.returns-else-from-n
 returns-else-from-n c = c.store_bytes.ensures

@@ -27,12 +27,11 @@ slice_bounds-word_of-end c = search rules
 
 pub word_of-requires : goal.word_of-requires
 word_of-requires c =
-    let s = c in
-    let t = s.args.text.now in
+    let t = c.args.text.now in
     let i = c.loop-i.i in
     let two : 2 * (8 * i) ≡ 16 * i = omega arith in
-    let whole = all-part (8 * s.args.n) t s.requires.1 (8 * i) 8 (omega (arith, c.loop-i-test.true)) in (
-      omega (arith, ap length (tail (16 * i) t), length-drop (16 * i) t, s.requires.0, c.loop-i-test.true),
+    let whole = all-part (8 * c.args.n) t c.requires.1 (8 * i) 8 (omega (arith, c.loop-i-test.true)) in (
+      omega (arith, ap length (tail (16 * i) t), length-drop (16 * i) t, c.requires.0, c.loop-i-test.true),
       subst (λ (u : List ℕ). all_bytes (bytes_in 8 u) ≡ true) (ap (λ (k : ℕ). drop k t) two ∙ sym (tail (16 * i) t)) whole,
     )
 
@@ -54,9 +53,8 @@ loop-i-smaller c = omega (arith, c.loop-i-test.true)
 pub loop-i-preserved : goal.loop-i-preserved
 loop-i-preserved c =
     let l = c.loop-i in
-    let s = c in
-    words_more l.invariant c.loop-i-test.true s.requires.2 (c.slice_known-1.given (s.args.from + l.i)).fits
-    (c.word_of.ensures ∙ ap (λ (u : List ℕ). word_of (bytes_in 8 u)) (tail (16 * l.i) s.args.text.now))
+    words_more l.invariant c.loop-i-test.true c.requires.2 (c.slice_known-1.given (c.args.from + l.i)).fits
+    (c.word_of.ensures ∙ ap (λ (u : List ℕ). word_of (bytes_in 8 u)) (tail (16 * l.i) c.args.text.now))
 
 pub shape_of-row : goal.shape_of-row
 shape_of-row c = c.loop-i.invariant.size

@@ -23,10 +23,9 @@ half_of-requires c = (omega (arith, c.requires.0), low-bytes c.args.text.now c.r
 
 pub half_of-requires-2 : goal.half_of-requires-2
 half_of-requires-2 c =
-    let s = c in
-    let t = s.args.text.now in (
-      omega (arith, ap length (tail 8 t), length-drop 8 t, s.requires.0),
-      subst (λ (u : List ℕ). all_bytes (bytes_in 4 u) ≡ true) (sym (tail 8 t)) (high-bytes t s.requires.1),
+    let t = c.args.text.now in (
+      omega (arith, ap length (tail 8 t), length-drop 8 t, c.requires.0),
+      subst (λ (u : List ℕ). all_bytes (bytes_in 4 u) ≡ true) (sym (tail 8 t)) (high-bytes t c.requires.1),
     )
 
 -- What the second call answers.

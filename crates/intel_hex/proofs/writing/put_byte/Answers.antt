@@ -8,7 +8,5 @@ use Rattle.intel_hex.proofs.writing.put_byte.Goals as goal
 
 pub returns : goal.returns
 returns c =
-    let put = c in
-    let chars = put in
-    let byte = chars.args.byte in
-    written_as put.put_pair.ensures (byte-text byte chars.characters.result (omega arith) chars.characters.ensures) refl
+    let byte = c.args.byte in
+    written_as c.put_pair.ensures (byte-text byte c.characters.result (omega arith) c.characters.ensures) refl

@@ -10,15 +10,9 @@ use Rattle.intel_hex.proofs.writing.put_half.Goals as goal
 
 pub returns : goal.returns
 returns c =
-    let fourth = c in
-    let third = fourth in
-    let second = third in
-    let first = second in
-    let chars = first in
-    let spread = chars in
-    let a = spread.args in
-    let two = follows first.put_pair.ensures second.put_pair-2.ensures refl (omega arith) in
-    let three = follows two third.put_pair-3.ensures (omega arith) (omega arith) in
-    let four = follows three fourth.put_pair-4.ensures (omega arith) (omega arith) in
-    let pairs = subst (λ (n : ℕ). Paired n chars.characters-pairs.result) spread.spread.ensures chars.characters-pairs.ensures in
-    written_as four (half-text a.half chars.characters-pairs.result pairs) (omega arith)
+    let a = c.args in
+    let two = follows c.put_pair.ensures c.put_pair-2.ensures refl (omega arith) in
+    let three = follows two c.put_pair-3.ensures (omega arith) (omega arith) in
+    let four = follows three c.put_pair-4.ensures (omega arith) (omega arith) in
+    let pairs = subst (λ (n : ℕ). Paired n c.characters-pairs.result) c.spread.ensures c.characters-pairs.ensures in
+    written_as four (half-text a.half c.characters-pairs.result pairs) (omega arith)

@@ -23,24 +23,18 @@ put_byte-requires-3 c = omega (arith, kept c)
 
 pub put_byte-requires-4 : goal.put_byte-requires-4
 put_byte-requires-4 c =
-    let third = c in
-    omega (arith, kept third)
+    omega (arith, kept c)
 
 pub shape_of-text : goal.shape_of-text
 shape_of-text c =
-    let fourth = c in
-    omega (arith, kept fourth)
+    omega (arith, kept c)
 
 pub returns : goal.returns
 unfolding bytes_text
 returns c =
-    let fourth = c in
-    let third = fourth in
-    let second = third in
-    let first = second in
-    let a = first.args in
+    let a = c.args in
     let colon = byte_put a.text.now a.at ':' (omega arith) in
-    let count = follows colon first.put_byte.ensures refl (omega arith) in
-    let high = follows count second.put_byte-2.ensures (omega arith) (omega arith) in
-    let low = follows high third.put_byte-3.ensures (omega arith) (omega arith) in
-    written_as (follows low fourth.put_byte-4.ensures (omega arith) (omega arith)) refl (omega arith)
+    let count = follows colon c.put_byte.ensures refl (omega arith) in
+    let high = follows count c.put_byte-2.ensures (omega arith) (omega arith) in
+    let low = follows high c.put_byte-3.ensures (omega arith) (omega arith) in
+    written_as (follows low c.put_byte-4.ensures (omega arith) (omega arith)) refl (omega arith)

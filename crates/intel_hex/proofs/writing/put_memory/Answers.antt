@@ -35,14 +35,13 @@ put_record-requires c = omega (arith, good c)
 
 pub loop-i-preserved : goal.loop-i-preserved
 loop-i-preserved c =
-    let s = c in
     let l = c.loop-i in
     let p = c.put_record in
-    let g = good s in (
+    let g = good c in (
       omega arith,
       omega arith,
       p.auto.text ∙ l.invariant.2,
-      record-put l.text p.new.text s.args.memory.now l.i (omega arith) (omega arith) p.ensures.holds ∙ l.invariant.3,
+      record-put l.text p.new.text c.args.memory.now l.i (omega arith) (omega arith) p.ensures.holds ∙ l.invariant.3,
     )
 
 pub overflow_mul-i-2 : goal.overflow_mul-i-2
@@ -57,8 +56,7 @@ shape_of-text c = c.put_text.auto.out ∙ c.loop-i.invariant.2
 pub returns : goal.returns
 unfolding record_text bytes_text sum_of
 returns c =
-    let end = c in
-    let l = end.loop-i in
+    let l = c.loop-i in
     c.put_text.ensures
-    ∙ ap (put l.text (22 * l.i)) (sym (end-left end.args.memory.now l.i (omega arith)))
+    ∙ ap (put l.text (22 * l.i)) (sym (end-left c.args.memory.now l.i (omega arith)))
     ∙ l.invariant.3

@@ -10,9 +10,7 @@ use Rattle.intel_hex.proofs.writing.put_word.Goals as goal
 
 pub returns : goal.returns
 returns c =
-    let second = c in
-    let first = second in
-    let word = first.args.word in
-    let both = follows first.put_half.ensures second.put_half-2.ensures refl (omega arith) in
+    let word = c.args.word in
+    let both = follows c.put_half.ensures c.put_half-2.ensures refl (omega arith) in
     let text = ap bytes_text (eight-bytes word) ∙ digits_append (low_bytes 4 (word % 4294967296)) (low_bytes 4 (word / 4294967296)) in
     written_as both (sym text) (omega arith)

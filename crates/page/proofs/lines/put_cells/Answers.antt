@@ -9,11 +9,8 @@ use Rattle.text.specs.Writing.{put, Put}
 use Rattle.text.proofs.Writing.{put-none, and_then}
 use Rattle.board.specs.Page.{cell_text}
 use Rattle.page.proofs.Texts.{lines_more}
+use Rattle.page.proofs.lines.put_cells.Invariants.{lines_of}
 use Rattle.page.proofs.lines.put_cells.Goals as goal
-
--- The lines of some cells.
-abbrev lines_of : List ℕ → List ℕ → List ℕ
-lines_of cache cells = flatten (map (cell_text cache) cells)
 
 none : (row : List ℕ) → Put row 68 (flatten []) row 68
 unfolding flatten
@@ -24,9 +21,8 @@ loop-i-init c = (omega arith, refl, refl, none _)
 
 pub put_cell-end-requires : goal.put_cell-end-requires
 put_cell-end-requires c =
-    let start = c in
     let l = c.loop-i in
-    (start.requires.0 l.i (omega arith), omega (arith, start.requires.1, l.invariant.1, l.invariant.2))
+    (c.requires.0 l.i (omega arith), omega (arith, c.requires.1, l.invariant.1, l.invariant.2))
 
 pub loop-i-preserved : goal.loop-i-preserved
 loop-i-preserved c =

@@ -13,7 +13,7 @@ use Rattle.page.proofs.Texts.{lines_more}
 use Rattle.page.proofs.lines.put_cells.Given as goal
 
 -- The lines of some cells.
-abbrev lines_of : List ℕ → List ℕ → List ℕ
+abbrev pub lines_of : List ℕ → List ℕ → List ℕ
 lines_of cache cells = flatten (map (cell_text cache) cells)
 
 abbrev pub invariant-loop-i : goal.invariant-loop-i

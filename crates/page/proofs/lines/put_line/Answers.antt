@@ -21,13 +21,8 @@ put_digits-requires-4 c = (search rules, le_trans (word_width _ (search rules)) 
 
 pub returns : goal.returns
 returns c =
-    let d = c in
-    let d3 = d in
-    let d2 = d3 in
-    let d1 = d2 in
-    let blank = d1 in
-    let start = blank in (
-      line-put start.requires.1 (number-width 3 start.args.cell start.requires.0) (word_width _ (search rules)) (word_width _ (search rules)) (word_width _ (search rules))
-          blank.put_blank_line.ensures d1.put_digits.ensures d2.put_digits-2.ensures d3.put_digits-3.ensures d.put_digits-4.ensures,
+    (
+      line-put c.requires.1 (number-width 3 c.args.cell c.requires.0) (word_width _ (search rules)) (word_width _ (search rules)) (word_width _ (search rules))
+          c.put_blank_line.ensures c.put_digits.ensures c.put_digits-2.ensures c.put_digits-3.ensures c.put_digits-4.ensures,
       refl,
     )

@@ -8,19 +8,11 @@ use Rattle.script.proofs.answer.put_answer.Goals as goal
 pub returns : goal.returns
 unfolding answer_text
 returns c =
-    let c7 = c in
-    let c6 = c7 in
-    let c5 = c6 in
-    let c4 = c5 in
-    let c3 = c4 in
-    let c2 = c3 in
-    let c1 = c2 in
-    let c0 = c1 in
-    let t0 = c0.put_number-a.ensures.0 in
-    let t1 = and_then t0 c1.put_byte-b.ensures (omega arith) in
-    let t2 = and_then t1 c2.put_byte-c.ensures (omega arith) in
-    let t3 = and_then t2 c3.put_byte-d.ensures (omega arith) in
-    let t4 = and_then t3 c4.put_shown-e.ensures.0 (omega arith) in
-    let t5 = and_then t4 c5.put_byte-f.ensures (omega arith) in
-    let t6 = and_then t5 c6.put_shown-g.ensures.0 (omega arith) in
-    (and_then t6 c7.put_byte.ensures (omega arith), omega arith)
+    let t0 = c.put_number-a.ensures.0 in
+    let t1 = and_then t0 c.put_byte-b.ensures (omega arith) in
+    let t2 = and_then t1 c.put_byte-c.ensures (omega arith) in
+    let t3 = and_then t2 c.put_byte-d.ensures (omega arith) in
+    let t4 = and_then t3 c.put_shown-e.ensures.0 (omega arith) in
+    let t5 = and_then t4 c.put_byte-f.ensures (omega arith) in
+    let t6 = and_then t5 c.put_shown-g.ensures.0 (omega arith) in
+    (and_then t6 c.put_byte.ensures (omega arith), omega arith)

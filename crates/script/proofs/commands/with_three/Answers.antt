@@ -9,4 +9,4 @@ returns-in-85 c = rw c.in-85.is
 
 pub returns-in_default : goal.returns-in_default
 unfolding drilled
-returns-in_default c = simp (ne_eqb _ _ c.in_default.rest.1)
+returns-in_default c = simp (ne_eqb _ _ c.in_default.in_default-own.rest.1)

@@ -9,18 +9,16 @@ pub returns-in-Write : goal.returns-in-Write
 returns-in-Write c =
     let write = c.write.ensures in
     let told = c.in-Write.is in
-    ((λ cache. acted _ _ _ (ap line.Text told) (write.0 cache)), write.1)
+    record { by_index = (λ cache. acted _ _ _ (ap line.Text told) (write.0 cache)); within = write.1 }
 
 pub returns-in-Put : goal.returns-in-Put
 returns-in-Put c =
     let put = c.put.ensures in
     let told = c.in-Put.is in
-    let start = c in
-    ((λ cache. acted _ _ _ (ap line.Text told) (put.0 start.args.memory.now cache)), same-within put.1 (refl, refl, refl) start.requires.0)
+    record { by_index = (λ cache. acted _ _ _ (ap line.Text told) (put.0 c.args.memory.now cache)); within = same-within put.1 (refl, refl, refl) c.requires.0 }
 
 pub returns-in-Read : goal.returns-in-Read
 returns-in-Read c =
     let read = c.read.ensures in
     let told = c.in-Read.is in
-    let start = c in
-    ((λ cache. acted _ _ _ (ap line.Text told) (read.0 cache)), same-within read.1 (refl, refl, refl) start.requires.0)
+    record { by_index = (λ cache. acted _ _ _ (ap line.Text told) (read.0 cache)); within = same-within read.1 (refl, refl, refl) c.requires.0 }

@@ -11,25 +11,17 @@ use Rattle.session.proofs.texts.read.Goals as goal
 
 pub returns-then-bytes-session : goal.returns-then-bytes-session
 returns-then-bytes-session c =
-    let start = c in
-    let a = start.args in
+    let a = c.args in
     let text = a.text.now in
-    let told = c.unknown.ensures in (
-      (λ cache.
+    let told = c.unknown.ensures in record { by_index = (λ cache.
           by_parts a.memory.now cache text told
           ∙ read_off (desk_of a.session a.memory.now cache text) a.bytes
-          (omega (arith, length-take-le a.session.text text (omega (arith, start.requires.0.text-within, start.requires.1.text-room)), c.if-bytes-session.true))),
-      told.0,
-    )
+          (omega (arith, length-take-le a.session.text text (omega (arith, c.requires.0.text-within, c.requires.1.text-room)), c.if-bytes-session.true))); session_value = told.0 }
 
 pub returns : goal.returns
 returns c =
     let read = c.read-number in
-    let start = c in
-    let a = start.args in (
-      (λ cache.
+    let a = c.args in record { by_index = (λ cache.
           read-shown a.session a.memory.now cache a.text.now a.bytes read.result read.new.row
-          c.if-bytes-session.false (omega (arith, start.requires.0.text-within, start.requires.1.text-room))
-          (omega (arith, start.requires.0.memory-within, start.requires.1.memory-room)) read.auto.row.0 read.ensures),
-      refl,
-    )
+          c.if-bytes-session.false (omega (arith, c.requires.0.text-within, c.requires.1.text-room))
+          (omega (arith, c.requires.0.memory-within, c.requires.1.memory-room)) read.auto.row read.ensures); session_value = refl }

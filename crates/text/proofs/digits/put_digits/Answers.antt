@@ -18,61 +18,54 @@ room n end table high low fits = omega (arith, twenty n (omega (arith, last-powe
 
 pub overflow_sub-out : goal.overflow_sub-out
 overflow_sub-out c =
-    let s = c in
-    room s.args.n s.args.end s.requires.0 c.if-n-powers.true (search rules) s.requires.1
+    room c.args.n c.args.end c.requires.0 c.if-n-powers.true (search rules) c.requires.1
 
 pub bounds-out-end : goal.bounds-out-end
 bounds-out-end c =
-    let s = c in
-    omega (arith, s.requires.2, room s.args.n s.args.end s.requires.0 c.if-n-powers.true (search rules) s.requires.1)
+    omega (arith, c.requires.2, room c.args.n c.args.end c.requires.0 c.if-n-powers.true (search rules) c.requires.1)
 
 pub put_places-requires : goal.put_places-requires
 put_places-requires c =
-    let s = c in
-    let a = s.args in
+    let a = c.args in
     let low : a.n < 2 ^ 64 = search rules in (
-      s.requires.0,
+      c.requires.0,
       omega arith,
       omega arith,
-      omega (arith, last-power s.requires.0),
-      omega (arith, room a.n a.end s.requires.0 c.if-n-powers.true low s.requires.1),
-      omega (arith, s.requires.2, length-set a.out.now (a.end - 20) ('0' + 1)),
+      omega (arith, last-power c.requires.0),
+      omega (arith, room a.n a.end c.requires.0 c.if-n-powers.true low c.requires.1),
+      omega (arith, c.requires.2, length-set a.out.now (a.end - 20) ('0' + 1)),
     )
 
 pub overflow_sub-result : goal.overflow_sub-result
 overflow_sub-result c =
-    let s = c in
-    room s.args.n s.args.end s.requires.0 c.if-n-powers.true (search rules) s.requires.1
+    room c.args.n c.args.end c.requires.0 c.if-n-powers.true (search rules) c.requires.1
 
 pub shape_of-out-then-n-powers : goal.shape_of-out-then-n-powers
 shape_of-out-then-n-powers c =
     let a = c.args in
-    c.put_places.auto.out.0 ∙ length-set a.out.now (a.end - 20) ('0' + 1)
+    c.put_places.auto.out ∙ length-set a.out.now (a.end - 20) ('0' + 1)
 
 pub returns-then-n-powers : goal.returns-then-n-powers
 returns-then-n-powers c =
-    let s = c in
     let high = c.if-n-powers.true in
-    twenty-written s.args.n _ (last-power s.requires.0) high (search rules)
-    (room s.args.n s.args.end s.requires.0 high (search rules) s.requires.1) s.requires.2 c.put_places.ensures
+    twenty-written c.args.n _ (last-power c.requires.0) high (search rules)
+    (room c.args.n c.args.end c.requires.0 high (search rules) c.requires.1) c.requires.2 c.put_places.ensures
 
 pub digits_of-digits-requires : goal.digits_of-digits-requires
 digits_of-digits-requires c =
-    let s = c in
-    (s.requires.0, omega (arith, last-power s.requires.0, c.if-n-powers.false))
+    (c.requires.0, omega (arith, last-power c.requires.0, c.if-n-powers.false))
 
 pub put_places-requires-2 : goal.put_places-requires-2
 put_places-requires-2 c =
-    let s = c in
-    let n = s.args.n in
+    let n = c.args.n in
     let d = c.digits_of-digits in
-    let low : n < 10 ^ 19 = omega (arith, last-power s.requires.0, c.if-n-powers.false) in (
-      s.requires.0,
+    let low : n < 10 ^ 19 = omega (arith, last-power c.requires.0, c.if-n-powers.false) in (
+      c.requires.0,
       omega (arith, d.ensures, number-some n),
       omega (arith, d.ensures, number-width 18 n low),
       subst (λ (k : ℕ). n < 10 ^ k) (sym d.ensures) (number-below n),
-      omega (arith, d.ensures, s.requires.1),
-      s.requires.2,
+      omega (arith, d.ensures, c.requires.1),
+      c.requires.2,
     )
 
 pub returns : goal.returns

@@ -17,11 +17,10 @@ put_run-digit-requires c =
 pub shape_of-out : goal.shape_of-out
 shape_of-out c =
     let run = c.put_run-digit in
-    length-set run.new.out (c.args.end - 1) ('0' + run.result / 16) ∙ run.auto.out.0
+    length-set run.new.out (c.args.end - 1) ('0' + run.result / 16) ∙ run.auto.out
 
 pub returns : goal.returns
 returns c =
-    let s = c in
-    let p = s.requires in
+    let p = c.requires in
     let run = c.put_run-digit in
-    last_written s.args.n p.1 p.4 p.5 (search rules) run.ensures.0 run.ensures.1
+    last_written c.args.n p.1 p.4 p.5 (search rules) run.ensures.0 run.ensures.1

@@ -10,14 +10,13 @@ put_run-requires c =
 
 pub put_last-requires : goal.put_last-requires
 put_last-requires c =
-    let s = c in
     let run = c.put_run in (
-      s.requires.0,
+      c.requires.0,
       omega arith,
       omega arith,
-      omega (arith, run.ensures.0, left-under s.args.n),
-      omega (arith, s.requires.4, c.if-from-gt4.true),
-      omega (arith, s.requires.5, run.auto.out.0),
+      omega (arith, run.ensures.0, left-under c.args.n),
+      omega (arith, c.requires.4, c.if-from-gt4.true),
+      omega (arith, c.requires.5, run.auto.out),
     )
 
 pub put_last-requires-else-from-gt4 : goal.put_last-requires-else-from-gt4
@@ -27,9 +26,8 @@ put_last-requires-else-from-gt4 c =
 
 pub returns-then-from-gt4 : goal.returns-then-from-gt4
 returns-then-from-gt4 c =
-    let s = c in
     let run = c.put_run in
-    places-written s.args.n (search rules) s.requires.4 s.requires.5 run.ensures.0 run.ensures.1 c.put_last.ensures
+    places-written c.args.n (search rules) c.requires.4 c.requires.5 run.ensures.0 run.ensures.1 c.put_last.ensures
 
 pub returns-else-from-gt4 : goal.returns-else-from-gt4
 returns-else-from-gt4 c = c.put_last-else-from-gt4.ensures

@@ -4,15 +4,8 @@ use Rattle.text.specs.Numbers.{number_text}
 use Rattle.text.specs.Writing.{put}
 use Rattle.text.proofs.Numbers.{number-one, number_more, number-some}
 use Rattle.text.proofs.Writing.{put-none, put-set, put-before}
+use Rattle.text.proofs.number.put_divided.Invariants.{WrittenDigits}
 use Rattle.text.proofs.number.put_divided.Goals as goal
-
--- What is written so far: the last digits of `whole`, `rest` being those before them.
-pub record WrittenDigits (row whole : List ℕ) (end : ℕ) (out : List ℕ) (at : ℕ) (rest : List ℕ) : Type 0 where
-  pub digits : List ℕ
-  pub ends : at + length digits ≡ end
-  pub holds : out ≡ put row at digits
-  pub all : whole ≡ rest ++ digits
-  pub size : length out ≡ length row
 
 -- The last digit of the rest, written before those that are.
 one_more : (row whole : List ℕ) (end : ℕ) (out : List ℕ) (at : ℕ) (rest : List ℕ) (digit : ℕ) → 0 < at → end ≤ length row →
