@@ -24,8 +24,11 @@ each words a b c d e f g h (suc (suc (suc (suc (suc (suc (suc (suc k)))))))) l =
 
 pub returns : goal.returns
 returns c =
-    record { size_value = (λ i.
+    record {
+      size_value = (λ i.
           c.ones-a.ensures.value i + c.ones-b.ensures.value i + c.ones-c.ensures.value i + c.ones-d.ensures.value i
           + c.ones-e.ensures.value i + c.ones-f.ensures.value i + c.ones-g.ensures.value i + c.ones-h.ensures.value i)
-          ∙ sym (size-words c.args.words); by_index = each c.args.words c.ones-a.ensures.value c.ones-b.ensures.value c.ones-c.ensures.value c.ones-d.ensures.value
-          c.ones-e.ensures.value c.ones-f.ensures.value c.ones-g.ensures.value c.ones-h.ensures.value }
+          ∙ sym (size-words c.args.words);
+      by_index = each c.args.words c.ones-a.ensures.value c.ones-b.ensures.value c.ones-c.ensures.value c.ones-d.ensures.value
+          c.ones-e.ensures.value c.ones-f.ensures.value c.ones-g.ensures.value c.ones-h.ensures.value;
+    }

@@ -7,18 +7,15 @@ use borrow.Author.Rules.{rules}
 use Rattle.line.specs.Cell.{field_index, field_of}
 use Rattle.line.proofs.cell.cell_field_or_zero.Goals as goal
 
--- Where the field stands.
-index : (c : tie.After-word) →
-    8 * c.before.cell-line.result + c.word.result ≡ field_index c.before.before.before.args.cell c.before.before.before.args.field
-unfolding field_index
-index c = omega (arith, c.before.cell-line.ensures, c.word.ensures.0)
-
 pub returns-then-at-row : goal.returns-then-at-row
-unfolding field_of
-returns-then-at-row c = ap (λ (i : ℕ). get_or c.args.row.now i 0) (index c)
+unfolding field_of field_index
+returns-then-at-row c =
+    let index : 8 * c.cell_line.result + c.word.result ≡ field_index c.args.cell c.args.field = omega (arith, c.cell_line.ensures, c.word.ensures.0) in
+    ap (λ (i : ℕ). get_or c.args.row.now i 0) index
 
 pub returns-else-at-row : goal.returns-else-at-row
-unfolding field_of
+unfolding field_of field_index
 returns-else-at-row c =
     let row = c.args.row.now in
-    sym (ap (λ (i : ℕ). get_or row i 0) (sym (index c)) ∙ get_or-eq_default row 0 c.if-at-row.false)
+    let index : 8 * c.cell_line.result + c.word.result ≡ field_index c.args.cell c.args.field = omega (arith, c.cell_line.ensures, c.word.ensures.0) in
+    sym (ap (λ (i : ℕ). get_or row i 0) (sym index) ∙ get_or-eq_default row 0 c.if-at-row.false)

@@ -6,9 +6,9 @@ use Rattle.text.proofs.digits.reduced.Goals as goal
 pub returns-then-rest-lt9223372036854775808 : goal.returns-then-rest-lt9223372036854775808
 returns-then-rest-lt9223372036854775808 c =
     let a = c.args in
-    taken-off a.s a.k a.otherwise c.wrapping_sub_u64-rest.result c.wrapping_sub_u64-rest.ensures (search rules) (search rules) (search rules)
+    taken-off a.s a.k a.otherwise c.wrapping_sub_u64-rest.result c.wrapping_sub_u64-rest.ensures.value (search rules) (search rules) (search rules)
 
 pub returns-else-rest-lt9223372036854775808 : goal.returns-else-rest-lt9223372036854775808
 returns-else-rest-lt9223372036854775808 c =
     let a = c.args in
-    left_alone a.s a.k a.otherwise c.wrapping_sub_u64-rest.result c.wrapping_sub_u64-rest.ensures (search rules) (search rules) (search rules) (search rules)
+    left_alone a.s a.k a.otherwise c.wrapping_sub_u64-rest.result c.wrapping_sub_u64-rest.ensures.value (search rules) (search rules) (search rules) (search rules)
