@@ -22,3 +22,12 @@ returns-then-place-n-3 c = search (rules, writes-header)
 
 pub returns : goal.returns
 returns c = search (rules, releases)
+
+pub next_place-requires : goal.next_place-requires
+next_place-requires c = search (rules, place-fits)
+
+pub next_place-requires-then-place-n-2 : goal.next_place-requires-then-place-n-2
+next_place-requires-then-place-n-2 c = search (rules, place-fits)
+
+pub next_place-requires-then-place-n-3 : goal.next_place-requires-then-place-n-3
+next_place-requires-then-place-n-3 c = search (rules, place-fits)
