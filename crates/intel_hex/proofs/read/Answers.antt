@@ -21,14 +21,17 @@ module _ (text row : List ℕ) where
   refused number e off =
       let same = passed_over (eqb (hex_read_cause text row) 0) (words_of (length row) (read_bytes (parsed text))) row (ap (λ (k : ℕ). eqb k 0) e ∙ off) in
       sym (λ i. record { number = e i; row = same i })
+
   -- The text is no file.
   no-file : is_no_file (parsed text) ≡ true → HexReadPerformed text row 19 row
   unfolding hex_read_cause hex_read_causes first_standing
   no-file e = refused 19 (chosen (is_no_file (parsed text)) 19 _ e) refl
+
   -- Its bytes do not fit the row.
   unfit : is_no_file (parsed text) ≡ false → misfits (read_bytes (parsed text)) row ≡ true → HexReadPerformed text row 20 row
   unfolding hex_read_cause hex_read_causes first_standing
   unfit e m = refused 20 (passed_over (is_no_file (parsed text)) 19 _ e ∙ chosen (misfits (read_bytes (parsed text)) row) 20 _ m) refl
+
   -- They do, and the row has their words.
   taken : {left : List ℕ} → is_no_file (parsed text) ≡ false → misfits (read_bytes (parsed text)) row ≡ false → left ≡ words_of (length row) (read_bytes (parsed text)) →
       HexReadPerformed text row 0 left

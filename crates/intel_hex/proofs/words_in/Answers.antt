@@ -14,6 +14,7 @@ module _ (text : List ℕ) {bytes : ℕ} (e : bytes ≡ length (read_bytes (pars
   whole : bytes % 8 ≡ 0 → bytes / 8 ≡ hex_words text
   unfolding hex_words
   whole z = ap (λ (k : ℕ). k / 8) e ∙ sym (chosen _ _ _ (eq-eqb _ 0 (ap (λ (k : ℕ). k % 8) (sym e) ∙ z)))
+
   -- Bytes left over.
   broken : (bytes % 8 ≡ 0 → ⊥) → 0 ≡ hex_words text
   unfolding hex_words

@@ -22,16 +22,19 @@ module _ (memory text : List ℕ) where
   refused number e off =
       let same = passed_over (eqb (hex_write_cause memory text) 0) (put text 0 (hex_text memory)) text (ap (λ (k : ℕ). eqb k 0) e ∙ off) in
       sym (λ i. record { number = e i; text = same i })
+
   -- Its length is wrong.
   wrong : bad_length (length memory) ≡ true → HexWritePerformed memory text 20 text
   unfolding hex_write_cause hex_write_causes first_standing
   wrong bad = refused 20 (chosen (bad_length (length memory)) 20 _ bad) refl
+
   -- The text row is too short.
   short : bad_length (length memory) ≡ false → length text < hex_bytes (length memory) → HexWritePerformed memory text 12 text
   unfolding hex_write_cause hex_write_causes first_standing
   short good less =
       let n = hex_bytes (length memory) in
       refused 12 (passed_over (bad_length (length memory)) 20 _ good ∙ chosen (ltb (length text) n) 12 _ (lt-ltb (length text) n less)) refl
+
   -- Neither is so, and its text is written.
   taken : {left : List ℕ} → bad_length (length memory) ≡ false → hex_bytes (length memory) ≤ length text → left ≡ put text 0 (hex_text memory) →
       HexWritePerformed memory text 0 left

@@ -30,10 +30,16 @@ returns-then-has_room c =
     let m' = c.resize in
     let c' = c.resize-then-has_room in
     let a = (start c).args in
-    let fits = room-bounds a.m a.c (room c) in record { cache_after = by_parts m'.new.row c'.new.row c.shown.ensures
-          ∙ lengths-put a.state a.sizes a.memory.now a.cache.now a.m a.c m'.new.row c'.new.row (room c) m'.ensures c'.ensures; sizes_within = kept-within c.shown.ensures.1 (record { memory-within = fits.0; cache-within = fits.1 }) }
+    let fits = room-bounds a.m a.c (room c) in record {
+      cache_after = by_parts m'.new.row c'.new.row c.shown.ensures
+          ∙ lengths-put a.state a.sizes a.memory.now a.cache.now a.m a.c m'.new.row c'.new.row (room c) m'.ensures c'.ensures;
+      sizes_within = kept-within c.shown.ensures.1 (record { memory-within = fits.0; cache-within = fits.1 });
+    }
 
 pub returns : goal.returns
 returns c =
-    let a = c.args in record { cache_after = by_parts a.memory.now a.cache.now c.shown-2.ensures
-          ∙ lengths-off a.state a.sizes a.memory.now a.cache.now a.m a.c (sym c.has_room.ensures ∙ c.if-has_room.false); sizes_within = kept-within c.shown-2.ensures.1 c.requires.0 }
+    let a = c.args in record {
+      cache_after = by_parts a.memory.now a.cache.now c.shown-2.ensures
+          ∙ lengths-off a.state a.sizes a.memory.now a.cache.now a.m a.c (sym c.has_room.ensures ∙ c.if-has_room.false);
+      sizes_within = kept-within c.shown-2.ensures.1 c.requires.0;
+    }

@@ -34,7 +34,6 @@ sum-all-requires c =
 
 -- Where all are bytes, the sum is theirs; else neither test holds.
 both : {bytes : List ℕ} {sum : ℕ} {good : Bool} → Totals bytes sum good → good && eqb (sum % 256) 0 ≡ all_bytes bytes && eqb (sum_of bytes % 256) 0
-
 both {bytes} {sum} {good} t =
     split good (λ e. (λ i. t.all i && eqb (t.total e i % 256) 0))
     (λ e. ap (λ (g : Bool). g && eqb (sum % 256) 0) e ∙ sym (ap (λ (g : Bool). g && eqb (sum_of bytes % 256) 0) (sym t.all ∙ e)))
