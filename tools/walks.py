@@ -27,7 +27,7 @@ def clauses(kind):
             head = re.split(r"\n *\{\n", text[m.end() :], maxsplit=1)[0]
             head = re.split(r"(?m)^(?:pub )?fn ", head)[0]
             names = re.findall(r"(?m)^ *" + kind + r" (\w+) \{", head)
-            if len(names) > 1:
+            if names:
                 found[(path.split("/")[1], m.group(1))] = names
     return found
 
@@ -64,6 +64,9 @@ def last_tuple(body):
 
 def by_clauses(eqs, names):
     """A goal of several clauses is a record of them."""
+    if len(names) == 1:
+        head, _, body = eqs.partition(" =")
+        return head + " = record { " + names[0] + " = " + body.strip() + " }"
     got = last_tuple(eqs)
     if got:
         start, parts = got
@@ -149,6 +152,8 @@ def in_step(step, rest):
     """What stands below a step: clauses, references and their lengths by name."""
     new, fields, params = step
     rest = list(rest)
+    if rest and rest[0] == "ensures" and len(fields) == 1 and rest[1:2] != fields:
+        return ["ensures", fields[0]] + rest[1:]
     if len(rest) >= 2 and rest[0] == "ensures" and rest[1].isdigit() and fields and int(rest[1]) < len(fields):
         rest[1] = fields[int(rest[1])]
     if len(rest) >= 2 and rest[0] in ("new", "auto") and rest[1].isdigit() and int(rest[1]) < len(params):
@@ -281,7 +286,7 @@ def convert(path, names, crate, rel):
                 callee = new.split("-")[0]
                 names_of = next((v for (c, f), v in REQUIRES.items() if f == callee), None)
             own = REQUIRES.get((crate, rel.split("/")[-1]))
-            if own:
+            if own and len(own) > 1:
                 eqs = re.sub(r"(?<![\w'\-])c\.requires\.(\d)", lambda m: "c.requires." + own[int(m.group(1))], eqs)
             if names_of:
                 r = by_clauses(eqs, names_of)

@@ -10,7 +10,7 @@ use Rattle.engine.proofs.update.Goals as goal
 
 pub returns-then-number-ne-TAKEN : goal.returns-then-number-ne-TAKEN
 unfolding value_of
-returns-then-number-ne-TAKEN c = refused _ _ _ _ refl (c.of_update-number.ensures c.args.value) c.if-number-ne-TAKEN.true
+returns-then-number-ne-TAKEN c = record { performed = refused _ _ _ _ refl (c.of_update-number.ensures c.args.value) c.if-number-ne-TAKEN.true }
 
 pub overflow_cast-cell : goal.overflow_cast-cell
 overflow_cast-cell c = omega (arith, update-stores _ _ _ _ (sym (c.of_update-number.ensures c.args.value) ∙ c.if-number-ne-TAKEN.false))
@@ -20,6 +20,8 @@ noted-next-requires c = (update-stores _ _ _ _ (sym (c.of_update-number.ensures 
 
 pub returns : goal.returns
 unfolding value_of
-returns c =
-    done _ _ _ _ refl (c.of_update-number.ensures c.args.value) c.if-number-ne-TAKEN.false
-    (starts-update _ _ _ _ _ _ (c.noted-next.ensures _))
+returns c = record {
+  performed =
+      done _ _ _ _ refl (c.of_update-number.ensures c.args.value) c.if-number-ne-TAKEN.false
+      (starts-update _ _ _ _ _ _ (c.noted-next.ensures _));
+}

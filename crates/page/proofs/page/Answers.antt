@@ -56,8 +56,7 @@ put_page-requires c =
     (p.lines, p.cache, p.room)
 
 pub returns-then-number-eq-TAKEN : goal.returns-then-number-eq-TAKEN
-returns-then-number-eq-TAKEN c =
-    page-taken (board c) c.args.text.now _ c.of_page-number.result c.of_page-number.ensures c.if-number-eq-TAKEN.true c.put_page.ensures
+returns-then-number-eq-TAKEN c = record { performed = page-taken (board c) c.args.text.now _ c.of_page-number.result c.of_page-number.ensures c.if-number-eq-TAKEN.true c.put_page.ensures }
 
 pub returns-else-number-eq-TAKEN : goal.returns-else-number-eq-TAKEN
-returns-else-number-eq-TAKEN c = page-refused (board c) c.args.text.now c.of_page-number.result c.of_page-number.ensures c.if-number-eq-TAKEN.false
+returns-else-number-eq-TAKEN c = record { performed = page-refused (board c) c.args.text.now c.of_page-number.result c.of_page-number.ensures c.if-number-eq-TAKEN.false }

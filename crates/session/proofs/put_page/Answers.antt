@@ -6,4 +6,4 @@ use Rattle.session.proofs.Pages.{page-keeps}
 use Rattle.session.proofs.put_page.Goals as goal
 
 pub returns : goal.returns
-returns c = page-keeps _ c.args.text.now c.page-r.ensures
+returns c = page-keeps _ c.args.text.now c.page-r.ensures.performed

@@ -14,7 +14,7 @@ pub loop-left-preserved : goal.loop-left-preserved
 loop-left-preserved c =
     let p = c.perform-r in
     let l = c.loop-left in (
-      one-call l.left _ (given l.number l.value (lent l.now l.memory l.cache)) _ (search rules) p.ensures ∙ l.invariant.0,
+      one-call l.left _ (given l.number l.value (lent l.now l.memory l.cache)) _ (search rules) p.ensures.performed ∙ l.invariant.0,
       p.auto.state.1.0 ∙ l.invariant.1,
       p.auto.state.1.1.0 ∙ l.invariant.2,
     )

@@ -11,5 +11,5 @@ returns-then-misread-eq0 c =
 pub returns : goal.returns
 returns c =
     let m = c.args.misread in
-    ap (λ (n : ℕ). misread n m.first m.why) c.wrapping_add_u64-lines.ensures
+    ap (λ (n : ℕ). misread n m.first m.why) c.wrapping_add_u64-lines.ensures.value
     ∙ sym (passed_over (eqb m.lines 0) _ _ (ne_eqb m.lines 0 c.if-misread-eq0.false))

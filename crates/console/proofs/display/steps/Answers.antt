@@ -11,7 +11,7 @@ pub loop-left-preserved : goal.loop-left-preserved
 loop-left-preserved c =
     let p = c.step-r in
     let l = c.loop-left in (
-      ap (λ (o : Outcome). steps_from (l.left - 1) o.board) p.ensures
+      ap (λ (o : Outcome). steps_from (l.left - 1) o.board) p.ensures.performed
           ∙ one-step l.left (lent l.now l.memory l.cache) (search rules)
           ∙ l.invariant.0,
       p.auto.memory ∙ l.invariant.1,

@@ -9,7 +9,7 @@ pub returns-then-number-ne0 : goal.returns-then-number-ne0
 returns-then-number-ne0 c =
     let a = c.args in
     let write = c.write-number in
-    record { prints = refused-hex (take a.session.memory a.memory.now) a.row.now write.new.text write.result (search rules) write.ensures c.if-number-ne0.true; within = omega arith }
+    record { prints = refused-hex (take a.session.memory a.memory.now) a.row.now write.new.text write.result (search rules) write.ensures.performed c.if-number-ne0.true; within = omega arith }
 
 -- A memory that is written has at most 4,096 words.
 few : (c : tie.Else1) → c.before.before.before.before.before.args.session.memory ≤ 4096
@@ -33,4 +33,4 @@ returns c =
     let words = a.session.memory in
     let part = take words a.memory.now in
     let bytes : 22 * words + 12 ≡ 22 * length part + 12 = ap (λ (n : ℕ). 22 * n + 12) (part-size words a.memory.now c.requires) in
-    taken-hex part a.row.now write.new.text write.result (search rules) write.ensures (22 * words + 12) c.if-number-ne0.false bytes (hex-holds.room part)
+    taken-hex part a.row.now write.new.text write.result (search rules) write.ensures.performed (22 * words + 12) c.if-number-ne0.false bytes (hex-holds.room part)

@@ -1,38 +1,33 @@
 -- `damage::damages::put_lengths` meets its contract: the new lengths are within the room.
-use Rattle.std.proofs.Common.{◌≡◌, true, sym, ◌∙◌, arith, rules}
+use Rattle.std.proofs.Common.{◌≡◌, ℕ, Bool, true, sym, ◌∙◌, arith, rules}
 use Rattle.damage.specs.Damages.{room_for}
 use Rattle.damage.proofs.Fits.{room-bounds}
 use Rattle.damage.proofs.Arms.{by_parts, kept-within, lengths-put, lengths-off}
 use Rattle.damage.proofs.damages.put_lengths.Goals as goal
 
--- The function's start, seen from where there is room.
-abbrev start : tie.Then1 → tie.Start
-start c = c.before.before.before.before
-
 -- There is room for the new lengths.
-room : (c : tie.Then1) → room_for (start c).args.m (start c).args.c ≡ true
-room c = sym c.before.has_room.ensures ∙ c.if1.true
+abbrev roomed : (m c : ℕ) {found : Bool} → found ≡ room_for m c → found ≡ true → room_for m c ≡ true
+roomed m c e h = sym e ∙ h
 
 pub resize-requires : goal.resize-requires
 resize-requires c =
-    let s = start c in
-    let fits = room-bounds s.args.m s.args.c (room c) in
-    (omega (arith, s.pre.0.memory-within, s.pre.1.memory-room), omega (arith, s.pre.1.memory-room))
+    let fits = room-bounds c.args.m c.args.c (roomed c.args.m c.args.c c.has_room.ensures c.if-has_room.true) in
+    (omega (arith, c.requires.0.memory-within, c.requires.1.memory-room), omega (arith, c.requires.1.memory-room))
 
 pub resize-requires-then-has_room : goal.resize-requires-then-has_room
 resize-requires-then-has_room c =
-    let s = start c in
-    let fits = room-bounds s.args.m s.args.c (room c) in
-    (omega (arith, s.pre.0.cache-within, s.pre.1.cache-room), omega (arith, s.pre.1.cache-room))
+    let fits = room-bounds c.args.m c.args.c (roomed c.args.m c.args.c c.has_room.ensures c.if-has_room.true) in
+    (omega (arith, c.requires.0.cache-within, c.requires.1.cache-room), omega (arith, c.requires.1.cache-room))
 
 pub returns-then-has_room : goal.returns-then-has_room
 returns-then-has_room c =
     let m' = c.resize in
     let c' = c.resize-then-has_room in
-    let a = (start c).args in
-    let fits = room-bounds a.m a.c (room c) in record {
+    let a = c.args in
+    let room = roomed c.args.m c.args.c c.has_room.ensures c.if-has_room.true in
+    let fits = room-bounds a.m a.c room in record {
       cache_after = by_parts m'.new.row c'.new.row c.shown.ensures
-          ∙ lengths-put a.state a.sizes a.memory.now a.cache.now a.m a.c m'.new.row c'.new.row (room c) m'.ensures c'.ensures;
+          ∙ lengths-put a.state a.sizes a.memory.now a.cache.now a.m a.c m'.new.row c'.new.row room m'.ensures c'.ensures;
       sizes_within = kept-within c.shown.ensures.1 (record { memory-within = fits.0; cache-within = fits.1 });
     }
 

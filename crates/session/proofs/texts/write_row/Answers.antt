@@ -12,6 +12,6 @@ returns c =
     let memory = c.args.memory.now in
     let write = c.write-number in
     record {
-      performed = subst (λ (row : List ℕ). HexWritePerformed memory row write.result write.new.text) fill.ensures write.ensures;
+      performed = subst (λ (row : List ℕ). HexWritePerformed memory row write.result write.new.text) fill.ensures write.ensures.performed;
       sums = c.bytes_checksum-sum.ensures;
     }
