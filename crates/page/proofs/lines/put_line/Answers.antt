@@ -20,9 +20,8 @@ pub put_digits-requires-4 : goal.put_digits-requires-4
 put_digits-requires-4 c = (search rules, le_trans (word_width _ (search rules)) (omega arith), search rules)
 
 pub returns : goal.returns
-returns c =
-    (
-      line-put c.requires.1 (number-width 3 c.args.cell c.requires.0) (word_width _ (search rules)) (word_width _ (search rules)) (word_width _ (search rules))
-          c.put_blank_line.ensures c.put_digits.ensures c.put_digits-2.ensures c.put_digits-3.ensures c.put_digits-4.ensures,
-      refl,
-    )
+returns c = (
+  line-put c.requires.1 (number-width 3 c.args.cell c.requires.0) (word_width _ (search rules)) (word_width _ (search rules)) (word_width _ (search rules))
+      c.put_blank_line.ensures c.put_digits.ensures c.put_digits-2.ensures c.put_digits-3.ensures c.put_digits-4.ensures,
+  refl,
+)
