@@ -32,7 +32,17 @@ def clauses(kind):
     return found
 
 
-ENSURES, REQUIRES = clauses("ensures"), clauses("requires")
+def references():
+    """The parameters of each function that are references, by its name."""
+    found = {}
+    for path in glob.glob("crates/*/src/**/*.rt", recursive=True):
+        text = open(path, encoding="utf-8").read()
+        for m in re.finditer(r"(?m)^ *(?:pub )?fn (\w+)\s*\(([^)]*)\)", text):
+            found[m.group(1)] = re.findall(r"(\w+)\s*:\s*&", m.group(2))
+    return found
+
+
+ENSURES, REQUIRES, REFERENCES = clauses("ensures"), clauses("requires"), references()
 
 
 def last_tuple(body):
@@ -138,7 +148,7 @@ class Function:
             i = self.by_old[place]
             old, parent, pair, callee, fields = self.n["places"][i]
             clauses = self.n["clauses"][i]
-            labels.setdefault(alike(pair[0]), (pair[1], clauses["fields"] if clauses else [], self.n["params"].get(callee, [])))
+            labels.setdefault(alike(pair[0]), (pair[1], clauses["fields"] if clauses else [], REFERENCES.get((callee or "").split("::")[-1], [])))
             if self.n["arms"][i]:
                 step, _, fs = self.n["arms"][i]
                 for new, label, path in fs:
@@ -156,10 +166,12 @@ def in_step(step, rest):
         return ["ensures", fields[0]] + rest[1:]
     if len(rest) >= 2 and rest[0] == "ensures" and rest[1].isdigit() and fields and int(rest[1]) < len(fields):
         rest[1] = fields[int(rest[1])]
-    if len(rest) >= 2 and rest[0] in ("new", "auto") and rest[1].isdigit() and int(rest[1]) < len(params):
-        rest[1] = params[int(rest[1])]
-        if len(rest) >= 3 and rest[2] == "0":
-            del rest[2]
+    if len(rest) >= 2 and rest[0] in ("new", "auto"):
+        k = 1
+        while k < len(rest) and rest[k] == "1":
+            k += 1
+        if k < len(rest) and rest[k] == "0" and k - 1 < len(params):
+            return [rest[0], params[k - 1]] + rest[k + 1 :]
     return rest
 
 

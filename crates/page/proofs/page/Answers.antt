@@ -46,17 +46,13 @@ page-refused b text number e z =
     let same : text ≡ page_left b text = sym (passed_over (eqb (page_cause b text) 0) (put text 0 (page_text b.cache (cells (shape_of b.state)))) text (ne_eqb (page_cause b text) 0 (λ q. z (e ∙ q)))) in
     λ i. record { number = e i; board = b; text = same i }
 
--- The board that a page is lent.
-abbrev board : tie.Start → Board
-board c = lent c.args.state c.args.memory.now c.args.cache.now
-
 pub put_page-requires : goal.put_page-requires
 put_page-requires c =
-    let p = passed (board c) c.args.text.now (sym c.of_page-number.ensures ∙ c.if-number-eq-TAKEN.true) in
+    let p = passed (lent c.args.state c.args.memory.now c.args.cache.now) c.args.text.now (sym c.of_page-number.ensures ∙ c.if-number-eq-TAKEN.true) in
     (p.lines, p.cache, p.room)
 
 pub returns-then-number-eq-TAKEN : goal.returns-then-number-eq-TAKEN
-returns-then-number-eq-TAKEN c = record { performed = page-taken (board c) c.args.text.now _ c.of_page-number.result c.of_page-number.ensures c.if-number-eq-TAKEN.true c.put_page.ensures }
+returns-then-number-eq-TAKEN c = record { performed = page-taken (lent c.args.state c.args.memory.now c.args.cache.now) c.args.text.now _ c.of_page-number.result c.of_page-number.ensures c.if-number-eq-TAKEN.true c.put_page.ensures }
 
 pub returns-else-number-eq-TAKEN : goal.returns-else-number-eq-TAKEN
-returns-else-number-eq-TAKEN c = record { performed = page-refused (board c) c.args.text.now c.of_page-number.result c.of_page-number.ensures c.if-number-eq-TAKEN.false }
+returns-else-number-eq-TAKEN c = record { performed = page-refused (lent c.args.state c.args.memory.now c.args.cache.now) c.args.text.now c.of_page-number.result c.of_page-number.ensures c.if-number-eq-TAKEN.false }

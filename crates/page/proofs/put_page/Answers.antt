@@ -17,20 +17,20 @@ all_held : (cache : List ℕ) (l : ℕ) → l ≤ 511 → length cache ≡ row_w
 all_held cache l h e c g = record { short = omega arith; inside = omega arith }
 
 -- The board's cells fit the array.
-few : (c : tie.After-cells) → c.cells.result ≤ 1022
-few c = omega (arith, c.cells.ensures, c.before.before.before.requires.0)
+few : {n l : ℕ} → n ≡ cells (shaped l) → l ≤ 511 → n ≤ 1022
+few e h = omega (arith, e)
 
 pub slice_bounds-put_ordered-end : goal.slice_bounds-put_ordered-end
-slice_bounds-put_ordered-end c = sym (length-take-le _ _ (few c))
+slice_bounds-put_ordered-end c = sym (length-take-le _ _ (few c.cells-n.ensures c.requires.0))
 
 pub slice_bounds-put_ordered-end-2 : goal.slice_bounds-put_ordered-end-2
-slice_bounds-put_ordered-end-2 c = sym (length-take-le _ _ (few c))
+slice_bounds-put_ordered-end-2 c = sym (length-take-le _ _ (few c.cells-n.ensures c.requires.0))
 
 pub put_ordered-requires : goal.put_ordered-requires
 put_ordered-requires c =
     let n = c.cells-n in
-    let size = length-take-le n.result _ (few c) in (
-      subst (λ (k : ℕ). k ≤ 1022) (sym size) (few c),
+    let size = length-take-le n.result _ (few c.cells-n.ensures c.requires.0) in (
+      subst (λ (k : ℕ). k ≤ 1022) (sym size) (few c.cells-n.ensures c.requires.0),
       refl,
       subst (InCacheUnder c.args.cache.now) (sym (size ∙ n.ensures)) (all_held c.args.cache.now c.args.lines c.requires.0 c.requires.1),
       omega (arith, size, n.ensures, c.requires.2),
@@ -40,4 +40,4 @@ pub returns : goal.returns
 returns c =
     let n = c.cells-n in
     c.put_ordered.ensures
-    ∙ ap (λ (k : ℕ). put c.args.text.now 0 (page_text c.args.cache.now k)) (length-take-le n.result _ (few c) ∙ n.ensures)
+    ∙ ap (λ (k : ℕ). put c.args.text.now 0 (page_text c.args.cache.now k)) (length-take-le n.result _ (few c.cells-n.ensures c.requires.0) ∙ n.ensures)

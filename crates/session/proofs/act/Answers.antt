@@ -24,7 +24,7 @@ pub returns-in-Cut : goal.returns-in-Cut
 returns-in-Cut c =
     let a = c.args in
     let w = c.cut.ensures.switched in record { done = acted _ _ _ c.in-Cut.is
-          (cut_off_lem a.session c.cut.result a.memory.now a.cache.now c.cut.new.cache a.text.now (search rules) w c.cut.ensures.cache_after); within = same-within refl (w.1, w.2, w.3) c.requires }
+          (cut_off_lem a.session c.cut.result a.memory.now a.cache.now c.cut.new.1.0 a.text.now (search rules) w c.cut.ensures.cache_after); within = same-within refl (w.1, w.2, w.3) c.requires }
 
 pub returns-in-Damage : goal.returns-in-Damage
 returns-in-Damage c =

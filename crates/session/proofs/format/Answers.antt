@@ -50,6 +50,6 @@ returns c =
     let a = (start c).args in
     let within = bound c in
     let words = c.row_words-words.ensures in record { by_index = (λ text. format-up a.lines a.workers c.row_words-words.result a.session.state r.result (desk_of a.session a.memory.now a.cache.now text)
-          a.memory.now a.cache.now r.new.memory r.new.memory.1.0 words (inside c) refl
+          a.memory.now a.cache.now r.new.cache r.new.1.1.0 words (inside c) refl
           (slice-relend-prefix-format-rows c) (slice-relend-prefix-format-rows-2 c)
-          r.auto.memory r.auto.memory.1.0 r.ensures); within_2 = record { memory-within = omega (arith, within, words); cache-within = omega (arith, within, words); text-within = (start c).requires.0.text-within } }
+          r.auto.cache r.auto.1.1.0 r.ensures); within_2 = record { memory-within = omega (arith, within, words); cache-within = omega (arith, within, words); text-within = (start c).requires.0.text-within } }

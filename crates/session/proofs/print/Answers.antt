@@ -21,7 +21,7 @@ slice_bounds-text-end-2 c =
     let room = c.args.room in
     let row = c.text_row-text.result in
     let page = c.put_page-number in
-    omega (arith, back-size room row page.new.memory.1.1.0 (search rules) page.auto.memory.1.1.0)
+    omega (arith, back-size room row page.new.1.1.1.0 (search rules) page.auto.1.1.1.0)
 
 pub slice_bounds-bytes_checksum-end : goal.slice_bounds-bytes_checksum-end
 slice_bounds-bytes_checksum-end c = part-size _ _ (array-share-prefix-text c)
@@ -31,4 +31,4 @@ returns c =
     let a = c.args in
     let row = c.text_row-text in
     let page = c.put_page-number in
-    record { by_index = (λ text. page-shown (desk_of a.session a.memory.now a.cache.now text) a.room page.result c.bytes_checksum-sum.result row.result page.new.memory.1.1.0 (omega arith) row.ensures (search rules) page.auto.memory.1.1.0 page.ensures c.bytes_checksum-sum.ensures); session_value = refl }
+    record { by_index = (λ text. page-shown (desk_of a.session a.memory.now a.cache.now text) a.room page.result c.bytes_checksum-sum.result row.result page.new.1.1.1.0 (omega arith) row.ensures (search rules) page.auto.1.1.1.0 page.ensures c.bytes_checksum-sum.ensures); session_value = refl }

@@ -31,8 +31,8 @@ loop-i-preserved c =
     let put = c.put_cell-end in (
       omega arith,
       omega (arith, put.ensures.1, l.invariant.1),
-      put.auto.cell.1.0 ∙ l.invariant.2,
-      subst (λ (t : List ℕ). Put a.text.now 68 t put.new.cell.1.0 put.result) (lines_more (cell_text a.cache.now) a.cells.now l.i (omega arith))
+      put.auto.text ∙ l.invariant.2,
+      subst (λ (t : List ℕ). Put a.text.now 68 t put.new.text put.result) (lines_more (cell_text a.cache.now) a.cells.now l.i (omega arith))
           (and_then l.invariant.3 put.ensures.0 (omega (arith, c.requires.1, l.invariant.1))),
     )
 

@@ -22,6 +22,6 @@ pub returns : goal.returns
 returns c =
     let read = c.read-number in
     let a = c.args in record { by_index = (λ cache.
-          read-shown a.session a.memory.now cache a.text.now a.bytes read.result read.new.row
+          read-shown a.session a.memory.now cache a.text.now a.bytes read.result read.new.text
           c.if-bytes-session.false (omega (arith, c.requires.0.text-within, c.requires.1.text-room))
-          (omega (arith, c.requires.0.memory-within, c.requires.1.memory-room)) read.auto.row read.ensures.performed); session_value = refl }
+          (omega (arith, c.requires.0.memory-within, c.requires.1.memory-room)) read.auto.text read.ensures.performed); session_value = refl }
