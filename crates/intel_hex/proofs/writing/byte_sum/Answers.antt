@@ -17,7 +17,9 @@ overflow_add-fours c =
     record { fits = omega (arith, c.spread.ensures, c.spread-2.ensures, spaced-under (w % 4294967296), spaced-under (w / 4294967296)) }
 
 pub overflow_add-result : goal.overflow_add-result
-overflow_add-result c = record { fits = halves-fit _ (add-fours c).ranges }
+overflow_add-result c =
+    let w = c.args.word in
+    record { fits = omega (arith, c.spread.ensures, c.spread-2.ensures, spaced-under (w % 4294967296), spaced-under (w / 4294967296)) }
 
 pub returns : goal.returns
 returns c = word_sum c.args.word _ _ (ap₂ ◌+◌ c.spread.ensures c.spread-2.ensures) refl

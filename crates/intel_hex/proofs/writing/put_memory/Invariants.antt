@@ -11,7 +11,8 @@ use Rattle.intel_hex.proofs.writing.put_memory.Given as goal
 
 abbrev pub invariant-loop-i : goal.invariant-loop-i
 invariant-loop-i l =
-    (i ≤ length l.memory) × (i % 2 ≡ 0) × (length l.i ≡ length l.initial.text) × (put l.i (22 * i) (hex_from (8 * i) (drop i l.memory)) ≡ put l.initial.text 0 (hex_text l.memory))
+    (l.i ≤ length l.memory) × (l.i % 2 ≡ 0) × (length l.text ≡ length l.initial.text)
+    × (put l.text (22 * l.i) (hex_from (8 * l.i) (drop l.i l.memory)) ≡ put l.initial.text 0 (hex_text l.memory))
 
 abbrev pub decreases-loop-i : goal.decreases-loop-i
-decreases-loop-i l = length l.memory - i
+decreases-loop-i l = length l.memory - l.i
