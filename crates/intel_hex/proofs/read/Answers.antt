@@ -5,11 +5,10 @@ use mathlib.Core.Bool.{Bool, true, false, not, ◌||◌}
 use mathlib.Core.List.{List}
 use lib.Dec.{eqb}
 use lib.ListN.{length}
-use borrow.Author.Rules.{rules}
 use borrow.Author.Tests.{eqb-true}
 use Rattle.predicate.proofs.Bools.{chosen, passed_over, not-off, not-of, or_left, or_right}
 use Rattle.board.specs.Causes.{bad_length, first_standing}
-use Rattle.board.specs.Hex.{file, parsed, read_bytes, is_no_file, misfits, words_of, hex_read_causes, hex_read_cause, hex_read_left, HexReadPerformed}
+use Rattle.board.specs.Hex.{parsed, read_bytes, is_no_file, misfits, words_of, hex_read_causes, hex_read_cause, hex_read_left, HexReadPerformed}
 use Rattle.intel_hex.proofs.Parsing.{is-file as reads-to}
 use Rattle.intel_hex.proofs.Written.{good_length}
 use Rattle.intel_hex.proofs.read.Goals as goal

@@ -1,12 +1,11 @@
-use Prim.Native.Nat.{ℕ, ◌+◌, ◌*◌, ◌-◌, ◌≤◌}
+use Prim.Native.Nat.{ℕ, ◌+◌, ◌*◌, ◌≤◌}
 use mathlib.Core.Path.{◌≡◌}
 use mathlib.Core.List.{List}
 use native.Mathlib.Omega.{arith}
 use lib.ListN.{get_or}
-use borrow.Author.Rules.{rules}
 use Rattle.board.specs.Hex.{hex_digit}
 use Rattle.intel_hex.proofs.Digits.{digit-most}
-use Rattle.intel_hex.proofs.Summing.{Summing, summing-begins, summing-more, summing-ends}
+use Rattle.intel_hex.proofs.Summing.{summing-begins, summing-more, summing-ends}
 use Rattle.intel_hex.proofs.reading.sum.Goals as goal
 
 pub loop-k-init : goal.loop-k-init

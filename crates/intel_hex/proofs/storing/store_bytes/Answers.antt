@@ -1,9 +1,6 @@
-use Prim.Native.Nat.{◌+◌, ◌*◌, ◌-◌, ◌/◌, ◌<◌}
+use Prim.Native.Nat.{◌+◌, ◌/◌}
 use native.Mathlib.Omega.{arith}
-use lib.ListN.{get_or}
-use borrow.Author.Rules.{rules}
-use Rattle.board.specs.Hex.{byte_of}
-use Rattle.intel_hex.proofs.Stored.{text-byte, Filled, filled-begins, filled_more, filled-ends}
+use Rattle.intel_hex.proofs.Stored.{text-byte, filled-begins, filled_more, filled-ends}
 use Rattle.intel_hex.proofs.storing.store_bytes.Goals as goal
 
 pub loop-k-init : goal.loop-k-init

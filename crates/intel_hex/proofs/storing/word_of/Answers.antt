@@ -5,7 +5,6 @@ use mathlib.Core.List.{List}
 use mathlib.Core.Bool.{true}
 use native.Mathlib.Omega.{arith}
 use lib.ListN.{length, take, drop, length-drop}
-use borrow.Author.Rules.{rules}
 use Rattle.board.specs.Hex.{bytes_in, all_bytes, word_of}
 use Rattle.intel_hex.proofs.Parsing.{tail}
 use Rattle.intel_hex.proofs.Whole.{all-part, halves-write, half-under}

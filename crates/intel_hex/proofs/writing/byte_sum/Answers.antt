@@ -2,8 +2,7 @@
 use Prim.Native.Nat.{◌+◌, ◌/◌, ◌%◌}
 use mathlib.Core.Path.{refl, ap₂}
 use native.Mathlib.Omega.{arith}
-use borrow.Author.Rules.{rules}
-use Rattle.intel_hex.proofs.Lanes.{spaced-under, halves-fit, word_sum}
+use Rattle.intel_hex.proofs.Lanes.{spaced-under, word_sum}
 use Rattle.intel_hex.proofs.writing.byte_sum.Goals as goal
 
 pub overflow_add-twos : goal.overflow_add-twos

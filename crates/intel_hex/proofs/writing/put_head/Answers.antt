@@ -1,8 +1,7 @@
 -- `hex::writing::put_head` meets its contract: a colon, and the digits of four bytes behind it.
-use mathlib.Core.Path.{◌≡◌, refl}
+use mathlib.Core.Path.{refl}
 use native.Mathlib.Omega.{arith}
-use lib.ListN.{length, set, length-set}
-use borrow.Author.Rules.{rules}
+use lib.ListN.{length-set}
 use Rattle.text.specs.Ascii.{':'}
 use Rattle.board.specs.Hex.{bytes_text}
 use Rattle.intel_hex.proofs.Written.{byte_put, written_as, follows}

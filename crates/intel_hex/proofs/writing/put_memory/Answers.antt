@@ -1,10 +1,9 @@
-use Prim.Native.Nat.{◌*◌, ◌-◌, ◌%◌, ◌≤◌}
-use mathlib.Core.Path.{◌≡◌, refl, sym, ap, ◌∙◌}
+use Prim.Native.Nat.{◌*◌}
+use mathlib.Core.Path.{refl, sym, ap, ◌∙◌}
 use native.Mathlib.Omega.{arith}
-use lib.ListN.{length, drop}
-use borrow.Author.Rules.{rules}
+use lib.ListN.{length}
 use Rattle.text.specs.Writing.{put}
-use Rattle.board.specs.Hex.{hex_from, hex_text, record_text, bytes_text, sum_of}
+use Rattle.board.specs.Hex.{record_text, bytes_text, sum_of}
 use Rattle.intel_hex.proofs.Written.{good_length, record-put, end-left}
 use Rattle.intel_hex.proofs.writing.put_memory.Goals as goal
 

@@ -1,12 +1,9 @@
 -- `hex::writing::put_memory` meets its contract. The invariant: with the text of the words from `i` on, the memory's text is written.
 use Prim.Native.Nat.{◌*◌, ◌-◌, ◌%◌, ◌≤◌}
-use mathlib.Core.Path.{◌≡◌, refl, sym, ap, ◌∙◌}
-use native.Mathlib.Omega.{arith}
+use mathlib.Core.Path.{◌≡◌}
 use lib.ListN.{length, drop}
-use borrow.Author.Rules.{rules}
 use Rattle.text.specs.Writing.{put}
-use Rattle.board.specs.Hex.{hex_from, hex_text, record_text, bytes_text, sum_of}
-use Rattle.intel_hex.proofs.Written.{good_length, record-put, end-left}
+use Rattle.board.specs.Hex.{hex_from, hex_text}
 use Rattle.intel_hex.proofs.writing.put_memory.Given as goal
 
 abbrev pub invariant-loop-i : goal.invariant-loop-i
