@@ -1,15 +1,14 @@
 -- `hex::read` meets its contract: taken, the row has the text's words; refused, it stays.
 use Prim.Native.Nat.{ℕ, ◌*◌}
 use mathlib.Core.Path.{◌≡◌, refl, sym, ap, ◌∙◌}
-use mathlib.Core.Bool.{true, false, not, ◌||◌}
+use mathlib.Core.Bool.{Bool, true, false, not, ◌||◌}
 use mathlib.Core.List.{List}
 use lib.Dec.{eqb}
 use lib.ListN.{length}
-use borrow.Author.Rules.{rules}
 use borrow.Author.Tests.{eqb-true}
 use Rattle.predicate.proofs.Bools.{chosen, passed_over, not-off, not-of, or_left, or_right}
 use Rattle.board.specs.Causes.{bad_length, first_standing}
-use Rattle.board.specs.Hex.{file, parsed, read_bytes, is_no_file, misfits, words_of, hex_read_causes, hex_read_cause, hex_read_left, HexReadPerformed}
+use Rattle.board.specs.Hex.{parsed, read_bytes, is_no_file, misfits, words_of, hex_read_causes, hex_read_cause, hex_read_left, HexReadPerformed}
 use Rattle.intel_hex.proofs.Parsing.{is-file as reads-to}
 use Rattle.intel_hex.proofs.Written.{good_length}
 use Rattle.intel_hex.proofs.read.Goals as goal
@@ -42,36 +41,34 @@ module _ (text row : List ℕ) where
       λ i. record { number = sym none i; row = same i }
 
 -- What the test of the length asks.
-fit-test : (c : tie.After-struct-known2) → let a = c.before.before.before.before.before.before.before.args in
-    c.before.bad-length.result || not (eqb c.before.before.before.before.measure.result.bytes (8 * length a.row.now)) ≡ misfits (read_bytes (parsed a.text.now)) a.row.now
-fit-test c =
-    let n = length c.before.before.before.before.before.before.before.args.row.now in
-    λ i. c.before.bad-length.ensures i || not (eqb (c.before.before.before.before.measure.ensures.1 i) (8 * n))
+fit-test : {bad : Bool} {bytes : ℕ} (text row : List ℕ) → bad ≡ bad_length (length row) → bytes ≡ length (read_bytes (parsed text)) →
+    bad || not (eqb bytes (8 * length row)) ≡ misfits (read_bytes (parsed text)) row
+fit-test text row b n = (λ i. b i || not (eqb (n i) (8 * length row)))
 
 -- The text is a file.
-is-file : (c : tie.Else1) → is_no_file (parsed c.before.before.before.before.before.args.text.now) ≡ false
-is-file c = not-of _ (sym c.before.before.measure.ensures.0 ∙ not-off _ c.if1.false)
+is-file : {measured : Bool} (text : List ℕ) → measured ≡ not (is_no_file (parsed text)) → not measured ≡ false → is_no_file (parsed text) ≡ false
+is-file text m e = not-of _ (sym m ∙ not-off _ e)
 
 pub returns-then-not-measured : goal.returns-then-not-measured
 returns-then-not-measured c =
     let a = c.args in
-    no-file a.text.now a.row.now (not-off _ (sym c.measure-measured.ensures.0 ∙ not-of _ c.if-not-measured.true))
+    record { performed = no-file a.text.now a.row.now (not-off _ (sym c.measure-measured.ensures.0 ∙ not-of _ c.if-not-measured.true)) }
 
 pub returns-then-bad_length-measured : goal.returns-then-bad_length-measured
 returns-then-bad_length-measured c =
     let a = c.args in
-    unfit a.text.now a.row.now (is-file c) (sym (fit-test c) ∙ c.if-bad_length-measured.true)
+    record { performed = unfit a.text.now a.row.now (is-file c.args.text.now c.measure-measured.ensures.0 c.if-not-measured.false) (sym (fit-test c.args.text.now c.args.row.now c.bad_length.ensures c.measure-measured.ensures.1) ∙ c.if-bad_length-measured.true) }
 
 pub store-requires : goal.store-requires
 store-requires c =
     let a = c.args in
-    let m = sym (fit-test c) ∙ c.if-bad_length-measured.false in
+    let m = sym (fit-test c.args.text.now c.args.row.now c.bad_length.ensures c.measure-measured.ensures.1) ∙ c.if-bad_length-measured.false in
     let bytes = read_bytes (parsed a.text.now) in
     let bad = bad_length (length a.row.now) in
     let wrong = not (eqb (length bytes) (8 * length a.row.now)) in (
       record {
         bytes = bytes;
-        parses = reads-to (parsed a.text.now) (is-file c);
+        parses = reads-to (parsed a.text.now) (is-file c.args.text.now c.measure-measured.ensures.0 c.if-not-measured.false);
         fills = eqb-true (length bytes) (8 * length a.row.now) (not-off _ (or_right bad wrong m));
       },
       (good_length (length a.row.now) (or_left bad wrong m)).1,
@@ -80,4 +77,4 @@ store-requires c =
 pub returns : goal.returns
 returns c =
     let a = c.args in
-    taken a.text.now a.row.now (is-file c) (sym (fit-test c) ∙ c.if-bad_length-measured.false) c.store.ensures
+    record { performed = taken a.text.now a.row.now (is-file c.args.text.now c.measure-measured.ensures.0 c.if-not-measured.false) (sym (fit-test c.args.text.now c.args.row.now c.bad_length.ensures c.measure-measured.ensures.1) ∙ c.if-bad_length-measured.false) c.store.ensures }

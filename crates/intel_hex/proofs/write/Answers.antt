@@ -1,12 +1,11 @@
 -- `hex::write` meets its contract: taken, the memory's text is written; refused, nothing is.
 use Prim.Native.Nat.{ℕ, ◌≤◌, ◌<◌}
 use mathlib.Core.Path.{◌≡◌, refl, sym, ap, ◌∙◌}
-use mathlib.Core.Bool.{true, false}
+use mathlib.Core.Bool.{Bool, true, false}
 use mathlib.Core.List.{List}
 use native.Mathlib.Omega.{arith}
 use lib.Dec.{ltb, eqb}
 use lib.ListN.{length}
-use borrow.Author.Rules.{rules}
 use borrow.Author.Tests.{lt-ltb, le-ltb}
 use Rattle.text.specs.Writing.{put}
 use Rattle.predicate.proofs.Bools.{chosen, passed_over}
@@ -47,31 +46,31 @@ module _ (memory text : List ℕ) where
       λ i. record { number = sym none i; text = same i }
 
 -- A length that passed the test.
-good : (c : tie.Else1) → bad_length (length c.before.before.before.before.args.memory.now) ≡ false
-good c = sym c.before.bad-length.ensures ∙ c.if1.false
+good : {bad : Bool} (memory : List ℕ) → bad ≡ bad_length (length memory) → bad ≡ false → bad_length (length memory) ≡ false
+good memory b e = sym b ∙ e
 
 -- It is no more than 4,096 words.
-few : (c : tie.Else1) → length c.before.before.before.before.args.memory.now ≤ 4096
-few c = (good_length (length c.before.before.before.before.args.memory.now) (good c)).1
+few : {bad : Bool} (memory : List ℕ) → bad ≡ bad_length (length memory) → bad ≡ false → length memory ≤ 4096
+few memory b e = (good_length (length memory) (good memory b e)).1
 
 pub returns-then-bad_length : goal.returns-then-bad_length
 returns-then-bad_length c =
-    let a = c.args in wrong a.memory.now a.text.now (sym c.bad_length.ensures ∙ c.if-bad_length.true)
+    let a = c.args in record { performed = wrong a.memory.now a.text.now (sym c.bad_length.ensures ∙ c.if-bad_length.true) }
 
 pub overflow_mul-memory : goal.overflow_mul-memory
-overflow_mul-memory c = omega (arith, few c)
+overflow_mul-memory c = omega (arith, few c.args.memory.now c.bad_length.ensures c.if-bad_length.false)
 
 pub overflow_add-memory : goal.overflow_add-memory
-overflow_add-memory c = omega (arith, few c)
+overflow_add-memory c = omega (arith, few c.args.memory.now c.bad_length.ensures c.if-bad_length.false)
 
 pub returns-then-text-memory : goal.returns-then-text-memory
 returns-then-text-memory c =
-    let a = c.args in short a.memory.now a.text.now (good c) c.if-text-memory.true
+    let a = c.args in record { performed = short a.memory.now a.text.now (good c.args.memory.now c.bad_length.ensures c.if-bad_length.false) c.if-text-memory.true }
 
 pub put_memory-requires : goal.put_memory-requires
-put_memory-requires c = (good c, c.if-text-memory.false)
+put_memory-requires c = (good c.args.memory.now c.bad_length.ensures c.if-bad_length.false, c.if-text-memory.false)
 
 pub returns : goal.returns
 returns c =
     let a = c.args in
-    taken a.memory.now a.text.now (good c) c.if-text-memory.false c.put_memory.ensures
+    record { performed = taken a.memory.now a.text.now (good c.args.memory.now c.bad_length.ensures c.if-bad_length.false) c.if-text-memory.false c.put_memory.ensures }

@@ -1,7 +1,6 @@
 -- `hex::reading::address_of` meets its contract.
 use Prim.Native.Nat.{◌+◌, ◌*◌}
 use mathlib.Core.Path.{sym, ◌∙◌}
-use borrow.Author.Rules.{rules}
 use Rattle.intel_hex.proofs.Fronts.{front-address}
 use Rattle.intel_hex.proofs.reading.address_of.Goals as goal
 

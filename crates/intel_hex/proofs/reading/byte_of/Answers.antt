@@ -1,6 +1,5 @@
 -- `hex::reading::byte_of` meets its contract.
 use native.Mathlib.Omega.{arith}
-use borrow.Author.Rules.{rules}
 use Rattle.intel_hex.proofs.Digits.{digits-write, none_written_lem, byte-most}
 use Rattle.intel_hex.proofs.reading.byte_of.Goals as goal
 

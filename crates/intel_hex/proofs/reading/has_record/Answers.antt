@@ -6,7 +6,6 @@ use mathlib.Core.Bool.{Bool, ◌&&◌}
 use native.Mathlib.Omega.{arith}
 use lib.Dec.{eqb}
 use lib.ListN.{length, drop, length-drop}
-use borrow.Author.Rules.{rules}
 use Rattle.board.specs.Hex.{bytes_in, all_bytes, sum_of}
 use Rattle.predicate.proofs.Bools.{split}
 use Rattle.intel_hex.specs.Storing.{Totals}

@@ -1,6 +1,9 @@
-use Prim.Native.Nat.{◌+◌, ◌*◌, ◌-◌, ◌≤◌}
-use mathlib.Core.Path.{ap, ◌∙◌}
+use Prim.Native.Nat.{ℕ, ◌+◌, ◌*◌, ◌≤◌}
+use mathlib.Core.Path.{◌≡◌, ap, ◌∙◌}
+use mathlib.Core.List.{List}
+use mathlib.Core.Bool.{true, ◌&&◌}
 use native.Mathlib.Omega.{arith}
+use lib.Dec.{ltb}
 use lib.ListN.{length}
 use borrow.Author.Rules.{rules}
 use Rattle.intel_hex.specs.Storing.{front_of}
@@ -24,28 +27,28 @@ pub overflow_add-at : goal.overflow_add-at
 overflow_add-at c = record { fits = omega (arith, some_next c.loop-n.n c.loop-n-test.true) }
 
 -- The next record ends within the text.
-ends : (c : tie.In-loop invariant-loop decreases-loop) → c.before.loop.at + (2 * c.before.loop.n + 12) ≤ length c.before.before.before.before.before.before.args.text.now
-ends c =
-    let some = some_next c.before.loop.n c.loop-test.true in
-    next-within c.before.loop.invariant some.0 some.1
+ends : {text : List ℕ} {at address n : ℕ} → Measuring text at address n → ltb 0 n && ltb n 256 ≡ true → at + (2 * n + 12) ≤ length text
+ends {text} {at} {address} {n} m e =
+    let some = some_next n e in
+    next-within m some.0 some.1
 
 pub overflow_add-at-in-loop-n : goal.overflow_add-at-in-loop-n
-overflow_add-at-in-loop-n c = record { fits = omega (arith, ends c) }
+overflow_add-at-in-loop-n c = record { fits = omega (arith, ends c.loop-n.invariant c.loop-n-test.true) }
 
 pub overflow_add-address : goal.overflow_add-address
-overflow_add-address c = record { fits = omega (arith, ends c, c.loop-n.invariant.fewer) }
+overflow_add-address c = record { fits = omega (arith, ends c.loop-n.invariant c.loop-n-test.true, c.loop-n.invariant.fewer) }
 
 pub slice_bounds-front-count : goal.slice_bounds-front-count
-slice_bounds-front-count c = ends c
+slice_bounds-front-count c = ends c.loop-n.invariant c.loop-n-test.true
 
 pub slice_bounds-front-start : goal.slice_bounds-front-start
-slice_bounds-front-start c = ends c
+slice_bounds-front-start c = ends c.loop-n.invariant c.loop-n-test.true
 
 pub slice_bounds-front-end : goal.slice_bounds-front-end
 slice_bounds-front-end c = search rules
 
 pub loop-n-smaller : goal.loop-n-smaller
-loop-n-smaller c = omega (arith, ends c)
+loop-n-smaller c = omega (arith, ends c.loop-n.invariant c.loop-n-test.true)
 
 pub loop-n-preserved : goal.loop-n-preserved
 loop-n-preserved c =

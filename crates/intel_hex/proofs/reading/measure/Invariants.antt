@@ -1,12 +1,7 @@
 -- `hex::reading::measure` meets its contract. The invariant: the records before `at` are looked through.
-use Prim.Native.Nat.{◌+◌, ◌*◌, ◌-◌, ◌≤◌}
-use mathlib.Core.Path.{ap, ◌∙◌}
-use native.Mathlib.Omega.{arith}
+use Prim.Native.Nat.{◌-◌}
 use lib.ListN.{length}
-use borrow.Author.Rules.{rules}
-use Rattle.intel_hex.specs.Storing.{front_of}
-use Rattle.intel_hex.proofs.Parsing.{tail}
-use Rattle.intel_hex.proofs.Measuring.{Measuring, some_next, none-next, measuring-begins, next-within, measuring-more, measuring-ends, measuring-stops}
+use Rattle.intel_hex.proofs.Measuring.{Measuring}
 use Rattle.intel_hex.proofs.reading.measure.Given as goal
 
 abbrev pub invariant-loop-n : goal.invariant-loop-n

@@ -1,9 +1,11 @@
-use Prim.Native.Nat.{◌+◌, ◌*◌, ◌-◌, ◌≤◌}
+use Prim.Native.Nat.{ℕ, ◌+◌, ◌*◌, ◌≤◌}
+use mathlib.Core.Path.{◌≡◌}
+use mathlib.Core.List.{List}
 use native.Mathlib.Omega.{arith}
 use lib.ListN.{get_or}
-use borrow.Author.Rules.{rules}
+use Rattle.board.specs.Hex.{hex_digit}
 use Rattle.intel_hex.proofs.Digits.{digit-most}
-use Rattle.intel_hex.proofs.Summing.{Summing, summing-begins, summing-more, summing-ends}
+use Rattle.intel_hex.proofs.Summing.{summing-begins, summing-more, summing-ends}
 use Rattle.intel_hex.proofs.reading.sum.Goals as goal
 
 pub loop-k-init : goal.loop-k-init
@@ -18,27 +20,28 @@ digit-high-requires c = c.requires.0
 pub digit-low-requires : goal.digit-low-requires
 digit-low-requires c = c.requires.0
 
+-- A digit is at most 16.
+most : {d : ℕ} (c : ℕ) → d ≡ hex_digit c → d ≤ 16
+most c e = omega (arith, digit-most c)
+
 -- Both digits are at most 16.
-both : (c : tie.After-digit2 invariant-loop decreases-loop) → (c.before.before.digit.result ≤ 16) × (c.digit2.result ≤ 16)
-both c =
-    let t = c.before.before.before.before.before.before.before.args.text.now in
-    let k = c.before.before.before.before.before.loop.k in
-    (omega (arith, c.before.before.digit.ensures, digit-most (get_or t (2 * k) 0)), omega (arith, c.digit2.ensures, digit-most (get_or t (2 * k + 1) 0)))
+both : {high low : ℕ} (text : List ℕ) (k : ℕ) → high ≡ hex_digit (get_or text (2 * k) 0) → low ≡ hex_digit (get_or text (2 * k + 1) 0) → (high ≤ 16) × (low ≤ 16)
+both text k h l = (most (get_or text (2 * k) 0) h, most (get_or text (2 * k + 1) 0) l)
 
 pub overflow_mul-bytes : goal.overflow_mul-bytes
-overflow_mul-bytes c = record { fits = omega (arith, both c, c.loop-k.invariant.most, c.loop-k.invariant.few, c.loop-k.invariant.within, c.requires) }
+overflow_mul-bytes c = record { fits = omega (arith, both c.args.text.now c.loop-k.k c.digit-high.ensures c.digit-low.ensures, c.loop-k.invariant.most, c.loop-k.invariant.few, c.loop-k.invariant.within, c.requires) }
 
 pub overflow_add-bytes : goal.overflow_add-bytes
-overflow_add-bytes c = record { fits = omega (arith, both c, c.loop-k.invariant.most, c.loop-k.invariant.few, c.loop-k.invariant.within, c.requires) }
+overflow_add-bytes c = record { fits = omega (arith, both c.args.text.now c.loop-k.k c.digit-high.ensures c.digit-low.ensures, c.loop-k.invariant.most, c.loop-k.invariant.few, c.loop-k.invariant.within, c.requires) }
 
 pub overflow_add-bytes-in-loop-k : goal.overflow_add-bytes-in-loop-k
-overflow_add-bytes-in-loop-k c = record { fits = omega (arith, both c, c.loop-k.invariant.most, c.loop-k.invariant.few, c.loop-k.invariant.within, c.requires) }
+overflow_add-bytes-in-loop-k c = record { fits = omega (arith, both c.args.text.now c.loop-k.k c.digit-high.ensures c.digit-low.ensures, c.loop-k.invariant.most, c.loop-k.invariant.few, c.loop-k.invariant.within, c.requires) }
 
 pub overflow_add-strays : goal.overflow_add-strays
-overflow_add-strays c = record { fits = omega (arith, both c, c.loop-k.invariant.most, c.loop-k.invariant.few, c.loop-k.invariant.within, c.requires) }
+overflow_add-strays c = record { fits = omega (arith, both c.args.text.now c.loop-k.k c.digit-high.ensures c.digit-low.ensures, c.loop-k.invariant.most, c.loop-k.invariant.few, c.loop-k.invariant.within, c.requires) }
 
 pub overflow_add-strays-in-loop-k : goal.overflow_add-strays-in-loop-k
-overflow_add-strays-in-loop-k c = record { fits = omega (arith, both c, c.loop-k.invariant.most, c.loop-k.invariant.few, c.loop-k.invariant.within, c.requires) }
+overflow_add-strays-in-loop-k c = record { fits = omega (arith, both c.args.text.now c.loop-k.k c.digit-high.ensures c.digit-low.ensures, c.loop-k.invariant.most, c.loop-k.invariant.few, c.loop-k.invariant.within, c.requires) }
 
 pub loop-k-preserved : goal.loop-k-preserved
 loop-k-preserved c = summing-more c.loop-k.invariant c.loop-k-test.true c.digit-high.ensures c.digit-low.ensures

@@ -1,10 +1,6 @@
 -- `hex::reading::sum` meets its contract. The invariant: the sum of the first `k` bytes, and how many of their characters are no digits.
-use Prim.Native.Nat.{◌+◌, ◌*◌, ◌-◌, ◌≤◌}
-use native.Mathlib.Omega.{arith}
-use lib.ListN.{get_or}
-use borrow.Author.Rules.{rules}
-use Rattle.intel_hex.proofs.Digits.{digit-most}
-use Rattle.intel_hex.proofs.Summing.{Summing, summing-begins, summing-more, summing-ends}
+use Prim.Native.Nat.{◌-◌}
+use Rattle.intel_hex.proofs.Summing.{Summing}
 use Rattle.intel_hex.proofs.reading.sum.Given as goal
 
 abbrev pub invariant-loop-k : goal.invariant-loop-k

@@ -1,6 +1,5 @@
 -- `hex::storing::count` meets its contract.
 use native.Mathlib.Omega.{arith}
-use borrow.Author.Rules.{rules}
 use Rattle.intel_hex.proofs.Parsing.{record-within}
 use Rattle.intel_hex.proofs.Fronts.{record-count}
 use Rattle.intel_hex.proofs.storing.count.Goals as goal

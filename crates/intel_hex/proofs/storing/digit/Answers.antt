@@ -1,5 +1,4 @@
 -- `hex::storing::digit` meets its contract.
-use borrow.Author.Rules.{rules}
 use Rattle.intel_hex.proofs.Digits.{digit-place}
 use Rattle.intel_hex.proofs.storing.digit.Goals as goal
 

@@ -1,6 +1,5 @@
 -- `hex::storing::eight_of` meets its contract.
 use native.Mathlib.Omega.{arith}
-use borrow.Author.Rules.{rules}
 use Rattle.intel_hex.specs.Lanes.{lanes}
 use Rattle.intel_hex.specs.Storing.{eight_of}
 use Rattle.intel_hex.proofs.storing.eight_of.Goals as goal

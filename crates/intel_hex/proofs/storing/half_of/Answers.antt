@@ -3,7 +3,6 @@ use Prim.Native.Nat.{ℕ, ◌≤◌, ◌<◌}
 use mathlib.Core.Path.{ap, ◌∙◌}
 use native.Mathlib.Omega.{arith}
 use lib.Bits.{and_le_l, and_le_r}
-use borrow.Author.Rules.{rules}
 use Rattle.intel_hex.proofs.Whole.{digits_from, bytes_from, twos_from, half_from, half-right}
 use Rattle.intel_hex.proofs.storing.half_of.Goals as goal
 

@@ -1,4 +1,4 @@
-use Prim.Native.Nat.{ℕ, ◌+◌, ◌*◌, ◌-◌, ◌≤◌}
+use Prim.Native.Nat.{ℕ, ◌+◌, ◌*◌}
 use mathlib.Core.Path.{◌≡◌, sym, ap, subst, ◌∙◌}
 use mathlib.Core.List.{List}
 use mathlib.Core.Bool.{true}
@@ -18,22 +18,14 @@ count-n-requires c = filling-there c.requires.0
 pub loop-n-init : goal.loop-n-init
 loop-n-init c = storing-begins c.requires.0 c.count-n.ensures
 
--- The record ends within the text.
-ends : (c : tie.In-loop invariant-loop decreases-loop) → c.before.loop.at + (2 * c.before.loop.n + 12) ≤ length c.before.before.before.before.before.args.text.now
-ends c = storing-within c.before.loop.invariant
-
--- Its bytes fit into the row.
-fits : (c : tie.In-loop invariant-loop decreases-loop) → c.before.loop.from + c.before.loop.n ≤ 8 * length c.before.loop.row
-fits c = (storing-fits c.before.loop.invariant c.loop-test.true).1
-
 pub overflow_add-at : goal.overflow_add-at
-overflow_add-at c = record { fits = omega (arith, ends c) }
+overflow_add-at c = record { fits = omega (arith, storing-within c.loop-n.invariant) }
 
 pub slice_bounds-store_part-count : goal.slice_bounds-store_part-count
-slice_bounds-store_part-count c = omega (arith, ends c)
+slice_bounds-store_part-count c = omega (arith, storing-within c.loop-n.invariant)
 
 pub slice_bounds-store_part-start : goal.slice_bounds-store_part-start
-slice_bounds-store_part-start c = omega (arith, ends c)
+slice_bounds-store_part-start c = omega (arith, storing-within c.loop-n.invariant)
 
 pub slice_bounds-store_part-end : goal.slice_bounds-store_part-end
 slice_bounds-store_part-end c = search rules
@@ -42,29 +34,29 @@ pub store_part-requires : goal.store_part-requires
 store_part-requires c =
     let l = c.loop-n in
     let t = c.args.text.now in (
-      omega (arith, ap length (tail (l.at + 9) t), length-drop (l.at + 9) t, ends c),
+      omega (arith, ap length (tail (l.at + 9) t), length-drop (l.at + 9) t, storing-within c.loop-n.invariant),
       subst (λ (u : List ℕ). all_bytes (bytes_in l.n u) ≡ true) (sym (tail (l.at + 9) t)) (storing-fits l.invariant c.loop-n-test.true).0,
-      fits c,
+      (storing-fits c.loop-n.invariant c.loop-n-test.true).1,
       omega (arith, l.invariant.size, c.requires.1),
     )
 
 pub overflow_mul-at : goal.overflow_mul-at
-overflow_mul-at c = record { fits = omega (arith, ends c) }
+overflow_mul-at c = record { fits = omega (arith, storing-within c.loop-n.invariant) }
 
 pub overflow_add-at-in-loop-n : goal.overflow_add-at-in-loop-n
-overflow_add-at-in-loop-n c = record { fits = omega (arith, ends c) }
+overflow_add-at-in-loop-n c = record { fits = omega (arith, storing-within c.loop-n.invariant) }
 
 pub overflow_add-at-in-loop-n-2 : goal.overflow_add-at-in-loop-n-2
-overflow_add-at-in-loop-n-2 c = record { fits = omega (arith, ends c) }
+overflow_add-at-in-loop-n-2 c = record { fits = omega (arith, storing-within c.loop-n.invariant) }
 
 pub overflow_add-from : goal.overflow_add-from
-overflow_add-from c = record { fits = omega (arith, fits c, c.loop-n.invariant.size, c.requires.1) }
+overflow_add-from c = record { fits = omega (arith, (storing-fits c.loop-n.invariant c.loop-n-test.true).1, c.loop-n.invariant.size, c.requires.1) }
 
 pub slice_bounds-count-count : goal.slice_bounds-count-count
-slice_bounds-count-count c = ends c
+slice_bounds-count-count c = storing-within c.loop-n.invariant
 
 pub slice_bounds-count-start : goal.slice_bounds-count-start
-slice_bounds-count-start c = ends c
+slice_bounds-count-start c = storing-within c.loop-n.invariant
 
 pub slice_bounds-count-end : goal.slice_bounds-count-end
 slice_bounds-count-end c = search rules
@@ -75,7 +67,7 @@ count-n-requires-in-loop-n c =
     subst (λ (u : List ℕ). has_record u ≡ true) (sym (tail (l.at + (2 * l.n + 12)) c.args.text.now)) (storing-next l.invariant c.loop-n-test.true)
 
 pub loop-n-smaller : goal.loop-n-smaller
-loop-n-smaller c = omega (arith, ends c)
+loop-n-smaller c = omega (arith, storing-within c.loop-n.invariant)
 
 pub loop-n-preserved : goal.loop-n-preserved
 loop-n-preserved c =

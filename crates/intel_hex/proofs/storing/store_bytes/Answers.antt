@@ -1,20 +1,10 @@
-use Prim.Native.Nat.{◌+◌, ◌*◌, ◌-◌, ◌/◌, ◌<◌}
+use Prim.Native.Nat.{◌+◌, ◌/◌}
 use native.Mathlib.Omega.{arith}
-use lib.ListN.{get_or}
-use borrow.Author.Rules.{rules}
-use Rattle.board.specs.Hex.{byte_of}
-use Rattle.intel_hex.proofs.Stored.{text-byte, Filled, filled-begins, filled_more, filled-ends}
+use Rattle.intel_hex.proofs.Stored.{text-byte, filled-begins, filled_more, filled-ends}
 use Rattle.intel_hex.proofs.storing.store_bytes.Goals as goal
 
 pub loop-k-init : goal.loop-k-init
 loop-k-init c = filled-begins _ _ _ _
-
--- The next byte is one.
-is_byte : (c : tie.In-loop invariant-loop decreases-loop) →
-    byte_of (get_or c.before.before.before.before.args.text.now (2 * c.before.loop.k) 0) (get_or c.before.before.before.before.args.text.now (2 * c.before.loop.k + 1) 0) < 256
-is_byte c =
-    let s = c.before.before.before.before in
-    text-byte s.args.n s.args.text.now c.before.loop.k s.requires.1 c.loop-test.true
 
 pub overflow_add-word : goal.overflow_add-word
 overflow_add-word c = record { fits = omega (arith, c.requires, c.loop-k.invariant.within, c.loop-k.invariant.size, c.loop-k-test.true) }
@@ -41,13 +31,13 @@ pub bounds-text-k-in-loop-k : goal.bounds-text-k-in-loop-k
 bounds-text-k-in-loop-k c = omega (arith, c.requires, c.loop-k.invariant.within, c.loop-k.invariant.size, c.loop-k-test.true)
 
 pub byte_of-requires : goal.byte_of-requires
-byte_of-requires c = is_byte c
+byte_of-requires c = text-byte c.args.n c.args.text.now c.loop-k.k c.requires.1 c.loop-k-test.true
 
 pub overflow_mul-row : goal.overflow_mul-row
-overflow_mul-row c = record { fits = omega (arith, c.byte_of.ensures, is_byte c) }
+overflow_mul-row c = record { fits = omega (arith, c.byte_of.ensures, text-byte c.args.n c.args.text.now c.loop-k.k c.requires.1 c.loop-k-test.true) }
 
 pub overflow_add-row : goal.overflow_add-row
-overflow_add-row c = record { fits = omega (arith, c.byte_of.ensures, is_byte c, c.slice_known-in-loop-k-1.given ((c.args.from + c.loop-k.k) / 8)) }
+overflow_add-row c = record { fits = omega (arith, c.byte_of.ensures, text-byte c.args.n c.args.text.now c.loop-k.k c.requires.1 c.loop-k-test.true, c.slice_known-in-loop-k-1.given ((c.args.from + c.loop-k.k) / 8)) }
 
 pub offset_bounds-row-word-in-loop-k : goal.offset_bounds-row-word-in-loop-k
 offset_bounds-row-word-in-loop-k c = record { fits = omega (arith, c.requires, c.loop-k.invariant.within, c.loop-k.invariant.size, c.loop-k-test.true) }

@@ -1,10 +1,6 @@
 -- `hex::storing::store_bytes` meets its contract. The invariant: the first `k` bytes are stored.
-use Prim.Native.Nat.{◌+◌, ◌*◌, ◌-◌, ◌/◌, ◌<◌}
-use native.Mathlib.Omega.{arith}
-use lib.ListN.{get_or}
-use borrow.Author.Rules.{rules}
-use Rattle.board.specs.Hex.{byte_of}
-use Rattle.intel_hex.proofs.Stored.{text-byte, Filled, filled-begins, filled_more, filled-ends}
+use Prim.Native.Nat.{◌-◌}
+use Rattle.intel_hex.proofs.Stored.{Filled}
 use Rattle.intel_hex.proofs.storing.store_bytes.Given as goal
 
 abbrev pub invariant-loop-k : goal.invariant-loop-k

@@ -4,7 +4,6 @@ use mathlib.Core.Path.{◌≡◌, sym, subst, ◌∙◌}
 use mathlib.Core.Bool.{true, ◌&&◌}
 use native.Mathlib.Omega.{arith}
 use lib.Dec.{eqb}
-use borrow.Author.Rules.{rules}
 use borrow.Author.Tests.{eqb-true}
 use Rattle.predicate.proofs.Bools.{and_left, and_right}
 use Rattle.board.specs.Hex.{bytes_in, all_bytes}
@@ -29,7 +28,7 @@ store_bytes-requires c = c.requires
 pub returns-then-from-n : goal.returns-then-from-n
 returns-then-from-n c =
     let w = eights c.args.from c.args.n c.if-from-n.true in
-    c.store_words_lem.ensures ∙ (λ i. stored c.args.row.now (w.0 i) (bytes_in (w.1 i) c.args.text.now))
+    c.store_words.ensures ∙ (λ i. stored c.args.row.now (w.0 i) (bytes_in (w.1 i) c.args.text.now))
 
 pub returns-else-from-n : goal.returns-else-from-n
 returns-else-from-n c = c.store_bytes.ensures

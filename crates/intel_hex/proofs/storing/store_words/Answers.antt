@@ -1,4 +1,4 @@
-use Prim.Native.Nat.{ℕ, ◌+◌, ◌*◌, ◌-◌}
+use Prim.Native.Nat.{ℕ, ◌+◌, ◌*◌}
 use mathlib.Core.Path.{◌≡◌, sym, ap, subst, ◌∙◌}
 use mathlib.Core.List.{List}
 use mathlib.Core.Bool.{true}
@@ -7,7 +7,7 @@ use lib.ListN.{length, drop, length-drop}
 use borrow.Author.Rules.{rules}
 use Rattle.board.specs.Hex.{bytes_in, all_bytes, word_of}
 use Rattle.intel_hex.proofs.Parsing.{tail}
-use Rattle.intel_hex.proofs.Whole.{all-part, WordsFilled, words-begin, words_more, words-end}
+use Rattle.intel_hex.proofs.Whole.{all-part, words-begin, words_more, words-end}
 use Rattle.intel_hex.proofs.storing.store_words.Goals as goal
 
 pub loop-i-init : goal.loop-i-init

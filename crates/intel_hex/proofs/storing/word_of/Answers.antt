@@ -1,11 +1,10 @@
 -- `hex::storing::word_of` meets its contract: a word is its two halves.
-use Prim.Native.Nat.{ℕ, ◌<◌}
+use Prim.Native.Nat.{ℕ, ◌-◌, ◌<◌}
 use mathlib.Core.Path.{◌≡◌, sym, ap, subst, ◌∙◌}
 use mathlib.Core.List.{List}
 use mathlib.Core.Bool.{true}
 use native.Mathlib.Omega.{arith}
-use lib.ListN.{length, drop, length-drop}
-use borrow.Author.Rules.{rules}
+use lib.ListN.{length, take, drop, length-drop}
 use Rattle.board.specs.Hex.{bytes_in, all_bytes, word_of}
 use Rattle.intel_hex.proofs.Parsing.{tail}
 use Rattle.intel_hex.proofs.Whole.{all-part, halves-write, half-under}
@@ -29,23 +28,20 @@ half_of-requires-2 c =
     )
 
 -- What the second call answers.
-high : (c : tie.After-half-of2) → c.half-of2.result ≡ word_of (bytes_in 4 (drop 8 c.before.before.before.before.args.text.now))
-high c = c.half-of2.ensures ∙ ap (λ (u : List ℕ). word_of (bytes_in 4 u)) (tail 8 c.before.before.before.before.args.text.now)
+high : {half : ℕ} (text : List ℕ) → half ≡ word_of (bytes_in 4 (take (length text - 8) (drop 8 text))) → half ≡ word_of (bytes_in 4 (drop 8 text))
+high text e = e ∙ ap (λ (u : List ℕ). word_of (bytes_in 4 u)) (tail 8 text)
 
 -- Both are halves.
-both : (c : tie.After-half-of2) → (c.before.before.half_of_lem.result < 4294967296) × (c.half-of2.result < 4294967296)
-both c =
-    let s = c.before.before.before.before in
-    let t = s.args.text.now in (
-      omega (arith, c.before.before.half_of_lem.ensures, half-under t (low-bytes t s.requires.1)),
-      omega (arith, high c, half-under (drop 8 t) (high-bytes t s.requires.1)),
-    )
+both : {low above : ℕ} (text : List ℕ) → all_bytes (bytes_in 8 text) ≡ true → low ≡ word_of (bytes_in 4 text) →
+    above ≡ word_of (bytes_in 4 (take (length text - 8) (drop 8 text))) → (low < 4294967296) × (above < 4294967296)
+both text all l h =
+    (omega (arith, l, half-under text (low-bytes text all)), omega (arith, high text h, half-under (drop 8 text) (high-bytes text all)))
 
 pub overflow_mul-result : goal.overflow_mul-result
-overflow_mul-result c = record { fits = omega (arith, both c) }
+overflow_mul-result c = record { fits = omega (arith, both c.args.text.now c.requires.1 c.half_of.ensures c.half_of-2.ensures) }
 
 pub overflow_add-result : goal.overflow_add-result
-overflow_add-result c = record { fits = omega (arith, both c) }
+overflow_add-result c = record { fits = omega (arith, both c.args.text.now c.requires.1 c.half_of.ensures c.half_of-2.ensures) }
 
 pub returns : goal.returns
-returns c = omega (arith, c.half_of_lem.ensures, high c, halves-write c.args.text.now)
+returns c = omega (arith, c.half_of.ensures, high c.args.text.now c.half_of-2.ensures, halves-write c.args.text.now)

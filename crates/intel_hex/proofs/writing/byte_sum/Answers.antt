@@ -2,8 +2,7 @@
 use Prim.Native.Nat.{◌+◌, ◌/◌, ◌%◌}
 use mathlib.Core.Path.{refl, ap₂}
 use native.Mathlib.Omega.{arith}
-use borrow.Author.Rules.{rules}
-use Rattle.intel_hex.proofs.Lanes.{spaced-under, halves-fit, word_sum}
+use Rattle.intel_hex.proofs.Lanes.{spaced-under, word_sum}
 use Rattle.intel_hex.proofs.writing.byte_sum.Goals as goal
 
 pub overflow_add-twos : goal.overflow_add-twos
@@ -17,7 +16,9 @@ overflow_add-fours c =
     record { fits = omega (arith, c.spread.ensures, c.spread-2.ensures, spaced-under (w % 4294967296), spaced-under (w / 4294967296)) }
 
 pub overflow_add-result : goal.overflow_add-result
-overflow_add-result c = record { fits = halves-fit _ (add-fours c).ranges }
+overflow_add-result c =
+    let w = c.args.word in
+    record { fits = omega (arith, c.spread.ensures, c.spread-2.ensures, spaced-under (w % 4294967296), spaced-under (w / 4294967296)) }
 
 pub returns : goal.returns
 returns c = word_sum c.args.word _ _ (ap₂ ◌+◌ c.spread.ensures c.spread-2.ensures) refl

@@ -1,7 +1,6 @@
 -- `hex::writing::put_byte` meets its contract: a byte's pair of characters.
 use mathlib.Core.Path.{refl}
 use native.Mathlib.Omega.{arith}
-use borrow.Author.Rules.{rules}
 use Rattle.intel_hex.proofs.Lanes.{byte-text}
 use Rattle.intel_hex.proofs.Written.{written_as}
 use Rattle.intel_hex.proofs.writing.put_byte.Goals as goal

@@ -2,7 +2,6 @@
 use mathlib.Core.Path.{refl, subst}
 use Prim.Native.Nat.{ℕ}
 use native.Mathlib.Omega.{arith}
-use borrow.Author.Rules.{rules}
 use Rattle.intel_hex.specs.Lanes.{Paired}
 use Rattle.intel_hex.proofs.Lanes.{half-text}
 use Rattle.intel_hex.proofs.Written.{written_as, follows}

@@ -1,33 +1,26 @@
 -- `hex::writing::put_head` meets its contract: a colon, and the digits of four bytes behind it.
-use mathlib.Core.Path.{◌≡◌, refl}
+use mathlib.Core.Path.{refl}
 use native.Mathlib.Omega.{arith}
-use lib.ListN.{length, set, length-set}
-use borrow.Author.Rules.{rules}
+use lib.ListN.{length-set}
 use Rattle.text.specs.Ascii.{':'}
 use Rattle.board.specs.Hex.{bytes_text}
 use Rattle.intel_hex.proofs.Written.{byte_put, written_as, follows}
 use Rattle.intel_hex.proofs.writing.put_head.Goals as goal
 
--- The colon keeps the length.
-kept : (s : tie.Start) → length (set s.args.text.now s.args.at ':') ≡ length s.args.text.now
-kept s = length-set s.args.text.now s.args.at ':'
-
 pub put_byte-requires : goal.put_byte-requires
 put_byte-requires c = simp length-set (omega arith)
 
 pub put_byte-requires-2 : goal.put_byte-requires-2
-put_byte-requires-2 c = omega (arith, kept c)
+put_byte-requires-2 c = omega (arith, length-set c.args.text.now c.args.at ':')
 
 pub put_byte-requires-3 : goal.put_byte-requires-3
-put_byte-requires-3 c = omega (arith, kept c)
+put_byte-requires-3 c = omega (arith, length-set c.args.text.now c.args.at ':')
 
 pub put_byte-requires-4 : goal.put_byte-requires-4
-put_byte-requires-4 c =
-    omega (arith, kept c)
+put_byte-requires-4 c = omega (arith, length-set c.args.text.now c.args.at ':')
 
 pub shape_of-text : goal.shape_of-text
-shape_of-text c =
-    omega (arith, kept c)
+shape_of-text c = omega (arith, length-set c.args.text.now c.args.at ':')
 
 pub returns : goal.returns
 unfolding bytes_text

@@ -1,43 +1,38 @@
-use Prim.Native.Nat.{◌*◌, ◌-◌, ◌%◌, ◌≤◌}
-use mathlib.Core.Path.{◌≡◌, refl, sym, ap, ◌∙◌}
+use Prim.Native.Nat.{◌*◌}
+use mathlib.Core.Path.{refl, sym, ap, ◌∙◌}
 use native.Mathlib.Omega.{arith}
-use lib.ListN.{length, drop}
-use borrow.Author.Rules.{rules}
+use lib.ListN.{length}
 use Rattle.text.specs.Writing.{put}
-use Rattle.board.specs.Hex.{hex_from, hex_text, record_text, bytes_text, sum_of}
+use Rattle.board.specs.Hex.{record_text, bytes_text, sum_of}
 use Rattle.intel_hex.proofs.Written.{good_length, record-put, end-left}
 use Rattle.intel_hex.proofs.writing.put_memory.Goals as goal
-
--- The memory has an even number of words, and not too many.
-good : (s : tie.Start invariant-loop decreases-loop) → (length s.args.memory.now % 8 ≡ 0) × (length s.args.memory.now ≤ 4096)
-good s = good_length (length s.args.memory.now) s.requires.0
 
 pub loop-i-init : goal.loop-i-init
 loop-i-init c = (omega arith, refl, refl, refl)
 
 pub overflow_mul-i : goal.overflow_mul-i
-overflow_mul-i c = omega (arith, good c)
+overflow_mul-i c = omega (arith, good_length (length c.args.memory.now) c.requires.0)
 
 pub overflow_mul-i-in-loop-i : goal.overflow_mul-i-in-loop-i
-overflow_mul-i-in-loop-i c = omega (arith, good c)
+overflow_mul-i-in-loop-i c = omega (arith, good_length (length c.args.memory.now) c.requires.0)
 
 pub overflow_cast-i : goal.overflow_cast-i
-overflow_cast-i c = omega (arith, good c)
+overflow_cast-i c = omega (arith, good_length (length c.args.memory.now) c.requires.0)
 
 pub offset_bounds-memory-i-in-loop-i : goal.offset_bounds-memory-i-in-loop-i
-offset_bounds-memory-i-in-loop-i c = omega (arith, good c)
+offset_bounds-memory-i-in-loop-i c = omega (arith, good_length (length c.args.memory.now) c.requires.0)
 
 pub bounds-memory-i-in-loop-i : goal.bounds-memory-i-in-loop-i
-bounds-memory-i-in-loop-i c = omega (arith, good c)
+bounds-memory-i-in-loop-i c = omega (arith, good_length (length c.args.memory.now) c.requires.0)
 
 pub put_record-requires : goal.put_record-requires
-put_record-requires c = omega (arith, good c)
+put_record-requires c = omega (arith, good_length (length c.args.memory.now) c.requires.0)
 
 pub loop-i-preserved : goal.loop-i-preserved
 loop-i-preserved c =
     let l = c.loop-i in
     let p = c.put_record in
-    let g = good c in (
+    let g = good_length (length c.args.memory.now) c.requires.0 in (
       omega arith,
       omega arith,
       p.auto.text ∙ l.invariant.2,
@@ -45,7 +40,7 @@ loop-i-preserved c =
     )
 
 pub overflow_mul-i-2 : goal.overflow_mul-i-2
-overflow_mul-i-2 c = omega (arith, good c)
+overflow_mul-i-2 c = omega (arith, good_length (length c.args.memory.now) c.requires.0)
 
 pub put_text-requires : goal.put_text-requires
 put_text-requires c = omega arith

@@ -3,7 +3,6 @@ use Prim.Native.Nat.{◌/◌, ◌%◌}
 use mathlib.Core.Path.{refl}
 use native.Mathlib.Omega.{arith}
 use lib.ListN.{length-set}
-use borrow.Author.Rules.{rules}
 use Rattle.text.proofs.Places.{byte_more}
 use Rattle.board.specs.Hex.{low_bytes}
 use Rattle.intel_hex.proofs.Written.{byte_put, written_as}

@@ -1,7 +1,6 @@
 -- `hex::writing::put_record` meets its contract: the record's parts stand one behind the other.
 use mathlib.Core.Path.{refl}
 use native.Mathlib.Omega.{arith}
-use borrow.Author.Rules.{rules}
 use Rattle.intel_hex.proofs.Written.{low_sum, record-parts, written_as, follows}
 use Rattle.intel_hex.proofs.writing.put_record.Goals as goal
 

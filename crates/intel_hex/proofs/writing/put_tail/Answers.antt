@@ -2,7 +2,6 @@
 use mathlib.Core.Path.{refl}
 use native.Mathlib.Omega.{arith}
 use lib.ListN.{length-set}
-use borrow.Author.Rules.{rules}
 use Rattle.text.specs.Ascii.{feed}
 use Rattle.text.proofs.Places.{byte_more}
 use Rattle.intel_hex.proofs.Written.{written_as}

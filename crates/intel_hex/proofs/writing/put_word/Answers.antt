@@ -2,7 +2,6 @@
 use Prim.Native.Nat.{◌/◌, ◌%◌}
 use mathlib.Core.Path.{refl, sym, ap, ◌∙◌}
 use native.Mathlib.Omega.{arith}
-use borrow.Author.Rules.{rules}
 use Rattle.board.specs.Hex.{bytes_text, low_bytes}
 use Rattle.intel_hex.proofs.Lanes.{eight-bytes}
 use Rattle.intel_hex.proofs.Written.{digits_append, written_as, follows}

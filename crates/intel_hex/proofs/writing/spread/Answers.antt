@@ -3,7 +3,6 @@ use Prim.Native.Nat.{◌+◌, ◌*◌, ◌/◌, ◌%◌}
 use mathlib.Core.Path.{refl}
 use native.Mathlib.Omega.{arith}
 use lib.Bits.{and_le_l, and_le_r}
-use borrow.Author.Rules.{rules}
 use Rattle.intel_hex.proofs.Lanes.{spread-bytes}
 use Rattle.intel_hex.proofs.writing.spread.Goals as goal
 
