@@ -12,8 +12,11 @@ use Rattle.session.proofs.Formats.{lines-within, format-down, format-up}
 use Rattle.session.proofs.format.Goals as goal
 
 -- Where the limits hold, the sizes are within them.
-abbrev inside : {lines workers : ℕ} {found : Bool} → found ≡ outside (shaped lines) workers → found ≡ false → outside (shaped lines) workers ≡ false
-inside e h = sym e ∙ h
+abbrev inside : (lines workers : ℕ) {found : Bool} → found ≡ outside (shaped lines) workers → found ≡ false → outside (shaped lines) workers ≡ false
+inside lines workers e h = sym e ∙ h
+
+bound : (lines workers : ℕ) {found : Bool} → found ≡ outside (shaped lines) workers → found ≡ false → lines ≤ 511
+bound lines workers e h = lines-within lines workers (inside lines workers e h)
 
 pub returns-then-outside : goal.returns-then-outside
 returns-then-outside c =
@@ -21,33 +24,33 @@ returns-then-outside c =
     record { by_index = (λ text. format-down a.lines a.workers (desk_of a.session a.memory.now a.cache.now text) (sym c.outside.ensures ∙ c.if-outside.true)); within_2 = c.requires.within }
 
 pub overflow_cast-lines : goal.overflow_cast-lines
-overflow_cast-lines c = omega (arith, (lines-within c.args.lines c.args.workers (inside {c.args.lines} {c.args.workers} c.outside.ensures c.if-outside.false)))
+overflow_cast-lines c = omega (arith, (bound c.args.lines c.args.workers c.outside.ensures c.if-outside.false))
 
 pub slice_bounds-format_rows-end : goal.slice_bounds-format_rows-end
-slice_bounds-format_rows-end c = omega (arith, (lines-within c.args.lines c.args.workers (inside {c.args.lines} {c.args.workers} c.outside.ensures c.if-outside.false)), c.row_words-words.ensures, c.requires.room.memory-room)
+slice_bounds-format_rows-end c = omega (arith, (bound c.args.lines c.args.workers c.outside.ensures c.if-outside.false), c.row_words-words.ensures, c.requires.room.memory-room)
 
 pub slice_bounds-format_rows-end-2 : goal.slice_bounds-format_rows-end-2
-slice_bounds-format_rows-end-2 c = part-size _ _ (let size : c.row_words-words.result ≤ length c.args.memory.now = omega (arith, (lines-within c.args.lines c.args.workers (inside {c.args.lines} {c.args.workers} c.outside.ensures c.if-outside.false)), c.row_words-words.ensures, c.requires.room.memory-room) in size)
+slice_bounds-format_rows-end-2 c = part-size _ _ (let size : c.row_words-words.result ≤ length c.args.memory.now = omega (arith, (bound c.args.lines c.args.workers c.outside.ensures c.if-outside.false), c.row_words-words.ensures, c.requires.room.memory-room) in size)
 
 pub slice_bounds-format_rows-end-3 : goal.slice_bounds-format_rows-end-3
 slice_bounds-format_rows-end-3 c =
-    omega (arith, (lines-within c.args.lines c.args.workers (inside {c.args.lines} {c.args.workers} c.outside.ensures c.if-outside.false)), c.row_words-words.ensures, c.requires.room.cache-room)
+    omega (arith, (bound c.args.lines c.args.workers c.outside.ensures c.if-outside.false), c.row_words-words.ensures, c.requires.room.cache-room)
 
 pub slice_bounds-format_rows-end-4 : goal.slice_bounds-format_rows-end-4
-slice_bounds-format_rows-end-4 c = part-size _ _ (let size : c.row_words-words.result ≤ length c.args.cache.now = omega (arith, (lines-within c.args.lines c.args.workers (inside {c.args.lines} {c.args.workers} c.outside.ensures c.if-outside.false)), c.row_words-words.ensures, c.requires.room.cache-room) in size)
+slice_bounds-format_rows-end-4 c = part-size _ _ (let size : c.row_words-words.result ≤ length c.args.cache.now = omega (arith, (bound c.args.lines c.args.workers c.outside.ensures c.if-outside.false), c.row_words-words.ensures, c.requires.room.cache-room) in size)
 
 pub format_rows-next-requires : goal.format_rows-next-requires
-format_rows-next-requires c = lines-within c.args.lines c.args.workers (inside {c.args.lines} {c.args.workers} c.outside.ensures c.if-outside.false)
+format_rows-next-requires c = bound c.args.lines c.args.workers c.outside.ensures c.if-outside.false
 
 pub returns : goal.returns
 returns c =
     let r = c.format_rows-next in
     let a = c.args in
-    let within = lines-within c.args.lines c.args.workers (inside {c.args.lines} {c.args.workers} c.outside.ensures c.if-outside.false) in
+    let within = bound c.args.lines c.args.workers c.outside.ensures c.if-outside.false in
     let words = c.row_words-words.ensures in record {
       by_index = (λ text. format-up a.lines a.workers c.row_words-words.result a.session.state r.result (desk_of a.session a.memory.now a.cache.now text)
-          a.memory.now a.cache.now r.new.memory r.new.cache words (inside {c.args.lines} {c.args.workers} c.outside.ensures c.if-outside.false) refl
-          (let size : c.row_words-words.result ≤ length c.args.memory.now = omega (arith, (lines-within c.args.lines c.args.workers (inside {c.args.lines} {c.args.workers} c.outside.ensures c.if-outside.false)), c.row_words-words.ensures, c.requires.room.memory-room) in size) (let size : c.row_words-words.result ≤ length c.args.cache.now = omega (arith, (lines-within c.args.lines c.args.workers (inside {c.args.lines} {c.args.workers} c.outside.ensures c.if-outside.false)), c.row_words-words.ensures, c.requires.room.cache-room) in size)
+          a.memory.now a.cache.now r.new.memory r.new.cache words (inside c.args.lines c.args.workers c.outside.ensures c.if-outside.false) refl
+          (let size : c.row_words-words.result ≤ length c.args.memory.now = omega (arith, (bound c.args.lines c.args.workers c.outside.ensures c.if-outside.false), c.row_words-words.ensures, c.requires.room.memory-room) in size) (let size : c.row_words-words.result ≤ length c.args.cache.now = omega (arith, (bound c.args.lines c.args.workers c.outside.ensures c.if-outside.false), c.row_words-words.ensures, c.requires.room.cache-room) in size)
           r.auto.memory r.auto.cache r.ensures);
       within_2 = record { memory-within = omega (arith, within, words); cache-within = omega (arith, within, words); text-within = c.requires.within.text-within };
     }
