@@ -13,8 +13,11 @@ returns-then-number-ne0 c =
     let told = c.refused.ensures in
     let read = c.read-number in
     let words = c.words_for-words in
-    let a = c.args in record { shows = refused-shown _ _ told
-          ∙ text-down a.text.now a.memory.now read.new.text words.result read.result c.requires.0 words.ensures.1 words.ensures.0 read.ensures.performed c.if-number-ne0.true; within = (omega (arith, told.1), omega (arith, told.2)) }
+    let a = c.args in record {
+      shows = refused-shown _ _ told
+          ∙ text-down a.text.now a.memory.now read.new.text words.result read.result c.requires.0 words.ensures.1 words.ensures.0 read.ensures.performed c.if-number-ne0.true;
+      within = (omega (arith, told.1), omega (arith, told.2));
+    }
 
 pub slice_bounds-show_memory-end : goal.slice_bounds-show_memory-end
 slice_bounds-show_memory-end c =
