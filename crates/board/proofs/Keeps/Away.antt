@@ -51,13 +51,13 @@ begun-off requested place f =
 record Idle (k : Condition) : Type 0 where
   none_left : (σ : Shape) (cache : List ℕ) (u : Unfinished) → WorkerInv σ cache k u → u ≡ none
   fits-none : (σ : Shape) (cache : List ℕ) (u : Unfinished) → u ≡ none → WorkerInv σ cache k u
-  no_cell_lem : (d : ℕ) → Touches k d → ⊥
+  no_cell : (d : ℕ) → Touches k d → ⊥
 
 free-idle : Idle Free
-free-idle = record { none_left = λ σ cache u e. e; fits-none = λ σ cache u e. e; no_cell_lem = λ d t. t }
+free-idle = record { none_left = λ σ cache u e. e; fits-none = λ σ cache u e. e; no_cell = λ d t. t }
 
 away-idle : Idle Away
-away-idle = record { none_left = λ σ cache u e. e; fits-none = λ σ cache u e. e; no_cell_lem = λ d t. t }
+away-idle = record { none_left = λ σ cache u e. e; fits-none = λ σ cache u e. e; no_cell = λ d t. t }
 
 -- A worker under W of a running board that goes from one condition without an update to another.
 module _ (r : Run) (w : ℕ) (k k' : Condition) (inv : Inv r) (d : r.crashed ≡ false) (runs : not_running r.board ≡ false) (there : no_worker r.board.state w ≡ false) (at : condition_of r.board.state w ≡ k) (old : Idle k) (new : Idle k') where

@@ -1,0 +1,6 @@
+-- The condition is the worker's.
+use borrow.Author.Rules.{rules}
+use Rattle.checks.proofs.holders.updates_under.Goals as goal
+
+pub returns : goal.returns
+returns c = rw (c.data_under.ensures, c.condition_of.ensures)

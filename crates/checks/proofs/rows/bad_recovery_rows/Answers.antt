@@ -1,0 +1,6 @@
+-- The length's test is the leaf's.
+use borrow.Author.Rules.{rules}
+use Rattle.checks.proofs.rows.bad_recovery_rows.Goals as goal
+
+pub returns : goal.returns
+returns c s = rw c.bad_length.ensures

@@ -1,0 +1,6 @@
+-- The holders are those that the leaf gives.
+use borrow.Author.Rules.{rules}
+use Rattle.effects.proofs.holders.lock_taken.Goals as goal
+
+pub returns : goal.returns
+returns c = rw (c.locked.ensures, c.held_by.ensures)

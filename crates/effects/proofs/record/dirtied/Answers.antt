@@ -1,0 +1,6 @@
+-- The words are those that the leaf gives.
+use borrow.Author.Rules.{rules}
+use Rattle.effects.proofs.record.dirtied.Goals as goal
+
+pub returns : goal.returns
+returns c = rw c.inserted-dirty.ensures

@@ -1,0 +1,9 @@
+-- `script::reasons::byte_at` meets its contract: past the line's end there is no byte.
+use mathlib.Core.Path.{sym}
+use native.Mathlib.Omega.{arith}
+use lib.ListN.{get_or-eq_default}
+use borrow.Author.Rules.{rules}
+use Rattle.script.proofs.reasons.byte_at.Goals as goal
+
+pub returns : goal.returns
+returns c = sym (get_or-eq_default c.args.line.now 0 (omega arith))

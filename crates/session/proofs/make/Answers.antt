@@ -1,0 +1,18 @@
+-- `session::make` meets its contract: the parts lent are within the rows.
+use mathlib.Core.Path.{refl}
+use native.Mathlib.Omega.{arith}
+use lib.ListN.{take}
+use borrow.Author.Rules.{rules}
+use Rattle.session.specs.Lines.{repeated}
+use Rattle.session.proofs.Rows.{part-size}
+use Rattle.session.proofs.Acts.{made}
+use Rattle.session.proofs.make.Goals as goal
+
+pub returns : goal.returns
+unfolding repeated
+returns c =
+    let p = c.repeat-r in
+    let a = c.args in
+    let s = a.session in record { by_index = (λ text. made s.memory s.cache a.memory.now a.cache.now p.new.1.1.0 p.new.1.1.1.0
+          c.requires.memory-fits c.requires.cache-fits p.auto.1.1.0 p.auto.1.1.1.0
+          a.call s.state p.result.state p.result.number p.result.value (take s.text text) p.ensures); memory_value = (refl, refl, refl) }

@@ -1,0 +1,34 @@
+-- `session::print` meets its contract: the text row is the first bytes of an array, all of them 0xAA.
+use mathlib.Core.Path.{refl, ◌∙◌}
+use native.Mathlib.Omega.{arith}
+use borrow.Author.Rules.{rules}
+use Rattle.session.proofs.Rows.{part-size}
+use Rattle.session.specs.Session.{desk_of}
+use Rattle.session.proofs.Acts.{by_parts}
+use Rattle.session.proofs.Pages.{back-size, page-off, page-shown}
+use Rattle.session.proofs.print.Goals as goal
+
+pub returns-then-room-gt70000 : goal.returns-then-room-gt70000
+returns-then-room-gt70000 c =
+    let a = c.args in
+    record { by_index = (λ text. by_parts a.memory.now a.cache.now text c.unknown.ensures ∙ page-off _ a.room c.if-room-gt70000.true); session_value = c.unknown.ensures.0 }
+
+pub slice_bounds-put_page-end : goal.slice_bounds-put_page-end
+slice_bounds-put_page-end c = part-size _ _ (search rules)
+
+pub slice_bounds-text-end-2 : goal.slice_bounds-text-end-2
+slice_bounds-text-end-2 c =
+    let room = c.args.room in
+    let row = c.text_row-text.result in
+    let page = c.put_page-number in
+    omega (arith, back-size room row page.new.1.1.1.0 (search rules) page.auto.1.1.1.0)
+
+pub slice_bounds-bytes_checksum-end : goal.slice_bounds-bytes_checksum-end
+slice_bounds-bytes_checksum-end c = part-size _ _ (array-share-prefix-text c)
+
+pub returns : goal.returns
+returns c =
+    let a = c.args in
+    let row = c.text_row-text in
+    let page = c.put_page-number in
+    record { by_index = (λ text. page-shown (desk_of a.session a.memory.now a.cache.now text) a.room page.result c.bytes_checksum-sum.result row.result page.new.1.1.1.0 (omega arith) row.ensures (search rules) page.auto.1.1.1.0 page.ensures c.bytes_checksum-sum.ensures); session_value = refl }

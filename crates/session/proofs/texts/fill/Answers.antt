@@ -1,0 +1,15 @@
+use Prim.Native.Nat.{◌-◌}
+use native.Mathlib.Omega.{arith}
+use lib.ListN.{length}
+use borrow.Author.Rules.{rules}
+use Rattle.session.proofs.Rows.{FilledUpTo, filled_none, filled_more, filled-all}
+use Rattle.session.proofs.texts.fill.Goals as goal
+
+pub loop-i-init : goal.loop-i-init
+loop-i-init c = filled_none 170 c.args.row.now
+
+pub loop-i-preserved : goal.loop-i-preserved
+loop-i-preserved c = filled_more c.loop-i.invariant (omega arith)
+
+pub returns : goal.returns
+returns c = filled-all c.loop-i.invariant (omega arith)
