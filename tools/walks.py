@@ -33,12 +33,13 @@ def clauses(kind):
 
 
 def references():
-    """The parameters of each function that are references, by its name."""
+    """The parameters of each function that are no plain numbers, by its name."""
     found = {}
     for path in glob.glob("crates/*/src/**/*.rt", recursive=True):
         text = open(path, encoding="utf-8").read()
         for m in re.finditer(r"(?m)^ *(?:pub )?fn (\w+)\s*\(([^)]*)\)", text):
-            found[m.group(1)] = re.findall(r"(\w+)\s*:\s*&", m.group(2))
+            found[m.group(1)] = [n for n, of in re.findall(r"(\w+)\s*:\s*([^,]+)", m.group(2))
+                                 if not re.fullmatch(r"(?:[ui](?:8|16|32|64|size)|bool|char)\s*", of)]
     return found
 
 
@@ -166,7 +167,8 @@ def in_step(step, rest):
         return ["ensures", fields[0]] + rest[1:]
     if len(rest) >= 2 and rest[0] == "ensures" and rest[1].isdigit() and fields and int(rest[1]) < len(fields):
         rest[1] = fields[int(rest[1])]
-    if len(rest) >= 2 and rest[0] in ("new", "auto"):
+    if len(rest) >= 2 and rest[0] in ("new", "auto", "last", "kept"):
+        rest[0] = {"last": "new", "kept": "auto"}.get(rest[0], rest[0])
         k = 1
         while k < len(rest) and rest[k] == "1":
             k += 1

@@ -11,11 +11,16 @@ mod workloads;
 
 use rounds::{Plan, Workload};
 use script::Number;
+use std::io;
+use std::rt::Env;
 
 // The argument at `i` as a number, 0 where it is none.
-fn argument(i: usize) -> u64 {
-    let mut text = io::buffer();
-    let n = os::arg(i, &mut text);
+fn argument<R: Env>(rt: &R, i: usize) -> u64 {
+    let mut text = [0u8; 4096];
+    let n = match rt.arg(i, &mut text) {
+        Ok(n) => n,
+        Err(_) => 0,
+    };
     match script::decimal(&text[..n]) {
         Number::Value(value) => value,
         Number::Bad => 0,
@@ -39,22 +44,22 @@ fn checksum(kind: Workload, plan: Plan, rounds: u32) -> u64
 }
 
 // A kind or a size that is not allowed prints nothing.
-fn main() {
-    let kind = rounds::numbered(argument(1));
+fn main(rt: HostRuntime) -> io::Result<()> {
+    let kind = rounds::numbered(argument(&rt, 1));
     if let Workload::Unknown = kind {
-        return;
+        return Ok(());
     }
-    let lines = argument(2);
-    let workers = argument(3);
-    let n = argument(4);
-    let rounds = argument(5);
-    let seed = argument(6);
+    let lines = argument(&rt, 2);
+    let workers = argument(&rt, 3);
+    let n = argument(&rt, 4);
+    let rounds = argument(&rt, 5);
+    let seed = argument(&rt, 6);
     if lines > 511 || workers < 1 || workers > 8 || rounds > 0xffff_ffff || seed == 0 {
-        return;
+        return Ok(());
     }
     let cells = board::cells(lines as u16);
     if workers >= cells || n < workers || n > cells {
-        return;
+        return Ok(());
     }
     let plan = Plan {
         lines: lines as u16,
@@ -64,8 +69,7 @@ fn main() {
         seed,
     };
     if !rounds::has_lines(kind, plan) {
-        return;
+        return Ok(());
     }
-    io::print_decimal(1, checksum(kind, plan, rounds as u32));
-    io::write_all(1, b"\n");
+    rt.println(checksum(kind, plan, rounds as u32))
 }

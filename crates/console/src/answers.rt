@@ -9,7 +9,7 @@ use script::{Line, Program, Shown};
 use session::Session;
 
 // The lines answered `?`: how many, and the first one's number and the number of its reason.
-#[derive(Drop)]
+#[derive(Clone, Copy)]
 pub struct Misread {
     pub lines: u64,
     pub first: u64,
@@ -18,7 +18,7 @@ pub struct Misread {
 
 // What is carried from piece to piece: the session, the lines answered and those answered `?`, and how many bytes of the
 // line begun are kept.
-#[derive(Drop)]
+#[derive(Clone, Copy)]
 pub struct Ongoing {
     pub session: Session,
     pub number: u64,

@@ -3,6 +3,6 @@
 
 use script::Program;
 
-fn main() {
-    shell::run(Program::Drill);
+fn main(rt: HostRuntime) {
+    shell::run(&rt, Program::Drill);
 }

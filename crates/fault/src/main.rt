@@ -3,6 +3,6 @@
 
 use script::Program;
 
-fn main() {
-    shell::run(Program::Fault);
+fn main(rt: HostRuntime) {
+    shell::run(&rt, Program::Fault);
 }

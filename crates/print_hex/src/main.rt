@@ -3,6 +3,6 @@
 
 use script::Program;
 
-fn main() {
-    shell::run(Program::Hex);
+fn main(rt: HostRuntime) {
+    shell::run(&rt, Program::Hex);
 }

@@ -3,6 +3,6 @@
 
 use script::Program;
 
-fn main() {
-    shell::run(Program::Page);
+fn main(rt: HostRuntime) {
+    shell::run(&rt, Program::Page);
 }

@@ -17,8 +17,8 @@ use console::answers::Ongoing;
 use console::printing::LastPrintout;
 use console::{answers, printing};
 pub use display::show_input;
-use libc::{STDIN_FILENO, STDOUT_FILENO};
 use script::Program;
+use std::io::Read;
 
 // What is carried on, and whether to go on.
 #[derive(Drop)]
@@ -28,14 +28,16 @@ struct Reached {
 }
 
 // The first `n` bytes of `out`, written; false where that fails, which is told.
-fn write(program: Program, out: &[u8], n: usize) -> bool
+fn write<R: Print + Eprint>(rt: &R, program: Program, out: &[u8], n: usize) -> bool
     requires { n ≤ length out.now }
 {
-    if io::write_all(STDOUT_FILENO, &out[..n]) {
-        return true;
+    match rt.write_all(&out[..n]) {
+        Ok(()) => true,
+        Err(error) => {
+            messages::writing_failed(rt, program, error);
+            false
+        }
     }
-    messages::writing_failed(program);
-    false
 }
 
 // Whether a program answers line by line, and not at the end of the input alone.
@@ -49,17 +51,18 @@ fn answers_lines(program: Program) -> bool {
 }
 
 // Answers, the first `n` bytes of `out`, written, where the program answers line by line.
-fn show(program: Program, out: &[u8], n: usize) -> bool
+fn show<R: Print + Eprint>(rt: &R, program: Program, out: &[u8], n: usize) -> bool
     requires { n ≤ length out.now }
 {
     if answers_lines(program) {
-        return write(program, out, n);
+        return write(rt, program, out, n);
     }
     true
 }
 
 // A piece, answered and written as much at a time as the buffer holds.
-fn converse(
+fn converse<R: Print + Eprint>(
+    rt: &R,
     program: Program,
     progress: Ongoing,
     memory: &mut [u64; 4104],
@@ -87,7 +90,7 @@ fn converse(
             &piece[used..],
             out,
         );
-        more = show(program, out, r.written);
+        more = show(rt, program, out, r.written);
         used += r.used;
         reached = r.progress;
     }
@@ -99,23 +102,24 @@ fn converse(
 
 // What is to be printed at the input's end, the first bytes of the text row, written, or why there is nothing; and which
 // lines were no calls.
-fn print_last(program: Program, last: LastPrintout, row: &[u8])
+fn print_last<R: Print + Eprint>(rt: &R, program: Program, last: LastPrintout, row: &[u8])
     requires { last.bytes ≤ length row.now }
 {
     let misread = last.misread;
     let mut wrote = true;
     if last.number == 0 {
-        wrote = write(program, row, last.bytes);
+        wrote = write(rt, program, row, last.bytes);
     } else {
-        messages::refused(program, last.number);
+        messages::refused(rt, program, last.number);
     }
     if wrote {
-        messages::lines_misread(program, misread);
+        messages::lines_misread(rt, program, misread);
     }
 }
 
 // The page of the board that the input leaves.
-fn print_page(
+fn print_page<R: Print + Eprint>(
+    rt: &R,
     progress: Ongoing,
     memory: &mut [u64; 4104],
     cache: &mut [u64; 4104],
@@ -127,11 +131,12 @@ fn print_page(
     requires { Ready progress }
 {
     let last = printing::last_page(progress, memory, cache, text, line, out, row);
-    print_last(Program::Page, last, row);
+    print_last(rt, Program::Page, last, row);
 }
 
 // The memory that the input leaves, as HEX.
-fn print_hex(
+fn print_hex<R: Print + Eprint>(
+    rt: &R,
     progress: Ongoing,
     memory: &mut [u64; 4104],
     cache: &mut [u64; 4104],
@@ -143,12 +148,13 @@ fn print_hex(
     requires { Ready progress }
 {
     let last = printing::last_hex(progress, memory, cache, text, line, out, row);
-    print_last(Program::Hex, last, row);
+    print_last(rt, Program::Hex, last, row);
 }
 
 // The end of the input in a program that answers line by line: the last line is answered, where it lacks its line feed,
 // and it is said which lines were no calls.
-fn answer_last(
+fn answer_last<R: Print + Eprint>(
+    rt: &R,
     program: Program,
     progress: Ongoing,
     memory: &mut [u64; 4104],
@@ -160,15 +166,16 @@ fn answer_last(
     requires { Ready progress }
 {
     let last = answers::answer_last(program, progress, memory, cache, text, line, out);
-    if write(program, out, last.end) {
+    if write(rt, program, out, last.end) {
         let left = last.progress;
         let misread = left.misread;
-        messages::lines_misread(program, misread);
+        messages::lines_misread(rt, program, misread);
     }
 }
 
 // The end of the input: the page program prints the page, the HEX program memory's text, any other answers the last line.
-fn finish(
+fn finish<R: Print + Eprint>(
+    rt: &R,
     program: Program,
     progress: Ongoing,
     memory: &mut [u64; 4104],
@@ -180,21 +187,23 @@ fn finish(
     requires { Ready progress }
 {
     match program {
-        Program::Drill => answer_last(program, progress, memory, cache, text, line, out),
-        Program::Fault => answer_last(program, progress, memory, cache, text, line, out),
+        Program::Drill => answer_last(rt, program, progress, memory, cache, text, line, out),
+        Program::Fault => answer_last(rt, program, progress, memory, cache, text, line, out),
         Program::Page => {
             let mut row = page::text_row();
-            print_page(progress, memory, cache, text, line, out, &mut row);
+            print_page(rt, progress, memory, cache, text, line, out, &mut row);
         }
         Program::Hex => {
             let mut row = printing::hex_row();
-            print_hex(progress, memory, cache, text, line, out, &mut row);
+            print_hex(rt, progress, memory, cache, text, line, out, &mut row);
         }
     }
 }
 
 // Read, answer, write.
-fn turn(
+fn turn<I: Read, R: Print + Eprint>(
+    rt: &R,
+    reader: &mut I,
     program: Program,
     progress: Ongoing,
     memory: &mut [u64; 4104],
@@ -207,16 +216,13 @@ fn turn(
     requires { Ready progress }
     ensures { Ready result.progress }
 {
-    let got = libc::read(STDIN_FILENO, input);
-    let n = io::count(got, input);
-    if n > 0 {
-        let piece = &input[..n];
-        return converse(program, progress, memory, cache, text, line, piece, out);
-    }
-    if got < 0 {
-        messages::reading_failed(program);
-    } else {
-        finish(program, progress, memory, cache, text, line, out);
+    match reader.read(input) {
+        Ok(0) => finish(rt, program, progress, memory, cache, text, line, out),
+        Ok(n) => {
+            let piece = &input[..n];
+            return converse(rt, program, progress, memory, cache, text, line, piece, out);
+        }
+        Err(error) => messages::reading_failed(rt, program, error),
     }
     Reached {
         progress,
@@ -226,21 +232,24 @@ fn turn(
 
 // A script on standard input, its answers or what is printed at its end on standard output. Nothing says that the input ends, so the turns are counted
 // down, from a number that no run uses up.
-pub fn run(program: Program) {
+pub fn run<R: Input + Print + Eprint>(rt: &R, program: Program) {
     let mut memory = [0u64; 4104];
     let mut cache = [0u64; 4104];
     let mut text = [0u8; 90200];
     let mut line = [0u8; 80];
-    let mut input = io::large_buffer();
-    let mut out = io::large_buffer();
+    let mut input = [0u8; 65536];
+    let mut out = [0u8; 65536];
+    let mut reader = rt.reader();
     let header = script::header();
     let mut reached = Reached {
         progress: answers::start(),
-        more: show(program, &header, 23),
+        more: show(rt, program, &header, 23),
     };
     let mut turns = u64::MAX;
     while turns > 0 && reached.more {
         reached = turn(
+            rt,
+            &mut reader,
             program,
             reached.progress,
             &mut memory,

@@ -1,98 +1,103 @@
 // What a program says on standard error: why it stops, why nothing is printed, and which lines were no calls. Document 01
 // fixes standard output alone; these words are ours, and the second program has the same.
 use console::answers::Misread;
-use libc::STDERR_FILENO;
 use script::Program;
+use std::io;
 
-// Some words.
-fn say(words: &[u8]) {
-    io::write_all(STDERR_FILENO, words);
+// Some words. Where that fails there is nobody to tell, here and below.
+fn say<R: Eprint>(rt: &R, words: &str) {
+    let _ = rt.eprint(words);
 }
 
 // A number in decimal.
-fn say_number(number: u64) {
-    io::print_decimal(STDERR_FILENO, number);
+fn say_number<R: Eprint>(rt: &R, number: u64) {
+    let _ = rt.eprint(number);
+}
+
+// What failed, and why by the system's words, in a line.
+fn fail<R: Eprint>(rt: &R, words: &str, error: io::Error) {
+    let _ = eprintln!(rt; "{words}: {error}");
 }
 
 // A program's name, which heads its messages.
-fn name(program: Program) {
+fn name<R: Eprint>(rt: &R, program: Program) {
     match program {
-        Program::Drill => say(b"drill: "),
-        Program::Fault => say(b"fault: "),
-        Program::Page => say(b"page: "),
-        Program::Hex => say(b"hex: "),
+        Program::Drill => say(rt, "drill: "),
+        Program::Fault => say(rt, "fault: "),
+        Program::Page => say(rt, "page: "),
+        Program::Hex => say(rt, "hex: "),
     }
 }
 
 // Reading failed, and why by the system's words.
-pub fn reading_failed(program: Program) {
+pub fn reading_failed<R: Eprint>(rt: &R, program: Program, error: io::Error) {
     match program {
-        Program::Drill => os::fail(b"drill: reading failed"),
-        Program::Fault => os::fail(b"fault: reading failed"),
-        Program::Page => os::fail(b"page: reading failed"),
-        Program::Hex => os::fail(b"hex: reading failed"),
+        Program::Drill => fail(rt, "drill: reading failed", error),
+        Program::Fault => fail(rt, "fault: reading failed", error),
+        Program::Page => fail(rt, "page: reading failed", error),
+        Program::Hex => fail(rt, "hex: reading failed", error),
     }
 }
 
 // Writing failed, and why by the system's words.
-pub fn writing_failed(program: Program) {
+pub fn writing_failed<R: Eprint>(rt: &R, program: Program, error: io::Error) {
     match program {
-        Program::Drill => os::fail(b"drill: writing failed"),
-        Program::Fault => os::fail(b"fault: writing failed"),
-        Program::Page => os::fail(b"page: writing failed"),
-        Program::Hex => os::fail(b"hex: writing failed"),
+        Program::Drill => fail(rt, "drill: writing failed", error),
+        Program::Fault => fail(rt, "fault: writing failed", error),
+        Program::Page => fail(rt, "page: writing failed", error),
+        Program::Hex => fail(rt, "hex: writing failed", error),
     }
 }
 
 // Why nothing is printed.
-pub fn refused(program: Program, number: u8) {
-    name(program);
+pub fn refused<R: Eprint>(rt: &R, program: Program, number: u8) {
+    name(rt, program);
     match number {
-        2 => say(b"refused by cause 2: phase doesn't allow the call\n"),
-        3 => say(b"refused by cause 3: state record\n"),
-        4 => say(b"refused by cause 4: rows\n"),
-        5 => say(b"refused by cause 5: header\n"),
-        12 => say(b"refused by cause 12: text row too short\n"),
-        14 => say(b"refused by cause 14: a mark greater than the epoch\n"),
-        19 => say(b"refused by cause 19: text that isn't such a file\n"),
-        20 => say(b"refused by cause 20: length\n"),
-        _ => say(b"refused\n"),
+        2 => say(rt, "refused by cause 2: phase doesn't allow the call\n"),
+        3 => say(rt, "refused by cause 3: state record\n"),
+        4 => say(rt, "refused by cause 4: rows\n"),
+        5 => say(rt, "refused by cause 5: header\n"),
+        12 => say(rt, "refused by cause 12: text row too short\n"),
+        14 => say(rt, "refused by cause 14: a mark greater than the epoch\n"),
+        19 => say(rt, "refused by cause 19: text that isn't such a file\n"),
+        20 => say(rt, "refused by cause 20: length\n"),
+        _ => say(rt, "refused\n"),
     }
 }
 
 // Why a line is no call, by the reason's number (`script::reason_number`).
-fn say_reason(number: u64) {
+fn say_reason<R: Eprint>(rt: &R, number: u64) {
     match number {
-        1 => say(b"over 79 bytes\n"),
-        2 => say(b"it begins with a byte-order mark\n"),
-        3 => say(b"a carriage return\n"),
-        4 => say(b"blanks where tabs belong\n"),
-        5 => say(b"an empty line\n"),
-        6 => say(b"unknown letter\n"),
-        7 => say(b"a number past 2^64 - 1\n"),
-        8 => say(b"a field that is no number\n"),
-        9 => say(b"too few or too many numbers\n"),
-        _ => say(b"a number that cannot be put there\n"),
+        1 => say(rt, "over 79 bytes\n"),
+        2 => say(rt, "it begins with a byte-order mark\n"),
+        3 => say(rt, "a carriage return\n"),
+        4 => say(rt, "blanks where tabs belong\n"),
+        5 => say(rt, "an empty line\n"),
+        6 => say(rt, "unknown letter\n"),
+        7 => say(rt, "a number past 2^64 - 1\n"),
+        8 => say(rt, "a field that is no number\n"),
+        9 => say(rt, "too few or too many numbers\n"),
+        _ => say(rt, "a number that cannot be put there\n"),
     }
 }
 
 // Which lines of an input were no calls: nothing where none was.
-pub fn lines_misread(program: Program, misread: Misread) {
+pub fn lines_misread<R: Eprint>(rt: &R, program: Program, misread: Misread) {
     let lines = misread.lines;
     if lines == 0 {
         return;
     }
-    name(program);
-    say(b"note: ");
+    name(rt, program);
+    say(rt, "note: ");
     if lines > 1 {
-        say_number(lines);
-        say(b" lines are no calls, the first is ");
+        say_number(rt, lines);
+        say(rt, " lines are no calls, the first is ");
     }
-    say(b"line ");
-    say_number(misread.first);
+    say(rt, "line ");
+    say_number(rt, misread.first);
     if lines == 1 {
-        say(b" is no call");
+        say(rt, " is no call");
     }
-    say(b": ");
-    say_reason(misread.why);
+    say(rt, ": ");
+    say_reason(rt, misread.why);
 }

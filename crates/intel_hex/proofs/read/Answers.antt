@@ -57,18 +57,20 @@ returns-then-not-measured c =
 pub returns-then-bad_length-measured : goal.returns-then-bad_length-measured
 returns-then-bad_length-measured c =
     let a = c.args in
-    record { performed = unfit a.text.now a.row.now (is-file c.args.text.now c.measure-measured.ensures.0 c.if-not-measured.false) (sym (fit-test c.args.text.now c.args.row.now c.bad_length.ensures c.measure-measured.ensures.1) ∙ c.if-bad_length-measured.true) }
+    let f = is-file a.text.now c.measure-measured.ensures.0 c.if-not-measured.false in
+    let m = fit-test a.text.now a.row.now c.bad_length.ensures c.measure-measured.ensures.1 in
+    record { performed = unfit a.text.now a.row.now f (sym m ∙ c.if-bad_length-measured.true) }
 
 pub store-requires : goal.store-requires
 store-requires c =
     let a = c.args in
-    let m = sym (fit-test c.args.text.now c.args.row.now c.bad_length.ensures c.measure-measured.ensures.1) ∙ c.if-bad_length-measured.false in
+    let m = sym (fit-test a.text.now a.row.now c.bad_length.ensures c.measure-measured.ensures.1) ∙ c.if-bad_length-measured.false in
     let bytes = read_bytes (parsed a.text.now) in
     let bad = bad_length (length a.row.now) in
     let wrong = not (eqb (length bytes) (8 * length a.row.now)) in (
       record {
         bytes = bytes;
-        parses = reads-to (parsed a.text.now) (is-file c.args.text.now c.measure-measured.ensures.0 c.if-not-measured.false);
+        parses = reads-to (parsed a.text.now) (is-file a.text.now c.measure-measured.ensures.0 c.if-not-measured.false);
         fills = eqb-true (length bytes) (8 * length a.row.now) (not-off _ (or_right bad wrong m));
       },
       (good_length (length a.row.now) (or_left bad wrong m)).1,
@@ -77,4 +79,6 @@ store-requires c =
 pub returns : goal.returns
 returns c =
     let a = c.args in
-    record { performed = taken a.text.now a.row.now (is-file c.args.text.now c.measure-measured.ensures.0 c.if-not-measured.false) (sym (fit-test c.args.text.now c.args.row.now c.bad_length.ensures c.measure-measured.ensures.1) ∙ c.if-bad_length-measured.false) c.store.ensures }
+    let f = is-file a.text.now c.measure-measured.ensures.0 c.if-not-measured.false in
+    let m = fit-test a.text.now a.row.now c.bad_length.ensures c.measure-measured.ensures.1 in
+    record { performed = taken a.text.now a.row.now f (sym m ∙ c.if-bad_length-measured.false) c.store.ensures }

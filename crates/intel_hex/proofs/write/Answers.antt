@@ -55,7 +55,8 @@ few memory b e = (good_length (length memory) (good memory b e)).1
 
 pub returns-then-bad_length : goal.returns-then-bad_length
 returns-then-bad_length c =
-    let a = c.args in record { performed = wrong a.memory.now a.text.now (sym c.bad_length.ensures ∙ c.if-bad_length.true) }
+    let a = c.args in
+    record { performed = wrong a.memory.now a.text.now (sym c.bad_length.ensures ∙ c.if-bad_length.true) }
 
 pub overflow_mul-memory : goal.overflow_mul-memory
 overflow_mul-memory c = omega (arith, few c.args.memory.now c.bad_length.ensures c.if-bad_length.false)
@@ -65,7 +66,9 @@ overflow_add-memory c = omega (arith, few c.args.memory.now c.bad_length.ensures
 
 pub returns-then-text-memory : goal.returns-then-text-memory
 returns-then-text-memory c =
-    let a = c.args in record { performed = short a.memory.now a.text.now (good c.args.memory.now c.bad_length.ensures c.if-bad_length.false) c.if-text-memory.true }
+    let a = c.args in
+    let g = good a.memory.now c.bad_length.ensures c.if-bad_length.false in
+    record { performed = short a.memory.now a.text.now g c.if-text-memory.true }
 
 pub put_memory-requires : goal.put_memory-requires
 put_memory-requires c = (good c.args.memory.now c.bad_length.ensures c.if-bad_length.false, c.if-text-memory.false)
@@ -73,4 +76,5 @@ put_memory-requires c = (good c.args.memory.now c.bad_length.ensures c.if-bad_le
 pub returns : goal.returns
 returns c =
     let a = c.args in
-    record { performed = taken a.memory.now a.text.now (good c.args.memory.now c.bad_length.ensures c.if-bad_length.false) c.if-text-memory.false c.put_memory.ensures }
+    let g = good a.memory.now c.bad_length.ensures c.if-bad_length.false in
+    record { performed = taken a.memory.now a.text.now g c.if-text-memory.false c.put_memory.ensures }

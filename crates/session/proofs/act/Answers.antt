@@ -18,13 +18,16 @@ returns-in-Make c =
 pub returns-in-Show : goal.returns-in-Show
 returns-in-Show c =
     let made = c.make-in-Show.ensures in
-    record { done = acted _ _ _ c.in-Show.is (made.0 c.args.text.now); within = same-within refl made.1 c.requires }
+    record { done = acted _ _ _ c.in-Show.is (made.by_index c.args.text.now); within = same-within refl made.memory_value c.requires }
 
 pub returns-in-Cut : goal.returns-in-Cut
 returns-in-Cut c =
     let a = c.args in
-    let w = c.cut.ensures.switched in record { done = acted _ _ _ c.in-Cut.is
-          (cut_off_lem a.session c.cut.result a.memory.now a.cache.now c.cut.new.1.0 a.text.now (search rules) w c.cut.ensures.cache_after); within = same-within refl (w.1, w.2, w.3) c.requires }
+    let w = c.cut.ensures.switched in record {
+      done = acted _ _ _ c.in-Cut.is
+          (cut_off_lem a.session c.cut.result a.memory.now a.cache.now c.cut.new.cache a.text.now (search rules) w c.cut.ensures.cache_after);
+      within = same-within refl (w.1, w.2, w.3) c.requires;
+    }
 
 pub returns-in-Damage : goal.returns-in-Damage
 returns-in-Damage c =
@@ -33,7 +36,7 @@ returns-in-Damage c =
 
 pub returns-in-Page : goal.returns-in-Page
 returns-in-Page c =
-    let print = c.print.ensures in record { done = acted _ _ _ c.in-Page.is (print.0 c.args.text.now); within = same-within print.1 (refl, refl, refl) c.requires }
+    let print = c.print.ensures in record { done = acted _ _ _ c.in-Page.is (print.by_index c.args.text.now); within = same-within print.session_value (refl, refl, refl) c.requires }
 
 pub returns-in-Text : goal.returns-in-Text
 returns-in-Text c =

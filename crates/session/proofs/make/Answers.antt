@@ -13,6 +13,9 @@ unfolding repeated
 returns c =
     let p = c.repeat-r in
     let a = c.args in
-    let s = a.session in record { by_index = (λ text. made s.memory s.cache a.memory.now a.cache.now p.new.1.1.0 p.new.1.1.1.0
-          c.requires.memory-fits c.requires.cache-fits p.auto.1.1.0 p.auto.1.1.1.0
-          a.call s.state p.result.state p.result.number p.result.value (take s.text text) p.ensures); memory_value = (refl, refl, refl) }
+    let s = a.session in record {
+      by_index = (λ text. made s.memory s.cache a.memory.now a.cache.now p.new.memory p.new.cache
+          c.requires.memory-fits c.requires.cache-fits p.auto.memory p.auto.cache
+          a.call s.state p.result.state p.result.number p.result.value (take s.text text) p.ensures);
+      memory_value = (refl, refl, refl);
+    }

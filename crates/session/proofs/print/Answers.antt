@@ -21,14 +21,16 @@ slice_bounds-text-end-2 c =
     let room = c.args.room in
     let row = c.text_row-text.result in
     let page = c.put_page-number in
-    omega (arith, back-size room row page.new.1.1.1.0 (search rules) page.auto.1.1.1.0)
+    omega (arith, back-size room row page.new.text (search rules) page.auto.text)
 
 pub slice_bounds-bytes_checksum-end : goal.slice_bounds-bytes_checksum-end
-slice_bounds-bytes_checksum-end c = part-size _ _ (array-share-prefix-text c)
+slice_bounds-bytes_checksum-end c =
+    let page = c.put_page-number in
+    part-size _ _ (omega (arith, back-size c.args.room c.text_row-text.result page.new.text (search rules) page.auto.text))
 
 pub returns : goal.returns
 returns c =
     let a = c.args in
     let row = c.text_row-text in
     let page = c.put_page-number in
-    record { by_index = (λ text. page-shown (desk_of a.session a.memory.now a.cache.now text) a.room page.result c.bytes_checksum-sum.result row.result page.new.1.1.1.0 (omega arith) row.ensures (search rules) page.auto.1.1.1.0 page.ensures c.bytes_checksum-sum.ensures); session_value = refl }
+    record { by_index = (λ text. page-shown (desk_of a.session a.memory.now a.cache.now text) a.room page.result c.bytes_checksum-sum.result row.result page.new.text (omega arith) row.ensures (search rules) page.auto.text page.ensures c.bytes_checksum-sum.ensures); session_value = refl }

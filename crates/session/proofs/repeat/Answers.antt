@@ -15,8 +15,8 @@ loop-left-preserved c =
     let p = c.perform-r in
     let l = c.loop-left in (
       one-call l.left _ (given l.number l.value (lent l.now l.memory l.cache)) _ (search rules) p.ensures.performed ∙ l.invariant.0,
-      p.auto.1.1.0 ∙ l.invariant.1,
-      p.auto.1.1.1.0 ∙ l.invariant.2,
+      p.auto.memory ∙ l.invariant.1,
+      p.auto.cache ∙ l.invariant.2,
     )
 
 pub returns : goal.returns

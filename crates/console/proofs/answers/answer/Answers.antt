@@ -12,7 +12,7 @@ returns-then-stop-piece c =
     let l = c.loop-at in
     let stop = c.feed_at-stop in
     let k = c.keep_rest in
-    let keeps = kept_by k.result l.reached l.memory l.cache l.text l.line k.new.rest _ k.ensures.keeps in (
+    let keeps = kept_by k.result l.reached l.memory l.cache l.text l.line k.new.line _ k.ensures.keeps in (
       rest_more a.program _ _ _ a.piece.now l.at l.invariant.5 (begun-short l.invariant.3 l.line) stop.result (omega arith) stop.ensures.0 c.if-stop-piece.true keeps,
       (
         record { used-within = omega arith; written-within = omega arith; buffer-full = λ h. absurd (omega arith); goes_on = λ h. omega arith },

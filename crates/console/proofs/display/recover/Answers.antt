@@ -9,7 +9,7 @@ returns-then-begun-ne0 c =
     let off = c.off in
     let a = c.args in
     record {
-      told = start-told a.memory.now a.cache.now r.new.1.1.0 off.result r.result.state r.result.number 0 off.ensures c.requires r.ensures.performed;
+      told = start-told a.memory.now a.cache.now r.new.cache off.result r.result.state r.result.number 0 off.ensures c.requires r.ensures.performed;
       leaves = λ z. absurd (c.if-begun-ne0.true z);
     }
 
@@ -20,8 +20,8 @@ returns c =
     let r = c.recovery_start-begun in
     let off = c.off in
     let a = c.args in
-    let from = start-told a.memory.now a.cache.now r.new.1.1.0 off.result r.result.state r.result.number 0 off.ensures c.requires r.ensures.performed in
+    let from = start-told a.memory.now a.cache.now r.new.cache off.result r.result.state r.result.number 0 off.ensures c.requires r.ensures.performed in
     record {
       told = omega (arith, from, none);
-      leaves = λ z. steps-recover a.memory.now a.cache.now r.new.1.1.0 off.result r.result.state r.result.number 0 off.ensures c.requires r.ensures.performed _ none (search rules) steps.ensures;
+      leaves = λ z. steps-recover a.memory.now a.cache.now r.new.cache off.result r.result.state r.result.number 0 off.ensures c.requires r.ensures.performed _ none (search rules) steps.ensures;
     }

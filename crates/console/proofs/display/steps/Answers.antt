@@ -14,8 +14,8 @@ loop-left-preserved c =
       ap (λ (o : Outcome). steps_from (l.left - 1) o.board) p.ensures.performed
           ∙ one-step l.left (lent l.now l.memory l.cache) (search rules)
           ∙ l.invariant.0,
-      p.auto.cache ∙ l.invariant.1,
-      p.auto.1.1.0 ∙ l.invariant.2,
+      p.auto.memory ∙ l.invariant.1,
+      p.auto.cache ∙ l.invariant.2,
     )
 
 pub returns : goal.returns

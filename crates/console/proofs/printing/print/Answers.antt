@@ -9,11 +9,11 @@ pub returns-then-number-ne0 : goal.returns-then-number-ne0
 returns-then-number-ne0 c =
     let a = c.args in
     let page = c.put_page-number in
-    record { prints = refused-printed (board_of a.session a.memory.now a.cache.now) a.row.now page.new.1.1.1.0 page.result (search rules) page.ensures c.if-number-ne0.true; within = omega arith }
+    record { prints = refused-printed (board_of a.session a.memory.now a.cache.now) a.row.now page.new.text page.result (search rules) page.ensures c.if-number-ne0.true; within = omega arith }
 
 pub returns : goal.returns
 returns c =
     let a = c.args in
     let page = c.put_page-number in
     let words = words-part a.session.cache a.cache.now (λ i. omega (arith, c.shared_slice_known-2-1.given i)) in
-    taken-printed (board_of a.session a.memory.now a.cache.now) a.row.now page.new.1.1.1.0 page.result (search rules) page.ensures c.page_bytes.result c.if-number-ne0.false c.page_bytes.ensures (λ l h. (page-holds.lines (take a.session.cache a.cache.now) words l h).size)
+    taken-printed (board_of a.session a.memory.now a.cache.now) a.row.now page.new.text page.result (search rules) page.ensures c.page_bytes.result c.if-number-ne0.false c.page_bytes.ensures (λ l h. (page-holds.lines (take a.session.cache a.cache.now) words l h).size)

@@ -87,4 +87,4 @@ returns c =
     let none : l.n ≡ 0 = omega arith in
     storing-ends (subst (λ (n : ℕ). Storing t r l.row l.at l.from n) none l.invariant)
     ∙ words-stored (length r) r 0 (read_bytes (parsed t)) (omega arith) (ap (λ (p : Parsed). length (read_bytes p)) c.requires.0.parses ∙ c.requires.0.fills)
-    (λ i h. (c.slice_known-1.given i).fits)
+    (λ i h. search rules)

@@ -1,4 +1,3 @@
-use Prim.Native.Nat.{◌+◌, ◌/◌}
 use native.Mathlib.Omega.{arith}
 use Rattle.intel_hex.proofs.Stored.{text-byte, filled-begins, filled_more, filled-ends}
 use Rattle.intel_hex.proofs.storing.store_bytes.Goals as goal
@@ -37,7 +36,7 @@ pub overflow_mul-row : goal.overflow_mul-row
 overflow_mul-row c = record { fits = omega (arith, c.byte_of.ensures, text-byte c.args.n c.args.text.now c.loop-k.k c.requires.1 c.loop-k-test.true) }
 
 pub overflow_add-row : goal.overflow_add-row
-overflow_add-row c = record { fits = omega (arith, c.byte_of.ensures, text-byte c.args.n c.args.text.now c.loop-k.k c.requires.1 c.loop-k-test.true, c.slice_known-in-loop-k-1.given ((c.args.from + c.loop-k.k) / 8)) }
+overflow_add-row c = record { fits = omega (arith, c.byte_of.ensures, text-byte c.args.n c.args.text.now c.loop-k.k c.requires.1 c.loop-k-test.true) }
 
 pub offset_bounds-row-word-in-loop-k : goal.offset_bounds-row-word-in-loop-k
 offset_bounds-row-word-in-loop-k c = record { fits = omega (arith, c.requires, c.loop-k.invariant.within, c.loop-k.invariant.size, c.loop-k-test.true) }

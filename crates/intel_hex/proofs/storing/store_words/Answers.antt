@@ -1,4 +1,4 @@
-use Prim.Native.Nat.{ℕ, ◌+◌, ◌*◌}
+use Prim.Native.Nat.{ℕ, ◌*◌}
 use mathlib.Core.Path.{◌≡◌, sym, ap, subst, ◌∙◌}
 use mathlib.Core.List.{List}
 use mathlib.Core.Bool.{true}
@@ -53,7 +53,7 @@ loop-i-smaller c = omega (arith, c.loop-i-test.true)
 pub loop-i-preserved : goal.loop-i-preserved
 loop-i-preserved c =
     let l = c.loop-i in
-    words_more l.invariant c.loop-i-test.true c.requires.2 (c.slice_known-1.given (c.args.from + l.i)).fits
+    words_more l.invariant c.loop-i-test.true c.requires.2 (search rules)
     (c.word_of.ensures ∙ ap (λ (u : List ℕ). word_of (bytes_in 8 u)) (tail (16 * l.i) c.args.text.now))
 
 pub shape_of-row : goal.shape_of-row
