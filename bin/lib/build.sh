@@ -1,6 +1,7 @@
 # Proving and building, for bin/build, bin/run-program and bin/library. Sourced, with bin/lib/signals.sh before it; needs
 # `top` (the tree) and `name` (who speaks). A program counts as built where target/built/PROGRAM has the hash of these very
-# sources, of the toolchain and of target/bin/PROGRAM; that stamp is written only after `rt check` has succeeded.
+# sources, of the toolchain and of target/bin/PROGRAM; that stamp is written only once it is proved, and was run, by `rt run`
+# here or by a `rt ci` that passed (.ci/take). What rt itself keeps lies in each crate's out/.
 . "$top/bin/lib/progress.sh"
 now=''  # the hash of the sources and the toolchain
 kit=''  # the toolchain's line about itself
@@ -9,7 +10,8 @@ none_left="no program is run"             # what is said where the proof fails
 
 # What the programs are made of: every source, the list of crates, and the toolchain.
 sources() {
-  (cd "$top" && find crates crates.txt -type f ! -path '*/must-fail/*' -print0 | LC_ALL=C sort -z | xargs -0 sha256sum) || return 1
+  (cd "$top" && find crates crates.txt -type f ! -path '*/must-fail/*' ! -path 'crates/*/out/*' -print0 |
+    LC_ALL=C sort -z | xargs -0 sha256sum) || return 1
   echo "$kit"
 }
 
@@ -54,29 +56,6 @@ lock() {
   attended flock 9 || :
 }
 
-# Removes what rt would take for proved though it is not there or is another's: the stamps of programs whose file is
-# missing, or is not the one that was built from these sources.
-distrust() { # CRATE..
-  local p stamp
-  for p in "$@"; do
-    stamp=$(cat "$top/target/built/$p" 2>/dev/null) || :
-    if [ ! -x "$top/target/bin/$p" ]; then rm -f "$top/target/stamp/$p"
-    elif [ "${stamp#"$now"}" != "$stamp" ] && [ "$stamp" != "$(stamp_of "$p")" ]; then rm -f "$top/target/stamp/$p"; fi
-    rm -f "$top/target/built/$p"
-  done
-}
-
-# Removes what a crate that is not proved may have left: a library or a program that rt was about to write. An archive for
-# C is not yet where bin/library puts it, so it may be half-written whatever is proved.
-half_written() {
-  local c
-  for c in "${crates[@]}"; do
-    rm -f "$top/target/staticlib/lib$c.a"
-    if [ -f "$top/target/stamp/$c" ]; then continue; fi
-    rm -rf "$top/target/rlib/$c.rlib" "$top/target/rlib/$c.rlib.tmp-"* "$top/target/obj/$c.o"* "$top/target/bin/$c"
-  done
-}
-
 # How many characters a line of the terminal has.
 width() {
   local size=''
@@ -85,31 +64,84 @@ width() {
   if [ "${size:-0}" -ge 40 ]; then echo "$size"; else echo 160; fi
 }
 
-# rt, in a process group of its own and with a folder for its temporary files that goes away.
-rt_alone() { cd "$top" && TMPDIR=$lent exec setsid rt "$@"; } # check | staticlib CRATE..
+# rt in a crate's folder, in a process group of its own and with a folder for its temporary files that goes away.
+rt_alone() { # CRATE WORD..
+  cd "$top/crates/$1" && TMPDIR=$lent exec setsid rt "${@:2}"
+}
 
-# Has rt prove and build, and tells of it.
-prove() { # CRATE..
-  local status=0 began=$SECONDS called
-  plan "$@"
-  new_folder lent 711
-  called=$(as_called "$@")
-  time_of_all
-  say "proving and building $called, ${#crates[@]} crates: from nothing it takes $words"
-  say "it may be stopped with Ctrl-C: what is proved is kept"
-  : >"$room/begin"
-  mkfifo "$room/pipe"
-  watch_signals
-  stage=proving
-  rt_alone check "$@" >"$room/pipe" 2>&1 </dev/null &
+# Whether a crate is a program.
+is_program() { [ -f "$top/crates/$1/src/main.rt" ]; } # CRATE
+
+# Starts rt on a crate: a library is proved and built, a program also run on its file stdin, with the words of its file
+# args. What rt says goes to the pipe, what the program writes to target/log/CRATE.stdout.
+start_rt() { # CRATE
+  local given=/dev/null words=()
+  if ! is_program "$1"; then rt_alone "$1" lib >"$room/pipe" 2>&1 </dev/null & return; fi
+  if [ -f "$top/crates/$1/stdin" ]; then given=$top/crates/$1/stdin; fi
+  if [ -f "$top/crates/$1/args" ]; then mapfile -t words <"$top/crates/$1/args"; fi
+  rt_alone "$1" run -- "${words[@]}" >"$top/target/log/$1.stdout" 2>"$room/pipe" <"$given" &
+}
+
+# What is wrong with a program's run, in words; nothing where it wrote and said what it should.
+wrong_run() { # CRATE STATUS
+  local wanted=/dev/null ends=0
+  if [ -f "$top/crates/$1/stdout" ]; then wanted=$top/crates/$1/stdout; fi
+  if [ -f "$top/crates/$1/status" ]; then ends=$(cat "$top/crates/$1/status"); fi
+  if [ "$2" -ne "$ends" ]; then echo "the program ended with status $2"
+  elif ! cmp -s "$top/target/log/$1.stdout" "$wanted"; then echo "what the program wrote is not what its file stdout has"; fi
+}
+
+# Has rt prove, and build, one crate, and says how it ended: proved, unchanged, failed, or ran where only its run is wrong.
+prove_one() { # CRATE
+  local status=0 began=$SECONDS why
+  crate_log=$top/target/log/$1.out
+  : >"$crate_log"
+  start_rt "$1"
   child=$!
   exec 4<"$room/pipe"
   follow
   exec 4<&-
   wait "$child" || status=$?
+  child=''
+  if is_program "$1" && grep -q '^rt: running out/' "$crate_log"; then
+    why=$(wrong_run "$1" "$status")
+    if [ -n "$why" ]; then tell "$1" ran "$why"; return 1; fi
+    status=0
+  fi
+  if [ "$status" -ne 0 ]; then tell "$1" failed "(exit $status, $((SECONDS - began)) s)"; return "$status"; fi
+  if grep -q '^logic=proved' "$crate_log"; then tell "$1" proved $((SECONDS - began)); else tell "$1" unchanged 0; fi
+}
+
+# Has rt prove and build crates and all that they stand on, one after the other, and tells of it. A crate that stands on
+# one that failed is not tried. The status is that of the first that failed.
+prove() { # CRATE..
+  local status=0 began=$SECONDS c s
+  plan "$@"
+  new_folder lent 711
+  mkdir -p "$top/target/log" "$top/target/bin"
+  time_of_all
+  say "proving and building $(as_called "$@"), ${#crates[@]} crates: from nothing it takes $words"
+  say "it may be stopped with Ctrl-C: what is proved is kept"
+  mkfifo "$room/pipe"
+  watch_signals
+  stage=proving
+  for c in "${crates[@]}"; do
+    if stands_on_failed "$c"; then continue; fi
+    prove_one "$c" || { s=$?; [ "$status" -ne 0 ] || status=$s; }
+  done
+  tell_unchanged
   child_ended
+  rm -f "$room/pipe"
   if [ "$status" -eq 0 ] && [ "$unchanged" -lt "${#crates[@]}" ]; then say "proved and built, in $((SECONDS - began)) s"; fi
   return "$status"
+}
+
+# Puts a program where it is run from, whole or not at all, and stamps it.
+place_program() { # CRATE
+  local from=$top/crates/$1/out/$1 to=$top/target/bin/$1
+  if cp "$from" "$to.new" 2>/dev/null && mv -f "$to.new" "$to" 2>/dev/null && stamp_of "$1" >"$top/target/built/$1"; then return; fi
+  rm -f "$to.new" "$top/target/built/$1" 2>/dev/null || :
+  refuse "nothing can be written to $top/target"
 }
 
 # Says why a build failed, and ends: 2 where the toolchain failed, else 1.
@@ -142,11 +174,11 @@ build() { # CRATE..
   lock
   if built "$@"; then exec 9>&-; return 0; fi
   read -r -a wanted <<<"$(together "$1")"
-  distrust "${wanted[@]}"
+  for p in "${wanted[@]}"; do rm -f "$top/target/built/$p"; done
   : >"$room/log"
   prove "${wanted[@]}" || status=$?
   if [ "$status" -ne 0 ]; then failed "$status"; fi
   unchanged_since
-  for p in "${wanted[@]}"; do stamp_of "$p" >"$top/target/built/$p"; done
+  for p in "${wanted[@]}"; do place_program "$p"; done
   exec 9>&-
 }

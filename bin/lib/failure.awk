@@ -1,10 +1,18 @@
-# What to look at after a failed `rt check`, from all that it printed: the lowest crate that failed by itself, the
-# functions in it that are not proved, its first errors, and the one log to read. At most some 20 lines.
+# What to look at after a failed build, from all that rt printed: the lowest crate that failed by itself, the functions in
+# it that are not proved, its first errors, and the one log to read. At most some 20 lines.
 # Run as: NAME=.. TOP=.. WIDTH=.. STATUS=.. awk -f failure.awk WHAT-RT-PRINTED
-# rt prints what the prover says of a crate, and then a line `rt: CRATE ..`: a section is what stands between two such.
+# What the prover says of a crate stands before a line `rt: CRATE ..` (bin/lib/progress.sh): a section is what stands
+# between two such.
 
-# A line without the tree's path, and no longer than the terminal is wide.
-function short(line, at) {
+# A line that names its file from the top of the tree (the prover names it from the crate's folder), no longer than the
+# terminal is wide.
+function short(line, at, front) {
+  if (culprit && line ~ /^  (note: )?(\.\/)?(src|specs|proofs)\//) {
+    front = line ~ /^  note: / ? "  note: " : "  "
+    line = substr(line, length(front) + 1)
+    sub(/^\.\//, "", line)
+    line = front "crates/" culprit "/" line
+  }
   while (at = index(line, top)) line = substr(line, 1, at - 1) substr(line, at + length(top))
   if (length(line) > width) {
     line = substr(line, 1, width - 3)
@@ -30,7 +38,7 @@ function keep(k) {
 function functions(k, callers, told) {
   for (k = 1; k <= kept; k++) {
     if (own[k] !~ /^(fn|enum|struct|union|const|static|impl|trait|type) .*: (not proved|no proof)/) continue
-    if (own[k] ~ /; it calls `/) { callers++; continue }
+    if (own[k] ~ /[:;] it calls `/) { callers++; continue }
     if (++told <= 6) show(own[k])
   }
   if (told > 6) show("and " told - 6 " more")
@@ -77,7 +85,7 @@ function reportCrate(how) {
 function reportRun() {
   say("the program of crate " ran " is proved, but what it did when it was tried is wrong:")
   last(4)
-  if (reason ~ /ended with status/) say("what it said is in " top "target/log/" ran ".stderr")
+  if (reason ~ /ended with status/) say("what it said is in " top "target/log/" ran ".out")
   else if (reason ~ /wrote is not/) say("what it wrote is in " top "target/log/" ran ".stdout, what it should in " top "crates/" ran "/stdout")
 }
 
@@ -99,15 +107,15 @@ BEGIN {
   lines = 0
   next
 }
-/^rt: [^ ]+ (proved|ran)[ ,]/ { lines = 0; next }
-/^rt: FAILED:/ { next }
+/^rt: [^ ]+ proved / { lines = 0; next }
+/^rt: running out\// { lines = 0; next }
 /^rt: / { why = $0; sub(/^rt: /, ""); sub(/^print_page: /, "") }
 { section[++lines] = $0 }
 
 END {
   if (culprit) reportCrate()
   else if (ran) reportRun()
-  else { say("rt check failed, with status " ENVIRON["STATUS"] ":"); keep(); last(6) }
+  else { say("rt failed, with status " ENVIRON["STATUS"] ":"); keep(); last(6) }
   if (others) say("not proved by themselves either:" others)
   if (above) say("not tried, since they stand on what is not proved: " above (above == 1 ? " crate" : " crates"))
 }

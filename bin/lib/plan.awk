@@ -1,5 +1,5 @@
-# The crates that the wanted ones stand on, and these themselves, in rt's own order: LEVEL NAME SECONDS DEPENDENCIES..
-# The crates of one level need nothing of each other, so rt proves them side by side.
+# The crates that the wanted ones stand on, and these themselves, each behind those that it needs: LEVEL NAME SECONDS
+# DEPENDENCIES.. The crates of one level need nothing of each other.
 # Run as: WANTED="NAME.." awk -f plan.awk weights.txt crates.txt
 function visit(name, many, k, l, needs) {
   if (name in level) return
@@ -22,8 +22,8 @@ NR == FNR { seconds[$1] = $2; next }
 {
   colon = index($0, ":")
   if (!colon) next
-  name = substr($0, 1, colon - 1)
-  gsub(/[ \t]/, "", name)
+  name = $1 # "staticlib" may stand behind it
+  sub(/:.*/, "", name)
   standsOn[name] = substr($0, colon + 1)
 }
 

@@ -1,51 +1,57 @@
-# How far a build is, for bin/lib/build.sh: what rt prints as it goes is heard line by line and told on standard error,
-# each crate with its place and with the time that is left. Sourced; needs `top` (the tree), `say` and `room`.
+# How far a build is, for bin/lib/build.sh: what rt prints as it goes is kept line by line, and each crate that has ended
+# is told on standard error, with its place and with the time that is left. Sourced; needs `top` (the tree), `say` and `room`.
 # What runs beside rt gives its result in a variable, named in its comment: bash 5.2 loses a signal that comes while it
 # reads a command in $( ), so there is none here.
-declare -a crates=()                                # the crates to be proved, in rt's order
-declare -A level=() seconds=() needs=()             # of each: its level, how long it may take, what it stands on
-declare -A ended=()                                 # of each that has ended: proved, unchanged or failed
-unchanged=0 counted='' measured=0 expected=0 jobs=1 reckoned=0 words='' kept=0
+declare -a crates=()                                # the crates to be proved, each behind those that it stands on
+declare -A seconds=() needs=()                      # of each: how long it may take, what it stands on
+declare -A ended=()                                 # of each that has ended: proved, unchanged, failed or ran (its run is wrong)
+crate_log=''                                        # the file that keeps what rt says of the crate at hand
+unchanged=0 counted='' measured=0 expected=0 reckoned=0 words='' kept=0
 
-# Reads the plan for the wanted programs, and how many crates rt will prove side by side.
+# Reads the plan for the wanted programs.
 plan() { # CRATE..
   local l name s rest
   while read -r l name s rest; do
-    crates+=("$name") level[$name]=$l seconds[$name]=$s needs[$name]=$rest
+    crates+=("$name") seconds[$name]=$s needs[$name]=$rest
   done < <(WANTED="$*" LC_ALL=C awk -f "$top/bin/lib/plan.awk" "$top/bin/lib/weights.txt" "$top/crates.txt")
-  jobs=${RT_JOBS:-$(nproc 2>/dev/null || echo 1)}
-  case $jobs in *[!0-9]* | 0) jobs=1 ;; esac
-  if [ -z "${RT_JOBS:-}" ] && [ "$jobs" -gt 4 ]; then jobs=4; fi
+}
+
+# Whether a crate stands on one that is not proved; then that is noted.
+stands_on_failed() { # CRATE
+  local d
+  for d in ${needs[$1]}; do
+    if [ "${ended[$d]-}" = failed ]; then
+      ended[$1]=failed
+      printf 'rt: %s NOT PROVED: its dependency %s is not proved\n' "$1" "$d" >>"$room/log"
+      return 0
+    fi
+  done
+  return 1
 }
 
 # Whether a crate that has not ended will be proved in this run: it has no stamp of rt's, or stands on one that is.
-# A crate that rt proves at this moment has none either: rt removes it first.
 comes() { # CRATE
   local d
-  if [ ! -f "$top/target/stamp/$1" ]; then return 0; fi
+  if [ ! -f "$top/crates/$1/out/rlib/stamp" ] && [ ! -f "$top/crates/$1/out/$1.stamp" ]; then return 0; fi
   for d in ${needs[$1]}; do
     if [ -n "${anew[$d]-}" ]; then return 0; fi
   done
   return 1
 }
 
-# Seconds for the crates that are left, or for all of them, in `reckoned`. rt waits for as many as it started side by
-# side, and for each level to end, and prints these then: where one of them has ended all have.
+# Seconds for the crates that are left, or for all of them, in `reckoned`: rt proves one after the other.
 reckon() { # left | all
-  local c at='' running=0 most=0 sum=0 over=''
+  local c sum=0
   local -A anew=()
   for c in "${crates[@]}"; do
-    if [ "${level[$c]}" != "$at" ] || [ "$running" -ge "$jobs" ]; then sum=$((sum + most)) most=0 running=0 over=''; fi
-    at=${level[$c]} running=$((running + 1))
     if [ "$1" = left ]; then
       if [ "${ended[$c]-}" = proved ]; then anew[$c]=1; fi
-      if [ -n "${ended[$c]-}" ]; then over=yes; continue; fi
-      if ! comes "$c"; then continue; fi
+      if [ -n "${ended[$c]-}" ] || ! comes "$c"; then continue; fi
     fi
     anew[$c]=1
-    if [ -z "$over" ] && [ "${seconds[$c]}" -gt "$most" ]; then most=${seconds[$c]}; fi
+    sum=$((sum + ${seconds[$c]}))
   done
-  reckoned=$((sum + most))
+  reckoned=$sum
 }
 
 # The time that is left, in `words`, at the pace of the crates so far: the ten seconds on both sides keep the first small
@@ -61,10 +67,11 @@ time_left() {
 
 # How long all takes from nothing, in `words`.
 time_of_all() {
-  local minutes cores="$jobs quiet cores"
+  local minutes cores
   reckon all
   minutes=$((reckoned / 60))
-  case $jobs in 1) cores="one quiet core" ;; 2) cores="two quiet cores" ;; esac
+  cores=$(nproc 2>/dev/null || echo 1)
+  case $cores in 1) cores="one quiet core" ;; 2) cores="two quiet cores" ;; *) cores="four quiet cores" ;; esac
   if [ "$minutes" -eq 0 ]; then words="less than a minute on $cores"
   else words="about $minutes to $((minutes + 1)) minutes on $cores"; fi
 }
@@ -78,14 +85,23 @@ tell_unchanged() {
   say "$unchanged of ${#crates[@]} crates are proved already; $words"
 }
 
-# A crate has ended: one that was proved or that failed is told, with its place and the time that is left.
-tell() { # CRATE HOW SECONDS
+# A crate has ended. One that was proved or that failed is told, with its place and the time that is left, and what rt said
+# of it is kept for a report.
+tell() { # CRATE HOW SECONDS | WHY
   local line
   ended[$1]=$2
-  if [ "$2" = unchanged ]; then unchanged=$((unchanged + 1)); return 0; fi
+  cat "$crate_log" >>"$room/log"
+  case $2 in
+    unchanged) unchanged=$((unchanged + 1)); return 0 ;;
+    failed) printf 'rt: %s NOT PROVED %s\n' "$1" "$3" >>"$room/log" ;;
+    ran) printf 'rt: %s\nrt: %s proved, and its run FAILED\n' "$3" "$1" >>"$room/log" ;;
+    proved) printf 'rt: %s proved (%s s)\n' "$1" "$3" >>"$room/log" ;;
+  esac
   tell_unchanged
   if [ "$2" = failed ]; then
     printf -v line '%2d of %d  %-12s NOT PROVED' "${#ended[@]}" "${#crates[@]}" "$1"
+  elif [ "$2" = ran ]; then
+    printf -v line '%2d of %d  %-12s proved, but its run is wrong' "${#ended[@]}" "${#crates[@]}" "$1"
   else
     measured=$((measured + $3)) expected=$((expected + ${seconds[$1]}))
     time_left
@@ -95,24 +111,12 @@ tell() { # CRATE HOW SECONDS
   say "$line"
 }
 
-# A line of rt's: kept for a report, and told where it says that a crate has ended.
-heard() { # LINE
-  printf '%s\n' "$1" >>"$room/log"
-  [[ $1 =~ ^rt:\ ([A-Za-z0-9_]+)\ (.*)$ ]] || return 0
-  local crate=${BASH_REMATCH[1]} what=${BASH_REMATCH[2]}
-  if [ -z "${level[$crate]-}" ]; then return 0; fi
-  if [[ $what =~ ^proved\ \(([0-9]+)\ s\)$ ]]; then tell "$crate" proved "${BASH_REMATCH[1]}"
-  elif [[ $what = 'proved (unchanged'* ]]; then tell "$crate" unchanged 0
-  elif [[ $what = 'NOT PROVED: its dependency'* ]]; then ended[$crate]=failed
-  elif [[ $what = 'NOT PROVED'* ]]; then tell "$crate" failed 0; fi
-}
-
-# Hears what comes on descriptor 4 to its end. After a second of silence something is being proved.
+# Hears what comes on descriptor 4 to its end, and keeps it. After two seconds of silence something is being proved.
 follow() {
   local line part=''
   while :; do
-    if IFS= read -r -t 1 -u 4 line; then
-      heard "$part$line"
+    if IFS= read -r -t 2 -u 4 line; then
+      printf '%s\n' "$part$line" >>"$crate_log"
       part=''
     elif [ $? -gt 128 ]; then
       part+=$line
@@ -121,14 +125,14 @@ follow() {
       break
     fi
   done
-  tell_unchanged
+  if [ -n "$part$line" ]; then printf '%s\n' "$part$line" >>"$crate_log"; fi
 }
 
-# How many crates are proved and stay so, in `kept`: those that had not changed, and those that rt has stamped since.
+# How many crates are proved and stay so, in `kept`.
 count_kept() {
   local c
   kept=0
   for c in "${crates[@]}"; do
-    if [ "${ended[$c]-}" = unchanged ] || [ "$top/target/stamp/$c" -nt "$room/begin" ]; then kept=$((kept + 1)); fi
+    case ${ended[$c]-} in proved | unchanged | ran) kept=$((kept + 1)) ;; esac
   done
 }

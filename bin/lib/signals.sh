@@ -59,7 +59,6 @@ stopped() { # SIGNAL NUMBER
   end_child
   case $stage in
     proving)
-      half_written
       count_kept
       say "stopped; $kept of ${#crates[@]} crates are proved and kept: run it again to go on"
       ;;
