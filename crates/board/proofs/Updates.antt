@@ -1,5 +1,5 @@
 -- An update that is started ends: its advances are taken, undisturbed, and then a read gives its value.
-use Prim.Native.Nat.{ℕ, suc, ◌-◌, ◌<◌}
+use Prim.Native.Nat.{ℕ, suc, ◌<◌}
 use mathlib.Core.Path.{◌≡◌, refl, sym, ap, subst, ◌∙◌}
 use mathlib.Core.Logic.{◌⊎◌, inl, inr}
 use mathlib.Core.Bool.{Bool, true, false, cond, ◌&&◌}
@@ -18,7 +18,7 @@ use Rattle.board.specs.State.{condition_of, is_free, is_updating, is_running}
 use Rattle.board.specs.Causes.{causes, bad_rows}
 use Rattle.board.specs.Location.{cell, logged}
 use Rattle.board.specs.Effects.{first_store, noted, after_last, advance, advance_of, effect}
-use Rattle.board.specs.Next.{Taken, next, value_of, Performed}
+use Rattle.board.specs.Next.{Taken, value_of, Performed}
 use Rattle.board.specs.Machine.{Machine, Unfinished, fewer, advanced, feed}
 use Rattle.board.specs.Sequence.{Run}
 use Rattle.board.specs.Statements.{Starts, updates, restarts, Advances, over, advances}

@@ -10,7 +10,6 @@ use Rattle.predicate.specs.Passing.{any_under}
 use Rattle.bitset.specs.Words.{strays}
 use Rattle.locks.specs.Holders.{lock_count, unheld, holds, holds_any, held_from}
 use Rattle.line.specs.Cell.{field_of}
-use Rattle.board.specs.Board
 use Rattle.board.specs.Board.{Board, cells, shaped, shape_of, shape_in, row_words, outside, epoch_of, lines_of, workers_of, rest_not_zero, last_epoch}
 use Rattle.board.specs.Location.{stops}
 use Rattle.board.specs.Checkpoint.{acts, stores_epoch}

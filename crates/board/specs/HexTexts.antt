@@ -1,5 +1,5 @@
 -- Document 02, ticket 9: a memory's text worked out, and texts and memories that are turned down and just taken.
-use Rattle.std.specs.Prelude.{ℕ, ◌+◌, ◌*◌, ◌≡◌, Bool, true, cond, ◌&&◌, eqb, length, take, drop, set, replicate}
+use Rattle.std.specs.Prelude.{ℕ, ◌+◌, ◌*◌, ◌≡◌, Bool, true, cond, ◌&&◌, eqb, take, drop, set, replicate}
 use mathlib.Core.List.{List, [], ◌∷◌, ◌++◌, flatten}
 use Rattle.text.specs.Ascii.{feed, blank, ':', '0'}
 use Rattle.board.specs.Bench.{same}

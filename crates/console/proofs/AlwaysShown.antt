@@ -12,7 +12,7 @@ use Rattle.board.proofs.Theorems.{recovery-ends, write-back-answers, history-beg
 use Rattle.board.proofs.Laws.Taken.{numbered, Clear, first-clear, clear_first, performing}
 use Rattle.predicate.proofs.Bools.{clash, not_on_lem}
 use Rattle.console.specs.Printing.{largest_row, printed_of}
-use Rattle.console.specs.Display.{recovered, AlwaysShown}
+use Rattle.console.specs.Display.{AlwaysShown}
 use Rattle.console.proofs.Pages.{largest_size, lines-fine}
 
 -- A history with taken steps after it, its board the one that they leave.

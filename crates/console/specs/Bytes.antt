@@ -1,5 +1,5 @@
 -- Where a byte stands first among others.
-use Rattle.std.specs.Prelude.{ℕ, zero, suc, List, [], ◌∷◌, Bool, true, false, eqb}
+use Rattle.std.specs.Prelude.{ℕ, suc, List, [], ◌∷◌, Bool, true, false, eqb}
 
 -- One place further, but where the byte stands at once.
 unfoldable pub index_after : Bool → ℕ → ℕ

@@ -1,5 +1,5 @@
 -- Document 01, "Lines and cells": a row is read and written by line.
-use Rattle.std.specs.Prelude.{ℕ, ◌+◌, ◌*◌, List, ◌++◌, take, drop}
+use Rattle.std.specs.Prelude.{ℕ, ◌*◌, List, ◌++◌, take, drop}
 
 -- "A line is 8 words": the index of the first word of line `l`.
 abbrev pub line_start : ℕ → ℕ

@@ -2,7 +2,6 @@
 use Prim.Native.Nat.{◌/◌, ◌≤◌}
 use mathlib.Core.Path.{◌≡◌}
 use native.Mathlib.Omega.{arith}
-use borrow.Author.Rules.{rules}
 use Rattle.bitset.specs.Words.{inserted}
 use Rattle.bitset.proofs.inserted.Goals as goal
 

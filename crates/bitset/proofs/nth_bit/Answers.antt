@@ -3,7 +3,7 @@ use native.Mathlib.Omega.{arith}
 use lib.Count.{trailing_le}
 use Rattle.predicate.specs.Passing.{nth_under}
 use Rattle.bitset.specs.Words.{bit_of}
-use Rattle.bitset.proofs.Swept.{Swept, swept_none, swept-lowest, swept-zeros, swept-some, swept-on}
+use Rattle.bitset.proofs.Swept.{swept_none, swept-lowest, swept-zeros, swept-some, swept-on}
 use Rattle.bitset.proofs.nth_bit.Goals as goal
 
 pub loop-left-init : goal.loop-left-init

@@ -1,10 +1,9 @@
-use Prim.Native.Nat.{ℕ, ◌+◌, ◌*◌, ◌-◌, ◌≤◌}
+use Prim.Native.Nat.{ℕ, ◌+◌, ◌*◌}
 use mathlib.Core.Path.{◌≡◌, sym, ap, ◌∙◌}
 use native.Mathlib.Omega.{arith}
-use lib.ListN.{get_or}
 use Rattle.predicate.specs.Passing.{count_under}
-use Rattle.bitset.specs.Words.{contains, size}
-use Rattle.bitset.proofs.Words.{word_count, count-start, count_word, size-count, nth-word, nth-none}
+use Rattle.bitset.specs.Words.{contains}
+use Rattle.bitset.proofs.Words.{count-start, count_word, size-count, nth-word, nth-none}
 use Rattle.bitset.proofs.ranked.Goals as goal
 
 pub loop-k-init : goal.loop-k-init

@@ -1,6 +1,5 @@
 -- Bit 0 of the first word, or a number past the last in one of the eight.
 use mathlib.Core.Bool.{◌||◌}
-use borrow.Author.Rules.{rules}
 use Rattle.predicate.specs.Passing.{any_under}
 use Rattle.bitset.specs.Words.{strays}
 use Rattle.bitset.proofs.strays.Goals as goal

@@ -1,5 +1,4 @@
 -- In the middle of an update the fields are those that the condition has.
-use borrow.Author.Rules.{rules}
 use Rattle.board.proofs.rebuilt.Goals as goal
 
 pub returns-in-Updating : goal.returns-in-Updating

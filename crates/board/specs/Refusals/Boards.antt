@@ -1,5 +1,5 @@
 -- The table of refusals: what a row of it is, and the small boards that its rows speak of.
-use Rattle.std.specs.Prelude.{ℕ, ◌+◌, ◌-◌, ◌*◌, ◌^◌, List, [], ◌∷◌, ◌++◌, map, true, length, take, set, replicate}
+use Rattle.std.specs.Prelude.{ℕ, ◌-◌, ◌*◌, ◌^◌, List, [], ◌∷◌, ◌++◌, map, true, length, take, set, replicate}
 use Rattle.board.specs.declared.Condition.{Condition}
 use Rattle.board.specs.declared.Condition.TheVariants.{Waiting, Updating}
 use Rattle.board.specs.declared.Store.TheVariants.{Backup}

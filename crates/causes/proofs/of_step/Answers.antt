@@ -1,6 +1,5 @@
 -- Each cause that is looked at is the table's, in the table's order.
 use mathlib.Core.List.{[]}
-use borrow.Author.Rules.{rules}
 use Rattle.board.specs.Causes.{cause, causes, first_standing}
 use Rattle.causes.proofs.of_step.Goals as goal
 

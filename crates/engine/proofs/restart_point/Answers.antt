@@ -1,7 +1,6 @@
 -- `engine::restart_point` meets its contract: a taken restart point has a worker that is there, whose number is its cell.
 use mathlib.Core.Path.{refl, ◌∙◌, sym}
 use native.Mathlib.Omega.{arith}
-use borrow.Author.Rules.{rules}
 use Rattle.board.specs.Next.{value_of}
 use Rattle.engine.proofs.Passed.{restart-stores}
 use Rattle.engine.proofs.Effect.{starts-restart}

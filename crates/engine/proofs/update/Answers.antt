@@ -1,7 +1,6 @@
 -- `engine::update` meets its contract: a taken update has a worker and a cell that are there.
 use mathlib.Core.Path.{refl, ◌∙◌, sym}
 use native.Mathlib.Omega.{arith}
-use borrow.Author.Rules.{rules}
 use Rattle.board.specs.Next.{value_of}
 use Rattle.engine.proofs.Passed.{update-stores}
 use Rattle.engine.proofs.Effect.{starts-update}

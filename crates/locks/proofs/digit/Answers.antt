@@ -1,7 +1,6 @@
 -- A lock's digit is what stands above the locks below it.
 use Prim.Native.Nat.{ℕ, ◌/◌, ◌%◌}
 use mathlib.Core.Path.{sym, ap}
-use borrow.Author.Rules.{rules}
 use native.Mathlib.Omega.{arith}
 use Rattle.locks.specs.Holders.{digit_of}
 use Rattle.locks.proofs.Holders.{power-bits, digit-past}

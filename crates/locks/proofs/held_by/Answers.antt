@@ -1,7 +1,6 @@
 -- A worker's digit is its number and 1.
 use mathlib.Core.Path.{ap, ◌∙◌}
 use native.Mathlib.Numerals.{add-one}
-use borrow.Author.Rules.{rules}
 use Rattle.locks.specs.Holders.{with_digit}
 use Rattle.locks.proofs.held_by.Goals as goal
 

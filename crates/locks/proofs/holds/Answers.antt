@@ -4,7 +4,6 @@ use mathlib.Core.Path.{sym, ap₂}
 use native.Mathlib.Omega.{arith}
 use native.Mathlib.Numerals.{add-one}
 use lib.Dec.{eqb}
-use borrow.Author.Rules.{rules}
 use borrow.Author.Tests.{ne_eqb}
 use Rattle.locks.specs.Holders.{holds, digit_of}
 use Rattle.locks.proofs.Holders.{digit_lt}

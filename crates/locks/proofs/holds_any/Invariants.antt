@@ -1,13 +1,9 @@
 -- The digits are tested from the lowest up.
-use Prim.Native.Nat.{ℕ, suc, ◌/◌, ◌%◌, ◌≤◌}
-use mathlib.Core.Path.{◌≡◌, refl, ap, ◌∙◌}
-use mathlib.Core.Bool.{Bool, false, ◌||◌}
-use native.Mathlib.Omega.{arith}
-use native.Mathlib.Nat.{div-one}
+use Prim.Native.Nat.{ℕ, suc, ◌≤◌}
+use mathlib.Core.Path.{◌≡◌}
+use mathlib.Core.Bool.{Bool, ◌||◌}
 use lib.Dec.{eqb}
-use borrow.Author.Tests.{ne_eqb}
-use Rattle.locks.specs.Holders.{digit_of, holds, holds_any}
-use Rattle.locks.proofs.Holders.{any_digit, digits-on, digits-end}
+use Rattle.locks.proofs.Holders.{any_digit}
 use Rattle.locks.proofs.holds_any.Given as goal
 
 -- A worker's own digit.

@@ -2,7 +2,6 @@
 use Prim.Native.Nat.{ℕ}
 use mathlib.Core.Path.{ap}
 use lib.Dec.{eqb}
-use borrow.Author.Rules.{rules}
 use Rattle.locks.specs.Holders.{unheld}
 use Rattle.locks.proofs.unheld.Goals as goal
 

@@ -2,7 +2,6 @@
 use Prim.Native.Nat.{ℕ, ◌+◌, ◌-◌, ◌*◌, ◌^◌, ◌%◌, ◌<◌}
 use mathlib.Core.Path.{◌≡◌, ap, ap₂, ◌∙◌}
 use native.Mathlib.Omega.{arith}
-use borrow.Author.Rules.{rules}
 use Rattle.locks.specs.Holders.{digit_of, with_digit}
 use Rattle.locks.proofs.Holders.{digit_lt, digit-within, shifted, with-small}
 use Rattle.locks.proofs.with_digit.Goals as goal

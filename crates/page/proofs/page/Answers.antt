@@ -4,7 +4,6 @@ use mathlib.Core.Path.{◌≡◌, refl, sym, ◌∙◌}
 use mathlib.Core.List.{List}
 use lib.Dec.{eqb}
 use lib.ListN.{length}
-use borrow.Author.Rules.{rules}
 use borrow.Author.Tests.{ltb-false, eq-eqb, ne_eqb}
 use Rattle.text.specs.Writing.{put}
 use Rattle.predicate.proofs.Bools.{chosen, passed_over}

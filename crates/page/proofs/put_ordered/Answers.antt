@@ -4,7 +4,6 @@ use mathlib.Core.Path.{◌≡◌, sym, ap, subst, ◌∙◌}
 use mathlib.Core.List.{List, map, flatten}
 use native.Mathlib.Omega.{arith}
 use lib.ListN.{length, get_or}
-use borrow.Author.Rules.{rules}
 use Rattle.text.specs.Writing.{put}
 use Rattle.text.proofs.Writing.{put-put}
 use Rattle.board.specs.Page.{line_text, heading_text, cell_text, before, ordered, cell_order, page_text}

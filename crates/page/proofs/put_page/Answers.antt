@@ -5,7 +5,6 @@ use mathlib.Core.List.{List}
 use native.Mathlib.Omega.{arith}
 use lib.ListN.{length}
 use lib.Seq.{length-take-le}
-use borrow.Author.Rules.{rules}
 use Rattle.text.specs.Writing.{put}
 use Rattle.board.specs.Board.{shaped, cells, row_words}
 use Rattle.board.specs.Page.{page_text}

@@ -3,7 +3,6 @@ use mathlib.Core.Path.{ap, ◌∙◌}
 use mathlib.Core.List.{List}
 use Prim.Native.Nat.{ℕ, ◌+◌}
 use lib.ListN.{length, replicate}
-use borrow.Author.Rules.{rules}
 use Rattle.board.specs.Next.{lent, Outcome}
 use Rattle.board.specs.Statements.{steps_from}
 use Rattle.session.specs.Lines.{given, repeated, formatted}

@@ -1,7 +1,6 @@
 -- `session::harm` meets its contract: the session's lengths are the rows' sizes.
 use mathlib.Core.Path.{ap}
 use lib.ListN.{take}
-use borrow.Author.Rules.{rules}
 use Rattle.damage.specs.Damages.{DamageOutcome}
 use Rattle.session.specs.Session.{desk}
 use Rattle.session.specs.Lines.{done}

@@ -1,10 +1,7 @@
 -- `session::make` meets its contract: the parts lent are within the rows.
 use mathlib.Core.Path.{refl}
-use native.Mathlib.Omega.{arith}
 use lib.ListN.{take}
-use borrow.Author.Rules.{rules}
 use Rattle.session.specs.Lines.{repeated}
-use Rattle.session.proofs.Rows.{part-size}
 use Rattle.session.proofs.Acts.{made}
 use Rattle.session.proofs.make.Goals as goal
 

@@ -1,7 +1,4 @@
 -- `session::put_page` meets its contract: the page is made of the words in use.
-use native.Mathlib.Omega.{arith}
-use borrow.Author.Rules.{rules}
-use Rattle.session.proofs.Rows.{part-size}
 use Rattle.session.proofs.Pages.{page-keeps}
 use Rattle.session.proofs.put_page.Goals as goal
 

@@ -1,9 +1,8 @@
-use mathlib.Core.Path.{◌≡◌, refl, sym, ◌∙◌}
+use mathlib.Core.Path.{refl, sym, ◌∙◌}
 use native.Mathlib.Omega.{arith}
-use lib.ListN.{length}
 use borrow.Author.Rules.{rules}
 use Rattle.board.specs.Next.{lent}
-use Rattle.session.specs.Lines.{given, repeated}
+use Rattle.session.specs.Lines.{given}
 use Rattle.session.proofs.Formats.{one-call, no_call}
 use Rattle.session.proofs.repeat.Goals as goal
 

@@ -1,11 +1,8 @@
 -- `session::repeat` meets its contract. The invariant: the calls left to make lead to the same outcome as all of them.
-use mathlib.Core.Path.{◌≡◌, refl, sym, ◌∙◌}
-use native.Mathlib.Omega.{arith}
+use mathlib.Core.Path.{◌≡◌}
 use lib.ListN.{length}
-use borrow.Author.Rules.{rules}
 use Rattle.board.specs.Next.{lent}
 use Rattle.session.specs.Lines.{given, repeated}
-use Rattle.session.proofs.Formats.{one-call, no_call}
 use Rattle.session.proofs.repeat.Given as goal
 
 abbrev pub invariant-loop-left : goal.invariant-loop-left

@@ -1,9 +1,7 @@
 -- `session::zero` meets its contract. The invariant: the first `i` words are zeroed.
 use Prim.Native.Nat.{◌-◌}
-use native.Mathlib.Omega.{arith}
 use lib.ListN.{length}
-use borrow.Author.Rules.{rules}
-use Rattle.session.proofs.Rows.{FilledUpTo, filled_none, filled_more, filled-all}
+use Rattle.session.proofs.Rows.{FilledUpTo}
 use Rattle.session.proofs.zero.Given as goal
 
 abbrev pub invariant-loop-i : goal.invariant-loop-i

@@ -1,5 +1,5 @@
 -- `text::put_byte` meets its contract: a byte written is a store.
-use Rattle.std.proofs.Common.{refl, rules}
+use Rattle.std.proofs.Common.{refl}
 use Rattle.text.proofs.Writing.{put-set}
 use Rattle.text.proofs.put_byte.Goals as goal
 

@@ -1,4 +1,4 @@
-use Rattle.std.proofs.Common.{◌≡◌, ℕ, ◌+◌, ◌-◌, ◌≤◌, List, length, get_or, set, sym, refl, ap, ◌∙◌, add-one, arith, length-set, rules}
+use Rattle.std.proofs.Common.{◌≡◌, ℕ, ◌+◌, List, length, get_or, set, sym, refl, ap, ◌∙◌, add-one, arith, length-set}
 use lib.Seq.{paste, paste-zero, paste-suc}
 use Rattle.text.proofs.Writing.{put-paste}
 use Rattle.text.proofs.put_text.Goals as goal

@@ -1,7 +1,6 @@
 -- `text::put_text` meets its contract. The invariant: the first `i` bytes are copied.
-use Rattle.std.proofs.Common.{◌≡◌, ℕ, ◌+◌, ◌-◌, ◌≤◌, List, length, get_or, set, sym, refl, ap, ◌∙◌, add-one, arith, length-set, rules}
-use lib.Seq.{paste, paste-zero, paste-suc}
-use Rattle.text.proofs.Writing.{put-paste}
+use Rattle.std.proofs.Common.{◌≡◌, ◌-◌, ◌≤◌, length}
+use lib.Seq.{paste}
 use Rattle.text.proofs.put_text.Given as goal
 
 abbrev pub invariant-loop-i : goal.invariant-loop-i

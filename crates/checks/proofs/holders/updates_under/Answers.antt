@@ -1,5 +1,4 @@
 -- The condition is the worker's.
-use borrow.Author.Rules.{rules}
 use Rattle.checks.proofs.holders.updates_under.Goals as goal
 
 pub returns : goal.returns

@@ -1,5 +1,4 @@
 -- Each half's mark is the word that the leaf reads.
-use borrow.Author.Rules.{rules}
 use Rattle.checks.proofs.marks.later_in_line.Goals as goal
 
 pub returns : goal.returns

@@ -1,11 +1,8 @@
 -- The invariant: found is what the lines before this one have.
-use borrow.Author.Rules.{rules}
 use Prim.Native.Nat.{◌≤◌, ◌-◌, ◌+◌}
-use mathlib.Core.Path.{◌≡◌, refl, ap, ◌∙◌}
-use native.Mathlib.Omega.{arith}
-use Rattle.predicate.specs.Passing.{any_under}
+use mathlib.Core.Path.{◌≡◌}
 use Rattle.board.specs.Board.{lines_of}
-use Rattle.checks.proofs.Walk.{later_within, line-walked}
+use Rattle.checks.proofs.Walk.{later_within}
 use Rattle.checks.proofs.marks.later_mark.Given as goal
 
 abbrev pub invariant-loop-line : goal.invariant-loop-line

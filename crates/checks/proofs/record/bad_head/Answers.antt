@@ -1,5 +1,4 @@
 -- Each part is the part of the definition.
-use borrow.Author.Rules.{rules}
 use Rattle.checks.proofs.record.bad_head.Goals as goal
 
 pub returns : goal.returns

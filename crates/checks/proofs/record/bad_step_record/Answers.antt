@@ -1,6 +1,5 @@
 -- Where the step runs and is ready, the head and the dirty lines tell all.
 use mathlib.Core.Path.{◌∙◌}
-use borrow.Author.Rules.{rules}
 use Rattle.checks.proofs.Scan.{head-told, ready-record}
 use Rattle.checks.proofs.record.bad_step_record.Goals as goal
 

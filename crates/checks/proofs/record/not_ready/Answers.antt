@@ -1,6 +1,5 @@
 -- Each part is the part of the definition.
 use mathlib.Core.Path.{sym, ◌∙◌}
-use borrow.Author.Rules.{rules}
 use Rattle.checks.proofs.record.not_ready.Goals as goal
 
 pub returns-then-is_running : goal.returns-then-is_running

@@ -1,6 +1,5 @@
 -- Where no request stands, no line is counted; a count of 512 lines at most leaves room for two more.
 use native.Mathlib.Omega.{arith}
-use borrow.Author.Rules.{rules}
 use Rattle.bitset.proofs.Words.{size_room}
 use Rattle.checks.proofs.record.past_release.Goals as goal
 

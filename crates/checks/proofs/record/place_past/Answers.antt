@@ -1,5 +1,4 @@
 -- Each arm is the definition's at its phase.
-use borrow.Author.Rules.{rules}
 use Rattle.checks.proofs.record.place_past.Goals as goal
 
 pub returns-in-Off : goal.returns-in-Off

@@ -1,5 +1,4 @@
 -- Each part is the part of the definition.
-use borrow.Author.Rules.{rules}
 use Rattle.checks.proofs.rows.bad_header.Goals as goal
 
 pub returns : goal.returns

@@ -1,5 +1,4 @@
 -- The length's test is the leaf's.
-use borrow.Author.Rules.{rules}
 use Rattle.checks.proofs.rows.bad_recovery_rows.Goals as goal
 
 pub returns : goal.returns

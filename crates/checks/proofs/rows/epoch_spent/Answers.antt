@@ -1,5 +1,4 @@
 -- The word is the epoch.
-use borrow.Author.Rules.{rules}
 use Rattle.checks.proofs.rows.epoch_spent.Goals as goal
 
 pub returns : goal.returns

@@ -1,5 +1,4 @@
 -- Each word is the one that the definition reads.
-use borrow.Author.Rules.{rules}
 use Rattle.checks.proofs.rows.rest_not_zero.Goals as goal
 
 pub returns : goal.returns

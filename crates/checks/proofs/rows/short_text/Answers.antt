@@ -1,5 +1,4 @@
 -- The bytes of a page are the leaf's.
-use borrow.Author.Rules.{rules}
 use Rattle.checks.proofs.rows.short_text.Goals as goal
 
 pub returns : goal.returns

@@ -1,7 +1,6 @@
 -- Each part is the part of the definition, where a checkpoint steps in the last epoch; elsewhere the count is not asked for.
 use mathlib.Core.Path.{◌≡◌, refl, sym, ap₂, ◌∙◌}
 use mathlib.Core.Bool.{Bool, true, false, ◌&&◌, false≢true}
-use borrow.Author.Rules.{rules}
 use Rattle.predicate.proofs.Bools.{and_left, and_right}
 use Rattle.board.specs.declared.State.{State}
 use Rattle.board.specs.State.{is_running}

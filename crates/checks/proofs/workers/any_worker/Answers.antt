@@ -1,9 +1,7 @@
 use borrow.Author.Rules.{rules}
-use Prim.Native.Nat.{◌≤◌, ◌-◌, min}
-use mathlib.Core.Path.{◌≡◌, refl, sym, ◌∙◌}
+use mathlib.Core.Path.{refl, sym, ◌∙◌}
 use native.Mathlib.Omega.{arith}
 use Rattle.predicate.specs.Passing.{any_under}
-use Rattle.checks.specs.Sought.{sought_at}
 use Rattle.checks.proofs.Tests.{under_more}
 use Rattle.checks.proofs.Scan.{scan-end, sought-under}
 use Rattle.checks.proofs.workers.any_worker.Goals as goal

@@ -1,12 +1,8 @@
 -- The invariant: found is what the scan of the workers below i finds.
-use borrow.Author.Rules.{rules}
 use Prim.Native.Nat.{◌≤◌, ◌-◌, min}
-use mathlib.Core.Path.{◌≡◌, refl, sym, ◌∙◌}
-use native.Mathlib.Omega.{arith}
+use mathlib.Core.Path.{◌≡◌}
 use Rattle.predicate.specs.Passing.{any_under}
 use Rattle.checks.specs.Sought.{sought_at}
-use Rattle.checks.proofs.Tests.{under_more}
-use Rattle.checks.proofs.Scan.{scan-end, sought-under}
 use Rattle.checks.proofs.workers.any_worker.Given as goal
 
 abbrev pub invariant-loop-i : goal.invariant-loop-i

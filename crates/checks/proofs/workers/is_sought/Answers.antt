@@ -1,5 +1,4 @@
 -- Each arm is the definition's at what is sought.
-use borrow.Author.Rules.{rules}
 use Rattle.checks.proofs.workers.is_sought.Goals as goal
 
 pub returns-in-CellFrom : goal.returns-in-CellFrom

@@ -1,5 +1,4 @@
 -- In the middle of an update the test is the cell's.
-use borrow.Author.Rules.{rules}
 use Rattle.checks.proofs.workers.updates_from.Goals as goal
 
 pub returns-in-Updating : goal.returns-in-Updating

@@ -1,5 +1,5 @@
-use Rattle.std.proofs.Common.{◌≡◌, ◌-◌, ◌*◌, ◌<◌, ◌≤◌, length, take, sym, refl, arith, rules}
-use Rattle.console.specs.Pieces.{leaving, fed, carried_by, Ready}
+use Rattle.std.proofs.Common.{◌<◌, length, sym, refl, arith, rules}
+use Rattle.console.specs.Pieces.{carried_by}
 use Rattle.console.proofs.Pieces.{fed-none, line-more, rest_more, kept_by, begun-short}
 use Rattle.console.proofs.answers.answer.Goals as goal
 

@@ -1,7 +1,6 @@
 -- `console::answers::answer` meets its contract. The invariant: what is reached is what the piece up to `at` leaves.
-use Rattle.std.proofs.Common.{◌≡◌, ◌-◌, ◌*◌, ◌<◌, ◌≤◌, length, take, sym, refl, arith, rules, leb-false, leb-true}
+use Rattle.std.proofs.Common.{◌≡◌, ◌-◌, ◌*◌, ◌≤◌, length, take}
 use Rattle.console.specs.Pieces.{leaving, fed, carried_by, Ready}
-use Rattle.console.proofs.Pieces.{fed-none, line-more, rest_more, kept_by, begun-short}
 use Rattle.console.proofs.answers.answer.Given as goal
 
 abbrev pub invariant-loop-at : goal.invariant-loop-at

@@ -1,5 +1,5 @@
 -- `console::answers::answer_last` meets its contract: the line feed that the last line lacks ends it.
-use Rattle.std.proofs.Common.{arith, rules}
+use Rattle.std.proofs.Common.{arith}
 use Rattle.console.proofs.Pieces.{none_last, line-last}
 use Rattle.console.proofs.answers.answer_last.Goals as goal
 

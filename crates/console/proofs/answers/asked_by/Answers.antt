@@ -1,5 +1,5 @@
 -- `console::answers::asked_by` meets its contract.
-use Rattle.std.proofs.Common.{ap, ◌∙◌, rules}
+use Rattle.std.proofs.Common.{ap, ◌∙◌}
 use Rattle.script.specs.declared.Line.{Line}
 use Rattle.script.specs.Reasons.{reason, reason_number}
 use Rattle.console.proofs.answers.asked_by.Goals as goal

@@ -1,5 +1,5 @@
 -- `console::answers::end_line` meets its contract: each part of the answer is the line's, and a line that is no call leaves what was carried.
-use Rattle.std.proofs.Common.{ℕ, [], ◌++◌, take, sym, refl, ap, ◌∙◌, arith, rules}
+use Rattle.std.proofs.Common.{ℕ, [], ◌++◌, take, sym, refl, ap, ◌∙◌, arith}
 use Rattle.script.specs.Answers.{letter_of}
 use Rattle.script.specs.declared.Line.TheVariants as line
 use Rattle.script.specs.declared.Shown.TheVariants.{Unknown, Nothing}

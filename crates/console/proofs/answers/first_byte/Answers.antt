@@ -1,5 +1,5 @@
 -- `console::answers::first_byte` meets its contract: an empty line has no first byte.
-use Rattle.std.proofs.Common.{◌≡◌, ℕ, List, [], ◌∷◌, length, get_or, refl, arith, rules}
+use Rattle.std.proofs.Common.{◌≡◌, ℕ, List, [], ◌∷◌, length, get_or, refl, arith}
 use Rattle.console.proofs.answers.first_byte.Goals as goal
 
 -- An empty line has no first byte.

@@ -1,5 +1,5 @@
 -- `console::answers::one_more` meets its contract.
-use Rattle.std.proofs.Common.{ℕ, eqb, sym, ap, ◌∙◌, rules, eq-eqb, ne_eqb}
+use Rattle.std.proofs.Common.{ℕ, eqb, sym, ap, ◌∙◌, eq-eqb, ne_eqb}
 use Rattle.predicate.proofs.Bools.{chosen, passed_over}
 use Rattle.console.specs.Transcript.{misread}
 use Rattle.console.proofs.answers.one_more.Goals as goal

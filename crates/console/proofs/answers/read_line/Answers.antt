@@ -1,7 +1,6 @@
 -- `console::answers::read_line` meets its contract: a line in one piece is read where it stands, another from the bytes kept.
-use Rattle.std.proofs.Common.{ℕ, List, ◌++◌, take, sym, subst, rules}
+use Rattle.std.proofs.Common.{ℕ, List, ◌++◌, take, sym, subst}
 use Rattle.console.specs.Pieces.{LineRead}
-use Rattle.session.proofs.Rows.{part-size}
 use Rattle.console.proofs.LineEnds.{reads_kept}
 use Rattle.console.proofs.answers.read_line.Goals as goal
 

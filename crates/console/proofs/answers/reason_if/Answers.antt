@@ -1,5 +1,5 @@
 -- `console::answers::reason_if` meets its contract: where it is not wanted nothing is promised.
-use Rattle.std.proofs.Common.{ap, ◌∙◌, rules}
+use Rattle.std.proofs.Common.{ap, ◌∙◌}
 use Rattle.predicate.proofs.Bools.{clash}
 use Rattle.script.specs.declared.Reason.{Reason}
 use Rattle.script.specs.Reasons.{reason_number}

@@ -1,5 +1,5 @@
 -- `console::answers::tally` meets its contract: a line is tallied where its answer is `?`.
-use Rattle.std.proofs.Common.{sym, ap, ◌∙◌, rules}
+use Rattle.std.proofs.Common.{sym, ap, ◌∙◌}
 use Rattle.script.specs.declared.Shown.{Shown}
 use Rattle.console.specs.Transcript.{tallied}
 use Rattle.console.proofs.answers.tally.Goals as goal

@@ -1,5 +1,5 @@
 -- `console::display::put_heading` meets its contract: the parts of `header_line` are written one after the other.
-use Rattle.std.proofs.Common.{arith, rules}
+use Rattle.std.proofs.Common.{arith}
 use Rattle.text.proofs.Writing.{and_then}
 use Rattle.console.specs.Display.{header_line}
 use Rattle.console.proofs.display.put_heading.Goals as goal

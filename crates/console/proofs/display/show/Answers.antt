@@ -1,6 +1,5 @@
 -- `console::display::show` meets its contract: the row read into has just the text's words, all 0 before.
-use Rattle.std.proofs.Common.{◌∙◌, arith, rules}
-use Rattle.session.proofs.Rows.{part-size}
+use Rattle.std.proofs.Common.{◌∙◌, arith}
 use Rattle.session.proofs.Pages.{back-size}
 use Rattle.console.proofs.Displays.{refused-shown, zeros-length, text-down, text-up, cache-zeros}
 use Rattle.console.proofs.display.show.Goals as goal

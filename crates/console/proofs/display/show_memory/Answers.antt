@@ -1,5 +1,5 @@
 -- `console::display::show_memory` meets its contract: the page and the header's line are those of the recovered board.
-use Rattle.std.proofs.Common.{ℕ, length, sym, ap, ◌∙◌, arith, rules}
+use Rattle.std.proofs.Common.{ℕ, length, sym, ap, ◌∙◌, arith}
 use lib.ListN.{length-replicate}
 use Rattle.board.specs.Board.{Board}
 use Rattle.console.specs.Printing.{printed_of}

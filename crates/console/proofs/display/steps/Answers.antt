@@ -1,4 +1,4 @@
-use Rattle.std.proofs.Common.{◌≡◌, ◌-◌, length, sym, refl, ap, ◌∙◌, arith, rules}
+use Rattle.std.proofs.Common.{◌-◌, sym, refl, ap, ◌∙◌, arith, rules}
 use Rattle.board.specs.Next.{lent, Outcome}
 use Rattle.board.specs.Statements.{steps_from}
 use Rattle.console.proofs.Recovered.{one-step, no_step}

@@ -1,8 +1,7 @@
 -- `console::display::steps` meets its contract. The invariant: the steps left lead to the same board as all of them.
-use Rattle.std.proofs.Common.{◌≡◌, ◌-◌, length, sym, refl, ap, ◌∙◌, arith, rules}
-use Rattle.board.specs.Next.{lent, Outcome}
+use Rattle.std.proofs.Common.{◌≡◌, length}
+use Rattle.board.specs.Next.{lent}
 use Rattle.board.specs.Statements.{steps_from}
-use Rattle.console.proofs.Recovered.{one-step, no_step}
 use Rattle.console.proofs.display.steps.Given as goal
 
 abbrev pub invariant-loop-left : goal.invariant-loop-left

@@ -1,5 +1,5 @@
 -- `console::display::words_for` meets its contract.
-use Rattle.std.proofs.Common.{ltb, sym, ◌∙◌, arith, rules, le-ltb, lt-ltb}
+use Rattle.std.proofs.Common.{ltb, sym, ◌∙◌, arith, le-ltb, lt-ltb}
 use Rattle.board.specs.Hex.{hex_words}
 use Rattle.predicate.proofs.Bools.{chosen, passed_over}
 use Rattle.console.specs.Display.{words_for}

@@ -1,6 +1,4 @@
-use Rattle.std.proofs.Common.{◌≡◌, ◌+◌, ◌-◌, ◌≤◌, length, drop, add-one, arith, rules}
-use Rattle.console.specs.Bytes.{index_of}
-use Rattle.text.specs.Ascii.{feed}
+use Rattle.std.proofs.Common.{add-one, arith}
 use Rattle.console.proofs.Feeds.{feed-here, feed-later, feed-end}
 use Rattle.console.proofs.input.feed_at.Goals as goal
 

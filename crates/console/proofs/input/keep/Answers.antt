@@ -1,5 +1,5 @@
 -- `console::input::keep` meets its contract: all of `more` is put behind the bytes kept, or as much as there is room for.
-use Rattle.std.proofs.Common.{◌-◌, length, sym, refl, ◌∙◌, arith, take_all, rules}
+use Rattle.std.proofs.Common.{◌-◌, length, sym, refl, ◌∙◌, arith, take_all}
 use lib.Seq.{take-length}
 use Rattle.console.proofs.Feeds.{kept_line}
 use Rattle.console.proofs.input.keep.Goals as goal

@@ -1,5 +1,5 @@
 -- `console::input::quiet` meets its contract: byte by byte, the line goes on.
-use Rattle.std.proofs.Common.{arith, rules}
+use Rattle.std.proofs.Common.{arith}
 use Rattle.console.proofs.Feeds.{quiet_for, quiet-later}
 use Rattle.console.proofs.input.quiet.Goals as goal
 

@@ -1,5 +1,4 @@
-use Rattle.std.proofs.Common.{◌-◌, length, refl, arith, rules}
-use Rattle.console.specs.Pieces.{LineGoesOn}
+use Rattle.std.proofs.Common.{refl, arith}
 use Rattle.console.proofs.input.skip_quiet.Goals as goal
 
 pub loop-i-init : goal.loop-i-init

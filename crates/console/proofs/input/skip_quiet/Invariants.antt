@@ -1,5 +1,5 @@
 -- `console::input::skip_quiet` meets its contract. The invariant: the line that goes on at `from` goes on at `i`.
-use Rattle.std.proofs.Common.{◌-◌, length, refl, arith, rules}
+use Rattle.std.proofs.Common.{◌-◌, length}
 use Rattle.console.specs.Pieces.{LineGoesOn}
 use Rattle.console.proofs.input.skip_quiet.Given as goal
 

@@ -1,5 +1,5 @@
 -- `console::printing::last_hex` meets its contract: the text is that of the memory left, the lines tallied those of the input.
-use Rattle.std.proofs.Common.{ap, ◌∙◌, rules}
+use Rattle.std.proofs.Common.{ap, ◌∙◌}
 use Rattle.console.specs.Pieces.{Fed}
 use Rattle.console.specs.Printing.{hex_printed_of}
 use Rattle.console.proofs.printing.last_hex.Goals as goal

@@ -1,5 +1,5 @@
 -- `console::printing::last_page` meets its contract: the page is that of the board left, the lines tallied those of the input.
-use Rattle.std.proofs.Common.{ap, ◌∙◌, rules}
+use Rattle.std.proofs.Common.{ap, ◌∙◌}
 use Rattle.console.specs.Pieces.{Fed}
 use Rattle.console.specs.Printing.{printed_of}
 use Rattle.console.proofs.printing.last_page.Goals as goal

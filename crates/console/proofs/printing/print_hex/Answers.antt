@@ -1,5 +1,5 @@
 -- `console::printing::print_hex` meets its contract: memory's own text is the front of the text row.
-use Rattle.std.proofs.Common.{◌≡◌, ℕ, ◌+◌, ◌*◌, ◌≤◌, length, take, ap, arith, length-take-le, rules}
+use Rattle.std.proofs.Common.{◌≡◌, ℕ, ◌+◌, ◌*◌, length, take, ap, arith, length-take-le, rules}
 use Rattle.intel_hex.proofs.Theorems.{hex-holds}
 use Rattle.session.proofs.Rows.{part-size}
 use Rattle.console.proofs.HexPrinted.{refused-hex, written-most, taken-hex}

@@ -1,6 +1,6 @@
-use Rattle.std.proofs.Common.{◌-◌, length, ap, ◌∙◌, arith, rules}
-use Rattle.damage.specs.Checksum.{mixed, checksum_of}
-use Rattle.damage.proofs.Sums.{Mixing, mixing-none, mixing-more, mixing-all}
+use Rattle.std.proofs.Common.{ap, ◌∙◌, arith}
+use Rattle.damage.specs.Checksum.{mixed}
+use Rattle.damage.proofs.Sums.{mixing-none, mixing-more, mixing-all}
 use Rattle.damage.proofs.checksum.bytes_checksum.Goals as goal
 
 pub loop-i-init : goal.loop-i-init

@@ -1,7 +1,7 @@
 -- `damage::checksum::bytes_checksum` meets its contract. The invariant: the bytes left, mixed into what is reached, give the whole sum.
-use Rattle.std.proofs.Common.{◌-◌, length, ap, ◌∙◌, arith, rules}
-use Rattle.damage.specs.Checksum.{mixed, checksum_of}
-use Rattle.damage.proofs.Sums.{Mixing, mixing-none, mixing-more, mixing-all}
+use Rattle.std.proofs.Common.{◌-◌, length}
+use Rattle.damage.specs.Checksum.{checksum_of}
+use Rattle.damage.proofs.Sums.{Mixing}
 use Rattle.damage.proofs.checksum.bytes_checksum.Given as goal
 
 abbrev pub invariant-loop-i : goal.invariant-loop-i

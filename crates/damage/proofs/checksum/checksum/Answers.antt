@@ -1,5 +1,5 @@
 -- `damage::checksum::checksum` meets its contract: part by part.
-use Rattle.std.proofs.Common.{ℕ, sym, ap, ◌∙◌, rules}
+use Rattle.std.proofs.Common.{ℕ, sym, ap, ◌∙◌}
 use Rattle.board.specs.Next.{lent}
 use Rattle.damage.specs.Checksum.{summed, workers_numbers, dirty_numbers, holders_numbers, row_numbers}
 use Rattle.damage.proofs.Sums.{checksum-parts}

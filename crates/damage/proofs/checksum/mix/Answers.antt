@@ -1,5 +1,4 @@
 -- `damage::checksum::mix` meets its contract.
-use Rattle.std.proofs.Common.{rules}
 use Rattle.damage.specs.Checksum.{mixed}
 use Rattle.damage.proofs.checksum.mix.Goals as goal
 

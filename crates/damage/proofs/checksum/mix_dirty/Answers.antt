@@ -1,5 +1,4 @@
 -- `damage::checksum::mix_dirty` meets its contract: four words and four.
-use Rattle.std.proofs.Common.{rules}
 use Rattle.damage.specs.Checksum.{summed}
 use Rattle.damage.proofs.checksum.mix_dirty.Goals as goal
 

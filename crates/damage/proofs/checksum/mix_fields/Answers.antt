@@ -1,5 +1,4 @@
 -- `damage::checksum::mix_fields` meets its contract.
-use Rattle.std.proofs.Common.{rules}
 use Rattle.damage.specs.Checksum.{summed}
 use Rattle.damage.proofs.checksum.mix_fields.Goals as goal
 

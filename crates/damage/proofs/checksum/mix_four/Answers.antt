@@ -1,5 +1,4 @@
 -- `damage::checksum::mix_four` meets its contract.
-use Rattle.std.proofs.Common.{rules}
 use Rattle.damage.specs.Checksum.{summed}
 use Rattle.damage.proofs.checksum.mix_four.Goals as goal
 

@@ -1,5 +1,4 @@
 -- `damage::checksum::mix_holders` meets its contract: four locks at a time.
-use Rattle.std.proofs.Common.{rules}
 use Rattle.damage.specs.Checksum.{holders_numbers}
 use Rattle.damage.proofs.Sums.{four-parts}
 use Rattle.damage.proofs.checksum.mix_holders.Goals as goal

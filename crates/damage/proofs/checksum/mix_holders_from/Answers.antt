@@ -1,5 +1,4 @@
 -- `damage::checksum::mix_holders_from` meets its contract.
-use Rattle.std.proofs.Common.{rules}
 use Rattle.damage.proofs.checksum.mix_holders_from.Goals as goal
 
 pub returns : goal.returns

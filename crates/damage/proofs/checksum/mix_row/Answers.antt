@@ -1,6 +1,5 @@
-use Rattle.std.proofs.Common.{◌-◌, length, arith, rules}
-use Rattle.damage.specs.Checksum.{summed, row_numbers}
-use Rattle.damage.proofs.Sums.{Mixing, mixing-row, mixing-more, mixing-all}
+use Rattle.std.proofs.Common.{arith}
+use Rattle.damage.proofs.Sums.{mixing-row, mixing-more, mixing-all}
 use Rattle.damage.proofs.checksum.mix_row.Goals as goal
 
 pub loop-i-init : goal.loop-i-init

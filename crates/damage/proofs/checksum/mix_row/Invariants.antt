@@ -1,7 +1,7 @@
 -- `damage::checksum::mix_row` meets its contract. The invariant: the words left, mixed into what is reached, give the whole sum.
-use Rattle.std.proofs.Common.{◌-◌, length, arith, rules}
+use Rattle.std.proofs.Common.{◌-◌, length}
 use Rattle.damage.specs.Checksum.{summed, row_numbers}
-use Rattle.damage.proofs.Sums.{Mixing, mixing-row, mixing-more, mixing-all}
+use Rattle.damage.proofs.Sums.{Mixing}
 use Rattle.damage.proofs.checksum.mix_row.Given as goal
 
 abbrev pub invariant-loop-i : goal.invariant-loop-i

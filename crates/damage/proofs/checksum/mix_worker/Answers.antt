@@ -1,5 +1,4 @@
 -- `damage::checksum::mix_worker` meets its contract: each condition has its arm.
-use Rattle.std.proofs.Common.{rules}
 use Rattle.damage.proofs.checksum.mix_worker.Goals as goal
 
 pub returns-in-Free : goal.returns-in-Free

@@ -1,5 +1,4 @@
 -- `damage::checksum::mix_workers` meets its contract.
-use Rattle.std.proofs.Common.{rules}
 use Rattle.damage.specs.Checksum.{workers_numbers}
 use Rattle.damage.proofs.Sums.{eight-parts}
 use Rattle.damage.proofs.checksum.mix_workers.Goals as goal

@@ -1,5 +1,5 @@
 -- `damage::checksum::spread` meets its contract.
-use Rattle.std.proofs.Common.{ℕ, ◌+◌, ◌*◌, ◌%◌, ◌^◌, ap, ◌∙◌, rules}
+use Rattle.std.proofs.Common.{ℕ, ◌+◌, ◌*◌, ◌%◌, ◌^◌, ap, ◌∙◌}
 use Rattle.damage.proofs.Sums.{spread-parts}
 use Rattle.damage.proofs.checksum.spread.Goals as goal
 

@@ -1,5 +1,5 @@
 -- `damage::damages::carry_out` meets its contract: each arm is told the line, and its parts do what that line does.
-use Rattle.std.proofs.Common.{◌∙◌, rules}
+use Rattle.std.proofs.Common.{◌∙◌}
 use Rattle.damage.proofs.Arms.{by_parts, told-as, kept-within, memory-put, cache-put, word-put, field_put_lem, worker-put, holder-put}
 use Rattle.damage.proofs.damages.carry_out.Goals as goal
 

@@ -1,5 +1,5 @@
 -- `damage::damages::put_lengths` meets its contract: the new lengths are within the room.
-use Rattle.std.proofs.Common.{◌≡◌, ℕ, Bool, true, sym, ◌∙◌, arith, rules}
+use Rattle.std.proofs.Common.{◌≡◌, ℕ, Bool, true, sym, ◌∙◌, arith}
 use Rattle.damage.specs.Damages.{room_for}
 use Rattle.damage.proofs.Fits.{room-bounds}
 use Rattle.damage.proofs.Arms.{by_parts, kept-within, lengths-put, lengths-off}

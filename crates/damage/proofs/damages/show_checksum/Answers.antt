@@ -1,5 +1,5 @@
 -- `damage::damages::show_checksum` meets its contract: the parts lent are within the rows.
-use Rattle.std.proofs.Common.{sym, ◌∙◌, arith, length-take-le, rules}
+use Rattle.std.proofs.Common.{sym, ◌∙◌, arith, length-take-le}
 use Rattle.damage.proofs.Arms.{by_parts, kept-within, sum-shown}
 use Rattle.damage.proofs.damages.show_checksum.Goals as goal
 

@@ -1,5 +1,5 @@
 -- `damage::record::condition_fits` meets its contract: each condition has its arm.
-use Rattle.std.proofs.Common.{rules, ne_eqb, le-leb}
+use Rattle.std.proofs.Common.{ne_eqb, le-leb}
 use borrow.Author.Tests.{lt-leb}
 use Rattle.damage.specs.Record.{condition_fits}
 use Rattle.damage.proofs.record.condition_fits.Goals as goal

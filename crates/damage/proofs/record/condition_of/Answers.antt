@@ -1,5 +1,5 @@
 -- `damage::record::condition_of` meets its contract: each condition has its arm, and an update's cell fits.
-use Rattle.std.proofs.Common.{arith, rules, ne_eqb}
+use Rattle.std.proofs.Common.{arith, ne_eqb}
 use Rattle.damage.specs.Record.{condition_of}
 use Rattle.damage.proofs.Fits.{cell-bound}
 use Rattle.damage.proofs.record.condition_of.Goals as goal

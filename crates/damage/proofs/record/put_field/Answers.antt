@@ -1,5 +1,5 @@
 -- `damage::record::put_field` meets its contract.
-use Rattle.std.proofs.Common.{sym, ◌∙◌, rules}
+use Rattle.std.proofs.Common.{sym, ◌∙◌}
 use Rattle.predicate.proofs.Bools.{chosen, passed_over}
 use Rattle.damage.proofs.record.put_field.Goals as goal
 

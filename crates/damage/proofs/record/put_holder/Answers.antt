@@ -1,5 +1,5 @@
 -- `damage::record::put_holder` meets its contract.
-use Rattle.std.proofs.Common.{ltb, leb, sym, ap, ◌∙◌, rules, le-ltb, lt-ltb, le-leb}
+use Rattle.std.proofs.Common.{ltb, leb, sym, ap, ◌∙◌, le-ltb, lt-ltb, le-leb}
 use borrow.Author.Tests.{lt-leb}
 use Rattle.board.specs.State.{locked}
 use Rattle.predicate.proofs.Bools.{chosen, passed_over, and_both, and-off, and-off-right}

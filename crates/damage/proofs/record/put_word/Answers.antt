@@ -1,5 +1,5 @@
 -- `damage::record::put_word` meets its contract.
-use Rattle.std.proofs.Common.{sym, rules, le-ltb, lt-ltb}
+use Rattle.std.proofs.Common.{sym, le-ltb, lt-ltb}
 use Rattle.predicate.proofs.Bools.{chosen, passed_over}
 use Rattle.damage.proofs.record.put_word.Goals as goal
 

@@ -1,5 +1,5 @@
 -- `damage::record::put_worker` meets its contract.
-use Rattle.std.proofs.Common.{ltb, sym, ap, ◌∙◌, rules, le-ltb, lt-ltb}
+use Rattle.std.proofs.Common.{ltb, sym, ap, ◌∙◌, le-ltb, lt-ltb}
 use Rattle.board.specs.State.{conditioned}
 use Rattle.damage.specs.Record.{condition_fits}
 use Rattle.predicate.proofs.Bools.{chosen, passed_over, and_both, and-off, and-off-right}

@@ -1,5 +1,5 @@
 -- `damage::record::with_field` meets its contract: each field has its arm, and the number fits it.
-use Rattle.std.proofs.Common.{refl, arith, rules, ne_eqb}
+use Rattle.std.proofs.Common.{refl, arith, ne_eqb}
 use Rattle.damage.specs.Record.{field_fits, with_field}
 use Rattle.damage.proofs.Fits.{field_bound}
 use Rattle.damage.proofs.record.with_field.Goals as goal

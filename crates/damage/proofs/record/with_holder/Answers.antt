@@ -1,5 +1,5 @@
 -- `damage::record::with_holder` meets its contract.
-use Rattle.std.proofs.Common.{sym, ◌∙◌, rules, eq-eqb, ne_eqb}
+use Rattle.std.proofs.Common.{sym, ◌∙◌, eq-eqb, ne_eqb}
 use Rattle.predicate.proofs.Bools.{chosen, passed_over}
 use Rattle.damage.proofs.record.with_holder.Goals as goal
 

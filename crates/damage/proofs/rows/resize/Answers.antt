@@ -1,5 +1,5 @@
-use Rattle.std.proofs.Common.{◌-◌, arith, rules}
-use Rattle.damage.proofs.Grown.{shorter, Grown, grown-none, grown-more, grown-all}
+use Rattle.std.proofs.Common.{arith}
+use Rattle.damage.proofs.Grown.{shorter, grown-none, grown-more, grown-all}
 use Rattle.damage.proofs.rows.resize.Goals as goal
 
 pub returns-then-size-used : goal.returns-then-size-used

@@ -1,6 +1,6 @@
 -- `damage::rows::resize` meets its contract. The invariant: up to `i` the row is grown.
-use Rattle.std.proofs.Common.{◌-◌, arith, rules}
-use Rattle.damage.proofs.Grown.{shorter, Grown, grown-none, grown-more, grown-all}
+use Rattle.std.proofs.Common.{◌-◌}
+use Rattle.damage.proofs.Grown.{Grown}
 use Rattle.damage.proofs.rows.resize.Given as goal
 
 abbrev pub invariant-loop-i : goal.invariant-loop-i

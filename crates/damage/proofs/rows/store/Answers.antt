@@ -1,5 +1,5 @@
 -- `damage::rows::store` meets its contract.
-use Rattle.std.proofs.Common.{length, take, sym, ◌∙◌, arith, length-take-le, rules, le-ltb, lt-ltb}
+use Rattle.std.proofs.Common.{length, take, sym, ◌∙◌, arith, length-take-le, le-ltb, lt-ltb}
 use lib.Seq.{take-set-lt}
 use Rattle.predicate.proofs.Bools.{chosen, passed_over}
 use Rattle.damage.proofs.rows.store.Goals as goal

@@ -1,5 +1,4 @@
 -- The holders are those that the leaf gives.
-use borrow.Author.Rules.{rules}
 use Rattle.effects.proofs.holders.lock_given_back.Goals as goal
 
 pub returns : goal.returns

@@ -1,5 +1,4 @@
 -- The words are those that the leaf gives.
-use borrow.Author.Rules.{rules}
 use Rattle.effects.proofs.record.dirtied.Goals as goal
 
 pub returns : goal.returns

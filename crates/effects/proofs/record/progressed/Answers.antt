@@ -1,5 +1,4 @@
 -- The dirty lines are cleared or kept; the workers are kept, freed or released.
-use borrow.Author.Rules.{rules}
 use Rattle.effects.proofs.record.progressed.Goals as goal
 
 pub returns-in-Kept : goal.returns-in-Kept

@@ -1,6 +1,5 @@
 -- Each of the eight is the worker at its index after the release.
 use mathlib.Core.List.{[], ◌∷◌}
-use borrow.Author.Rules.{rules}
 use Rattle.board.specs.declared.Worker.{Worker}
 use Rattle.board.specs.declared.Condition.{Condition}
 use Rattle.effects.proofs.record.released_workers.Goals as goal

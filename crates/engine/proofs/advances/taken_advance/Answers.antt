@@ -1,6 +1,5 @@
 -- `engine::advances::taken_advance` meets its contract: each arm is told the condition, and a taken advance gives the bounds of its store.
 use mathlib.Core.Path.{refl, sym, ◌∙◌}
-use borrow.Author.Rules.{rules}
 use Rattle.engine.proofs.Passed.{advance-stores}
 use Rattle.board.specs.Effects.{advance_of}
 use Rattle.engine.proofs.Effect.{in-condition}

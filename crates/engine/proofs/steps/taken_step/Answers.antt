@@ -1,6 +1,5 @@
 -- `engine::steps::taken_step` meets its contract: each arm is told the phase, and a taken step gives its bounds.
 use mathlib.Core.Path.{refl}
-use borrow.Author.Rules.{rules}
 use Rattle.engine.proofs.Passed.{step-formats, step-recovers, step-checkpoints}
 use Rattle.board.specs.Effects.{step}
 use Rattle.effects.proofs.Effects.{same-board}

@@ -1,5 +1,4 @@
 -- `line::cell::store_in_line` meets its contract: `word` gives the field's place among the line's words.
-use borrow.Author.Rules.{rules}
 use Rattle.line.proofs.cell.store_in_line.Goals as goal
 
 pub returns : goal.returns

@@ -1,7 +1,6 @@
 -- `line::row::header_word_or_zero` meets its contract: past the end stands the default.
 use mathlib.Core.Path.{sym}
 use lib.ListN.{get_or-eq_default}
-use borrow.Author.Rules.{rules}
 use Rattle.line.proofs.row.header_word_or_zero.Goals as goal
 
 pub returns-else-k-row : goal.returns-else-k-row

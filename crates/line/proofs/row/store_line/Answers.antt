@@ -1,5 +1,4 @@
 -- `line::row::store_line` meets its contract: the part that was lent comes back with the given words.
-use borrow.Author.Rules.{rules}
 use Rattle.line.proofs.Part.{back-line}
 use Rattle.line.proofs.row.store_line.Goals as goal
 

@@ -1,5 +1,4 @@
 -- `page::lines::put_blank_line` meets its contract: the bytes are those of a line of empty texts.
-use borrow.Author.Rules.{rules}
 use Rattle.board.specs.Page.{line_text}
 use Rattle.page.proofs.lines.put_blank_line.Goals as goal
 

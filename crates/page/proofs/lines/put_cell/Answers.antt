@@ -2,7 +2,6 @@
 use Prim.Native.Nat.{ℕ}
 use mathlib.Core.Path.{◌≡◌, subst}
 use mathlib.Core.List.{List}
-use borrow.Author.Rules.{rules}
 use Rattle.text.specs.Numbers.{number_text}
 use Rattle.text.specs.Writing.{Put}
 use Rattle.board.specs.Page.{line_text}

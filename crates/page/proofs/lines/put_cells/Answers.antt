@@ -1,10 +1,8 @@
-use Prim.Native.Nat.{ℕ, ◌+◌, ◌*◌, ◌-◌, ◌≤◌}
-use mathlib.Core.Path.{◌≡◌, refl, ap, subst, ◌∙◌}
-use mathlib.Core.List.{List, [], map, flatten}
+use Prim.Native.Nat.{ℕ}
+use mathlib.Core.Path.{refl, ap, subst, ◌∙◌}
+use mathlib.Core.List.{List, [], flatten}
 use native.Mathlib.Omega.{arith}
-use lib.ListN.{length, take}
 use lib.Seq.{take_all}
-use borrow.Author.Rules.{rules}
 use Rattle.text.specs.Writing.{put, Put}
 use Rattle.text.proofs.Writing.{put-none, and_then}
 use Rattle.board.specs.Page.{cell_text}

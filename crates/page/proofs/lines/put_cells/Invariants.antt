@@ -1,15 +1,10 @@
 -- `page::lines::put_cells` meets its contract. The invariant: the lines of the first `i` cells are written.
 use Prim.Native.Nat.{ℕ, ◌+◌, ◌*◌, ◌-◌, ◌≤◌}
-use mathlib.Core.Path.{◌≡◌, refl, ap, subst, ◌∙◌}
-use mathlib.Core.List.{List, [], map, flatten}
-use native.Mathlib.Omega.{arith}
+use mathlib.Core.Path.{◌≡◌}
+use mathlib.Core.List.{List, map, flatten}
 use lib.ListN.{length, take}
-use lib.Seq.{take_all}
-use borrow.Author.Rules.{rules}
-use Rattle.text.specs.Writing.{put, Put}
-use Rattle.text.proofs.Writing.{put-none, and_then}
+use Rattle.text.specs.Writing.{Put}
 use Rattle.board.specs.Page.{cell_text}
-use Rattle.page.proofs.Texts.{lines_more}
 use Rattle.page.proofs.lines.put_cells.Given as goal
 
 -- The lines of some cells.

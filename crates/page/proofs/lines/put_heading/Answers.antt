@@ -1,5 +1,4 @@
 -- `page::lines::put_heading` meets its contract: the bytes are the heading's.
-use borrow.Author.Rules.{rules}
 use Rattle.board.specs.Page.{line_text}
 use Rattle.page.proofs.lines.put_heading.Goals as goal
 

@@ -1,6 +1,5 @@
 -- `script::answer::put_answer` meets its contract: the parts of `answer_text` are written one after the other.
 use native.Mathlib.Omega.{arith}
-use borrow.Author.Rules.{rules}
 use Rattle.script.specs.Answers.{answer_text}
 use Rattle.text.proofs.Writing.{and_then}
 use Rattle.script.proofs.answer.put_answer.Goals as goal

@@ -1,6 +1,5 @@
 -- `script::answer::put_shown` meets its contract: each arm writes its case of `shown_text`.
 use native.Mathlib.Omega.{arith}
-use borrow.Author.Rules.{rules}
 use Rattle.script.proofs.TextLaws.{shown-put}
 use Rattle.script.proofs.answer.put_shown.Goals as goal
 

@@ -1,6 +1,5 @@
 -- `script::commands::asked` meets its contract.
 use mathlib.Core.Path.{ap, ◌∙◌}
-use borrow.Author.Rules.{rules}
 use Rattle.script.specs.Fields.{drilled_of}
 use Rattle.script.proofs.commands.asked.Goals as goal
 

@@ -1,6 +1,5 @@
 -- `script::commands::further` meets its contract: only the fault program has further letters.
 use mathlib.Core.Path.{refl}
-use borrow.Author.Rules.{rules}
 use Rattle.script.specs.declared.Program.TheVariants.{Drill, Page, Hex}
 use Rattle.script.proofs.NumberLaws.{none-further}
 use Rattle.script.proofs.commands.further.Goals as goal

@@ -2,7 +2,6 @@
 use mathlib.Core.Path.{sym, ap, ◌∙◌}
 use native.Mathlib.Omega.{arith}
 use lib.ListN.{get_or}
-use borrow.Author.Rules.{rules}
 use Rattle.script.specs.Fields.{command_of}
 use Rattle.script.proofs.NumberLaws.{meaning-long, meaning-other, meaning-letter}
 use Rattle.script.proofs.commands.parse.Goals as goal

@@ -1,5 +1,4 @@
 -- `script::commands::with_numbers` meets its contract: each arm's call is its case of `drilled_of`.
-use borrow.Author.Rules.{rules}
 use Rattle.script.specs.Grammar.{drilled}
 use Rattle.script.proofs.commands.with_numbers.Goals as goal
 

@@ -1,5 +1,4 @@
 -- `script::damages::damaging` meets its contract: each arm is its case of `damaging_of`.
-use borrow.Author.Rules.{rules}
 use Rattle.script.specs.Grammar.{damaging}
 use Rattle.script.proofs.damages.damaging.Goals as goal
 

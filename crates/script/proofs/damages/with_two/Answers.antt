@@ -1,5 +1,4 @@
 -- `script::damages::with_two` meets its contract: each letter's arm is its case of `damaging`.
-use borrow.Author.Rules.{rules}
 use borrow.Author.Tests.{ne_eqb}
 use Rattle.script.specs.Grammar.{damaging}
 use Rattle.script.proofs.damages.with_two.Goals as goal

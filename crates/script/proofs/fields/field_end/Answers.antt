@@ -1,10 +1,5 @@
-use Prim.Native.Nat.{◌+◌, ◌-◌, ◌≤◌}
-use mathlib.Core.Path.{◌≡◌}
 use native.Mathlib.Omega.{arith}
 use native.Mathlib.Numerals.{add-one}
-use lib.ListN.{length, drop}
-use borrow.Author.Rules.{rules}
-use Rattle.script.specs.Fields.{first}
 use Rattle.script.proofs.FieldLaws.{first-at-tab, first-goes-on, first-at-end}
 use Rattle.script.proofs.fields.field_end.Goals as goal
 

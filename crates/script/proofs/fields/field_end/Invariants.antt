@@ -1,12 +1,8 @@
 -- `script::fields::field_end` meets its contract. The invariant: the field that starts at `at` goes as far beyond `i` as the one that starts at `i`.
 use Prim.Native.Nat.{◌+◌, ◌-◌, ◌≤◌}
 use mathlib.Core.Path.{◌≡◌}
-use native.Mathlib.Omega.{arith}
-use native.Mathlib.Numerals.{add-one}
 use lib.ListN.{length, drop}
-use borrow.Author.Rules.{rules}
 use Rattle.script.specs.Fields.{first}
-use Rattle.script.proofs.FieldLaws.{first-at-tab, first-goes-on, first-at-end}
 use Rattle.script.proofs.fields.field_end.Given as goal
 
 abbrev pub invariant-loop-i : goal.invariant-loop-i

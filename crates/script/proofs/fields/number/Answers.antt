@@ -1,13 +1,11 @@
-use Prim.Native.Nat.{ℕ, ◌+◌, ◌*◌, ◌-◌, ◌^◌, ◌≤◌}
-use mathlib.Core.Path.{◌≡◌, sym, ap, ◌∙◌}
+use Prim.Native.Nat.{ℕ, ◌+◌, ◌*◌, ◌-◌}
+use mathlib.Core.Path.{sym, ap, ◌∙◌}
 use native.Mathlib.Omega.{arith}
 use lib.Dec.{leb}
-use lib.ListN.{length, drop, get_or}
-use borrow.Author.Rules.{rules}
+use lib.ListN.{drop, get_or}
 use borrow.Author.Tests.{lt-leb}
 use Rattle.predicate.proofs.Bools.{and-off, and-off-right}
 use Rattle.text.specs.Ascii.{'0', '9'}
-use Rattle.script.specs.Fields.{number_of}
 use Rattle.script.proofs.NumberLaws.{number_from, number-starts, number-empty, number-ends, number-goes-on, number-breaks, number_past}
 use Rattle.script.proofs.fields.number.Goals as goal
 

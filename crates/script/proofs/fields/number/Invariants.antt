@@ -1,15 +1,9 @@
 -- `script::fields::number` meets its contract. The invariant: what is left of the field, read after `value`, is what the whole field is.
-use Prim.Native.Nat.{ℕ, ◌+◌, ◌*◌, ◌-◌, ◌^◌, ◌≤◌}
-use mathlib.Core.Path.{◌≡◌, sym, ap, ◌∙◌}
-use native.Mathlib.Omega.{arith}
-use lib.Dec.{leb}
-use lib.ListN.{length, drop, get_or}
-use borrow.Author.Rules.{rules}
-use borrow.Author.Tests.{lt-leb}
-use Rattle.predicate.proofs.Bools.{and-off, and-off-right}
-use Rattle.text.specs.Ascii.{'0', '9'}
+use Prim.Native.Nat.{◌-◌, ◌^◌, ◌≤◌}
+use mathlib.Core.Path.{◌≡◌}
+use lib.ListN.{length, drop}
 use Rattle.script.specs.Fields.{number_of}
-use Rattle.script.proofs.NumberLaws.{number_from, number-starts, number-empty, number-ends, number-goes-on, number-breaks, number_past}
+use Rattle.script.proofs.NumberLaws.{number_from}
 use Rattle.script.proofs.fields.number.Given as goal
 
 abbrev pub invariant-loop-i : goal.invariant-loop-i

@@ -1,10 +1,7 @@
-use Prim.Native.Nat.{◌-◌, ◌≤◌}
-use mathlib.Core.Path.{◌≡◌, refl, sym, ap, ◌∙◌}
+use mathlib.Core.Path.{refl, sym, ap, ◌∙◌}
 use native.Mathlib.Omega.{arith}
-use lib.ListN.{length, drop}
-use borrow.Author.Rules.{rules}
+use lib.ListN.{drop}
 use Rattle.script.specs.declared.Numbers.{Numbers}
-use Rattle.script.specs.declared.Numbers.TheVariants.{Zero}
 use Rattle.script.specs.Fields.{with_field, numbers_of, later}
 use Rattle.script.proofs.NumberLaws.{numbers-end, numbers_more}
 use Rattle.script.proofs.fields.numbers.Goals as goal

@@ -1,13 +1,9 @@
 -- `script::fields::numbers` meets its contract. The invariant: the numbers got with the fields left give what the whole gives.
 use Prim.Native.Nat.{◌-◌, ◌≤◌}
-use mathlib.Core.Path.{◌≡◌, refl, sym, ap, ◌∙◌}
-use native.Mathlib.Omega.{arith}
+use mathlib.Core.Path.{◌≡◌}
 use lib.ListN.{length, drop}
-use borrow.Author.Rules.{rules}
-use Rattle.script.specs.declared.Numbers.{Numbers}
 use Rattle.script.specs.declared.Numbers.TheVariants.{Zero}
-use Rattle.script.specs.Fields.{with_field, numbers_of, later}
-use Rattle.script.proofs.NumberLaws.{numbers-end, numbers_more}
+use Rattle.script.specs.Fields.{numbers_of, later}
 use Rattle.script.proofs.fields.numbers.Given as goal
 
 abbrev pub invariant-loop-at : goal.invariant-loop-at

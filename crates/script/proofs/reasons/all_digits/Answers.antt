@@ -1,13 +1,10 @@
-use Prim.Native.Nat.{◌-◌, ◌≤◌}
-use mathlib.Core.Path.{◌≡◌, refl, sym, ◌∙◌}
+use mathlib.Core.Path.{refl, sym, ◌∙◌}
 use native.Mathlib.Omega.{arith}
 use lib.Dec.{leb}
-use lib.ListN.{length, drop, get_or}
-use borrow.Author.Rules.{rules}
+use lib.ListN.{get_or}
 use borrow.Author.Tests.{lt-leb}
 use Rattle.predicate.proofs.Bools.{and-off, and-off-right}
 use Rattle.text.specs.Ascii.{'0', '9'}
-use Rattle.text.specs.Numbers.{all_digits}
 use Rattle.script.proofs.ReasonLaws.{digits-break, digits-go-on, digits-end}
 use Rattle.script.proofs.reasons.all_digits.Goals as goal
 

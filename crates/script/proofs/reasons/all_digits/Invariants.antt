@@ -1,15 +1,8 @@
 -- `script::reasons::all_digits` meets its contract. The invariant: what is left of the field is digits alone where the whole field is.
 use Prim.Native.Nat.{◌-◌, ◌≤◌}
-use mathlib.Core.Path.{◌≡◌, refl, sym, ◌∙◌}
-use native.Mathlib.Omega.{arith}
-use lib.Dec.{leb}
-use lib.ListN.{length, drop, get_or}
-use borrow.Author.Rules.{rules}
-use borrow.Author.Tests.{lt-leb}
-use Rattle.predicate.proofs.Bools.{and-off, and-off-right}
-use Rattle.text.specs.Ascii.{'0', '9'}
+use mathlib.Core.Path.{◌≡◌}
+use lib.ListN.{length, drop}
 use Rattle.text.specs.Numbers.{all_digits}
-use Rattle.script.proofs.ReasonLaws.{digits-break, digits-go-on, digits-end}
 use Rattle.script.proofs.reasons.all_digits.Given as goal
 
 abbrev pub invariant-loop-i : goal.invariant-loop-i

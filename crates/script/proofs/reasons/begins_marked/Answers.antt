@@ -2,7 +2,6 @@
 use Prim.Native.Nat.{ℕ}
 use mathlib.Core.Path.{ap, ◌∙◌}
 use lib.ListN.{get_or}
-use borrow.Author.Rules.{rules}
 use Rattle.script.specs.Reasons.{order_marked}
 use Rattle.script.proofs.reasons.begins_marked.Goals as goal
 

@@ -1,9 +1,5 @@
-use Prim.Native.Nat.{◌-◌, ◌≤◌}
-use mathlib.Core.Path.{◌≡◌, refl, sym, ◌∙◌}
+use mathlib.Core.Path.{refl, sym, ◌∙◌}
 use native.Mathlib.Omega.{arith}
-use lib.ListN.{length, drop}
-use borrow.Author.Rules.{rules}
-use Rattle.script.specs.Reasons.{stands_in}
 use Rattle.script.proofs.ReasonLaws.{has_here, has-later, has_end_lem}
 use Rattle.script.proofs.reasons.has_byte.Goals as goal
 

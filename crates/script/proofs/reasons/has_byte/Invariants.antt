@@ -1,11 +1,8 @@
 -- `script::reasons::has_byte` meets its contract. The invariant: what is left of the line has the byte where the whole line has it.
 use Prim.Native.Nat.{◌-◌, ◌≤◌}
-use mathlib.Core.Path.{◌≡◌, refl, sym, ◌∙◌}
-use native.Mathlib.Omega.{arith}
+use mathlib.Core.Path.{◌≡◌}
 use lib.ListN.{length, drop}
-use borrow.Author.Rules.{rules}
 use Rattle.script.specs.Reasons.{stands_in}
-use Rattle.script.proofs.ReasonLaws.{has_here, has-later, has_end_lem}
 use Rattle.script.proofs.reasons.has_byte.Given as goal
 
 abbrev pub invariant-loop-i : goal.invariant-loop-i

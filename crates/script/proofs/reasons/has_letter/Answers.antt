@@ -1,5 +1,4 @@
 -- `script::reasons::has_letter` meets its contract: each program's letters are looked through.
-use borrow.Author.Rules.{rules}
 use Rattle.script.proofs.reasons.has_letter.Goals as goal
 
 pub returns-in-Drill : goal.returns-in-Drill

@@ -1,6 +1,5 @@
 -- `script::reasons::is_number` meets its contract: what a field reads as tells.
 use mathlib.Core.Path.{sym, ap, ◌∙◌}
-use borrow.Author.Rules.{rules}
 use Rattle.script.proofs.ReasonLaws.{is_value, number-reads}
 use Rattle.script.proofs.reasons.is_number.Goals as goal
 

@@ -1,6 +1,5 @@
 -- `script::reasons::why` meets its contract.
 use mathlib.Core.Path.{sym, ◌∙◌}
-use borrow.Author.Rules.{rules}
 use Rattle.predicate.proofs.Bools.{chosen}
 use Rattle.script.specs.declared.Reason.TheVariants.{Unfit}
 use Rattle.script.specs.Reasons.{is_unknown, unknown_reason}

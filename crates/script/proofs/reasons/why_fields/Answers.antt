@@ -1,12 +1,7 @@
-use Prim.Native.Nat.{◌-◌, ◌≤◌}
-use mathlib.Core.Path.{◌≡◌, refl, sym, ◌∙◌}
+use mathlib.Core.Path.{refl, sym, ◌∙◌}
 use native.Mathlib.Omega.{arith}
-use lib.ListN.{length, drop}
-use borrow.Author.Rules.{rules}
 use Rattle.predicate.proofs.Bools.{chosen, passed_over}
 use Rattle.script.specs.Grammar.{is_number}
-use Rattle.script.specs.Fields.{later}
-use Rattle.script.specs.Reasons.{fields_reason}
 use Rattle.script.proofs.ReasonLaws.{fields-end, fields-more}
 use Rattle.script.proofs.reasons.why_fields.Goals as goal
 

@@ -1,14 +1,9 @@
 -- `script::reasons::why_fields` meets its contract. The invariant: the fields left decide as all of them do.
 use Prim.Native.Nat.{◌-◌, ◌≤◌}
-use mathlib.Core.Path.{◌≡◌, refl, sym, ◌∙◌}
-use native.Mathlib.Omega.{arith}
+use mathlib.Core.Path.{◌≡◌}
 use lib.ListN.{length, drop}
-use borrow.Author.Rules.{rules}
-use Rattle.predicate.proofs.Bools.{chosen, passed_over}
-use Rattle.script.specs.Grammar.{is_number}
 use Rattle.script.specs.Fields.{later}
 use Rattle.script.specs.Reasons.{fields_reason}
-use Rattle.script.proofs.ReasonLaws.{fields-end, fields-more}
 use Rattle.script.proofs.reasons.why_fields.Given as goal
 
 abbrev pub invariant-loop-at : goal.invariant-loop-at

@@ -2,7 +2,6 @@
 use mathlib.Core.Path.{sym, ◌∙◌}
 use lib.Dec.{eqb}
 use lib.ListN.{length, drop}
-use borrow.Author.Rules.{rules}
 use borrow.Author.Tests.{eq-eqb, ne_eqb}
 use Rattle.predicate.proofs.Bools.{chosen, passed_over}
 use Rattle.script.specs.declared.Reason.TheVariants.{Empty, Letter}

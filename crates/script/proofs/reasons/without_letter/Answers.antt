@@ -5,7 +5,6 @@ use mathlib.Core.Bool.{not}
 use native.Mathlib.Omega.{arith}
 use lib.Dec.{eqb}
 use lib.ListN.{length}
-use borrow.Author.Rules.{rules}
 use Rattle.script.specs.Fields.{first}
 use Rattle.script.specs.Reasons.{stands_in, letters, unlettered}
 use Rattle.script.proofs.ReasonLaws.{and_same}

@@ -1,6 +1,5 @@
 -- `session::texts::carry_out` meets its contract: each arm is told the work, and its contract is that work's.
 use mathlib.Core.Path.{refl, ap}
-use borrow.Author.Rules.{rules}
 use Rattle.script.specs.declared.Line.TheVariants as line
 use Rattle.session.proofs.Acts.{acted, same-within}
 use Rattle.session.proofs.texts.carry_out.Goals as goal

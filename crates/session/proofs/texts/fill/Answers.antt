@@ -1,8 +1,5 @@
-use Prim.Native.Nat.{◌-◌}
 use native.Mathlib.Omega.{arith}
-use lib.ListN.{length}
-use borrow.Author.Rules.{rules}
-use Rattle.session.proofs.Rows.{FilledUpTo, filled_none, filled_more, filled-all}
+use Rattle.session.proofs.Rows.{filled_none, filled_more, filled-all}
 use Rattle.session.proofs.texts.fill.Goals as goal
 
 pub loop-i-init : goal.loop-i-init

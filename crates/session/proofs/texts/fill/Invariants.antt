@@ -1,9 +1,7 @@
 -- `session::texts::fill` meets its contract. The invariant: the first `i` bytes are 0xAA.
 use Prim.Native.Nat.{◌-◌}
-use native.Mathlib.Omega.{arith}
 use lib.ListN.{length}
-use borrow.Author.Rules.{rules}
-use Rattle.session.proofs.Rows.{FilledUpTo, filled_none, filled_more, filled-all}
+use Rattle.session.proofs.Rows.{FilledUpTo}
 use Rattle.session.proofs.texts.fill.Given as goal
 
 abbrev pub invariant-loop-i : goal.invariant-loop-i

@@ -1,6 +1,5 @@
 -- `session::texts::put` meets its contract.
 use mathlib.Core.Path.{refl, ◌∙◌}
-use borrow.Author.Rules.{rules}
 use Rattle.session.proofs.Acts.{by_parts}
 use Rattle.session.proofs.TextWork.{put-past, put-large, put-shown}
 use Rattle.session.proofs.texts.put.Goals as goal

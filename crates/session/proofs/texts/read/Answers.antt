@@ -2,9 +2,7 @@
 use mathlib.Core.Path.{refl, ◌∙◌}
 use native.Mathlib.Omega.{arith}
 use lib.Seq.{length-take-le}
-use borrow.Author.Rules.{rules}
 use Rattle.session.specs.Session.{desk_of}
-use Rattle.session.proofs.Rows.{part-size}
 use Rattle.session.proofs.Acts.{by_parts}
 use Rattle.session.proofs.TextWork.{read_off, read-shown}
 use Rattle.session.proofs.texts.read.Goals as goal

@@ -1,9 +1,7 @@
 -- `session::texts::write` meets its contract: the text is the first bytes of its array.
 use mathlib.Core.Path.{refl, ◌∙◌}
 use native.Mathlib.Omega.{arith}
-use borrow.Author.Rules.{rules}
 use Rattle.session.specs.Session.{desk_of}
-use Rattle.session.proofs.Rows.{part-size}
 use Rattle.session.proofs.Acts.{by_parts, same-within}
 use Rattle.session.proofs.TextWork.{write-off, write-shown}
 use Rattle.session.proofs.texts.write.Goals as goal

@@ -2,7 +2,6 @@
 use Prim.Native.Nat.{ℕ}
 use mathlib.Core.Path.{subst}
 use mathlib.Core.List.{List}
-use borrow.Author.Rules.{rules}
 use Rattle.board.specs.Hex.{HexWritePerformed}
 use Rattle.session.proofs.texts.write_row.Goals as goal
 

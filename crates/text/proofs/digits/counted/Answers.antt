@@ -1,5 +1,5 @@
 -- `text::digits::counted` meets its contract: the unit is taken off eight or four times, twice and once where that fits.
-use Rattle.std.proofs.Common.{◌≡◌, ℕ, suc, ◌+◌, ◌-◌, ◌*◌, ◌/◌, ◌%◌, ◌^◌, ◌<◌, ◌≤◌, cond, ltb, sym, ap, ◌∙◌, subst, mul-le-mul_right, add-mul, mul-suc, mul_left_comm, arith, rules, ltb-false, ltb-true}
+use Rattle.std.proofs.Common.{◌≡◌, ℕ, suc, ◌+◌, ◌-◌, ◌*◌, ◌/◌, ◌%◌, ◌^◌, ◌<◌, ◌≤◌, cond, ltb, sym, ap, ◌∙◌, subst, mul-le-mul_right, add-mul, mul-suc, mul_left_comm, arith, ltb-false, ltb-true}
 use Rattle.predicate.proofs.Bools.{on}
 use Rattle.text.proofs.Counting.{Counting, too_many, so-many, halved, all-counted}
 use Rattle.text.proofs.digits.counted.Goals as goal

@@ -1,8 +1,6 @@
 -- `text::digits::digits_of` meets its contract: `n` reaches every power below the one where the loop ends.
-use Rattle.std.proofs.Common.{◌≡◌, ℕ, suc, ◌+◌, ◌-◌, ◌^◌, ◌<◌, ◌≤◌, length, subst, arith}
+use Rattle.std.proofs.Common.{◌-◌, ◌<◌, ◌≤◌, length}
 use Rattle.text.specs.Numbers.{number_text}
-use Rattle.text.proofs.Numbers.{number-width, number-long, number-some}
-use Rattle.text.proofs.TenTimes.{power_at}
 use Rattle.text.proofs.digits.digits_of.Given as goal
 
 abbrev pub invariant-loop-k : goal.invariant-loop-k

@@ -1,7 +1,7 @@
-use Rattle.std.proofs.Common.{◌≡◌, ℕ, ◌+◌, ◌-◌, ◌*◌, ◌/◌, ◌%◌, ◌^◌, ◌≤◌, List, get_or, subst, arith, rules}
+use Rattle.std.proofs.Common.{◌≡◌, ℕ, ◌+◌, ◌-◌, ◌*◌, ◌/◌, ◌%◌, ◌^◌, ◌≤◌, List, get_or, subst, arith}
 use Rattle.text.specs.Powers.{PowersOfTen}
 use Rattle.text.proofs.TenTimes.{power_at}
-use Rattle.text.proofs.Running.{DigitRun, run-begins, run_more, run_ends, countable}
+use Rattle.text.proofs.Running.{run-begins, run_more, run_ends, countable}
 use Rattle.text.proofs.digits.put_run.Goals as goal
 
 pub loop-k-init : goal.loop-k-init

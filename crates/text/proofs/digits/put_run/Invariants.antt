@@ -1,8 +1,5 @@
 -- `text::digits::put_run` meets its contract: `DigitRun` at each place.
-use Rattle.std.proofs.Common.{◌≡◌, ℕ, ◌+◌, ◌-◌, ◌*◌, ◌/◌, ◌%◌, ◌^◌, ◌≤◌, List, get_or, subst, arith, rules}
-use Rattle.text.specs.Powers.{PowersOfTen}
-use Rattle.text.proofs.TenTimes.{power_at}
-use Rattle.text.proofs.Running.{DigitRun, run-begins, run_more, run_ends, countable}
+use Rattle.text.proofs.Running.{DigitRun}
 use Rattle.text.proofs.digits.put_run.Given as goal
 
 abbrev pub invariant-loop-k : goal.invariant-loop-k

@@ -1,10 +1,7 @@
 -- `text::number::put_divided` meets its contract. The invariant: what is written is the number's last digits, and those left are the rest.
-use Rattle.std.proofs.Common.{◌≡◌, ℕ, ◌+◌, ◌-◌, ◌/◌, ◌%◌, ◌<◌, ◌≤◌, List, [], ◌∷◌, ◌++◌, length, set, sym, refl, ap, ◌∙◌, subst, append_assoc, append-nil, arith, length-append, length-set, rules}
-use Rattle.text.specs.Ascii.{'0'}
+use Rattle.std.proofs.Common.{◌≡◌, ℕ, ◌+◌, List, ◌++◌, length}
 use Rattle.text.specs.Numbers.{number_text}
 use Rattle.text.specs.Writing.{put}
-use Rattle.text.proofs.Numbers.{number-one, number_more, number-some}
-use Rattle.text.proofs.Writing.{put-none, put-set, put-before}
 use Rattle.text.proofs.number.put_divided.Given as goal
 
 -- What is written so far: the last digits of `whole`, `rest` being those before them.
