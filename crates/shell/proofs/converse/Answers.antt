@@ -1,0 +1,20 @@
+-- The part used up lies within what is left of the piece, so what it leaves is what the piece up to there leaves.
+use Rattle.std.proofs.Common.{arith, ap, refl, length, length-take-le, length-drop, ◌-◌, drop}
+use Rattle.console.specs.Pieces.{Fed, fed}
+use Rattle.console.proofs.Pieces.{used-more}
+use Rattle.shell.proofs.converse.Goals as goal
+
+pub loop-used-init : goal.loop-used-init
+unfolding fed
+loop-used-init g c = (omega arith, c.requires, refl)
+
+pub loop-used-preserved : goal.loop-used-preserved
+loop-used-preserved g c =
+    let piece = c.args.piece.now in
+    let used = c.loop-used.used in
+    let stops = c.answer-r.ensures.stops in (
+      omega (arith, stops.used-within, length-drop used piece, length-take-le (length piece - used) (drop used piece)),
+      c.answer-r.ensures.ready,
+      used-more c.args.program _ _ _ piece used c.answer-r.result.used c.loop-used.invariant.2 stops.used-within
+          (ap (λ (f : Fed). f.after) c.answer-r.ensures.fed),
+    )
