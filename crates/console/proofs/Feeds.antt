@@ -3,7 +3,7 @@ use Rattle.std.proofs.Common.{◌≡◌, ℕ, zero, suc, ◌+◌, ◌-◌, ◌<�
 use lib.Seq.{drop-length, take-append-add, take-length}
 use borrow.Rule.Slice.PartMut.{mid_of, put_mid}
 use Rattle.predicate.proofs.Bools.{clash, and_left, and_right, not-of}
-use Rattle.bytes.specs.Bytes.{index_of, index_after}
+use Rattle.console.specs.Bytes.{index_of, index_after}
 use Rattle.text.specs.Ascii.{feed}
 use Rattle.text.specs.Writing.{put}
 use Rattle.text.proofs.Writing.{put_front}

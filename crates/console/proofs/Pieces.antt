@@ -2,7 +2,7 @@
 use Rattle.std.proofs.Common.{◌≡◌, ℕ, zero, suc, ◌+◌, ◌-◌, ◌<◌, ◌≤◌, Bool, true, false, cond, eqb, List, [], ◌∷◌, ◌++◌, length, take, drop, sym, refl, ap, ◌∙◌, append_assoc, append-nil, arith, length-drop, length-take, length-take-le, take_all, take-take, take-add, eq-eqb, ne_eqb}
 use lib.Seq.{take-length}
 use Rattle.predicate.proofs.Bools.{chosen, passed_over}
-use Rattle.bytes.specs.Bytes.{index_of, index_after}
+use Rattle.console.specs.Bytes.{index_of, index_after}
 use Rattle.text.specs.Ascii.{feed}
 use Rattle.script.specs.declared.Program.{Program}
 use Rattle.session.specs.declared.Session.{Session}

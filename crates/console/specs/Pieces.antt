@@ -1,7 +1,7 @@
 -- An input that comes in pieces: what a piece leaves and what is written to it, and that pieces do not matter.
 use Rattle.std.specs.Prelude.{◌≡◌, ℕ, ◌+◌, ◌<◌, ◌≤◌, Bool, true, cond, List, [], ◌∷◌, ◌++◌, length, take, drop, ◌==◌, slice_index}
 use mathlib.Core.List.{flatten}
-use Rattle.bytes.specs.Bytes.{index_of}
+use Rattle.console.specs.Bytes.{index_of}
 use Rattle.text.specs.Ascii.{feed}
 use Rattle.script.specs.Grammar.{meaning}
 use Rattle.script.specs.Answers.{header_text}

@@ -1,6 +1,6 @@
 // The bytes of a line that goes on from piece to piece, and where a line ends.
 ghost use Rattle.std.specs.Prelude.{◌≡◌, ◌+◌, ◌≤◌, true, ◌++◌, length, take, drop};
-ghost use Rattle.bytes.specs.Bytes.{index_of};
+ghost use Rattle.console.specs.Bytes.{index_of};
 ghost use Rattle.text.specs.Ascii.{feed};
 ghost use Rattle.text.specs.Writing.{put};
 ghost use Rattle.console.specs.Pieces.{LineGoesOn};

@@ -11,4 +11,4 @@ returns-then-progress-eq0 c =
 pub returns : goal.returns
 returns c =
     let a = c.args in
-    let r = c.answer-r in record { finishes = line-last a.program a.progress a.memory.now a.cache.now a.text.now a.line.now c.requires.0 c.requires.1 c.if-progress-eq0.false r.ensures.fed r.ensures.stops.0; ready = (r.ensures.stops.1, r.ensures.stops.0.written-within) }
+    let r = c.answer-r in record { finishes = line-last a.program a.progress a.memory.now a.cache.now a.text.now a.line.now c.requires.0 c.requires.1 c.if-progress-eq0.false r.ensures.fed r.ensures.stops; ready = (r.ensures.ready, r.ensures.stops.written-within) }

@@ -21,7 +21,7 @@ put_answer-end-requires c = omega (arith, c.requires.2, c.put_answer-arg-2-1.giv
 
 -- The line kept is as long as before.
 pub shape_of-line : goal.shape_of-line
-shape_of-line c = c.read_line-asked.auto.rest
+shape_of-line c = c.read_line-asked.auto.line
 
 pub returns-in-Unknown : goal.returns-in-Unknown
 returns-in-Unknown c =
@@ -33,10 +33,13 @@ returns-in-Unknown c =
     let next = c.after_line in
     let text = take 80 (take p.begun a.line.now ++ a.rest.now) in
     let d = desk_of p.session a.memory.now a.cache.now a.text.now in
-    let did = acted line.Unknown d (done d Unknown Nothing) c.in-Unknown.is refl in record { ends = ends_as (line-ends a.program d p.number p.misread text number.result _ asked.result.line asked.result.why _
+    let did = acted line.Unknown d (done d Unknown Nothing) c.in-Unknown.is refl in record {
+      ends = ends_as (line-ends a.program d p.number p.misread text number.result _ asked.result.line asked.result.why _
           number.ensures.value asked.ensures.means asked.ensures.reasons did refl c.put_answer.ensures.0 c.put_answer.ensures.1 (omega (arith, c.requires.2, c.put_answer-arg-1.given)))
-          (sym (ap (λ (q : Ongoing). carried_by q a.memory.now a.cache.now a.text.now asked.new.rest) next.ensures
-          ∙ ap (λ (m : Misread). carried d number.result m []) tallying.ensures)); ready = ready-after p.session number.result tallying.result next.ensures c.requires.0.session-within }
+          (sym (ap (λ (q : Ongoing). carried_by q a.memory.now a.cache.now a.text.now asked.new.line) next.ensures
+          ∙ ap (λ (m : Misread). carried d number.result m []) tallying.ensures));
+      ready = ready-after p.session number.result tallying.result next.ensures c.requires.0.session-within;
+    }
 
 pub returns : goal.returns
 returns c =
@@ -52,8 +55,11 @@ returns c =
     let text = take 80 (take p.begun a.line.now ++ a.rest.now) in
     let d = desk_of p.session a.memory.now a.cache.now a.text.now in
     let did = left act.result act.new.memory act.new.cache act.new.text in
-    let heads = letter.ensures ∙ ap (λ (first : ℕ). letter_of first act.result.answer) asked.ensures.begins in record { ends = ends_as (line-ends a.program d p.number p.misread text number.result letter.result asked.result.line asked.result.why did
+    let heads = letter.ensures ∙ ap (λ (first : ℕ). letter_of first act.result.answer) asked.ensures.begins in record {
+      ends = ends_as (line-ends a.program d p.number p.misread text number.result letter.result asked.result.line asked.result.why did
           number.ensures.value asked.ensures.means asked.ensures.reasons act.ensures.done heads {out = a.out.now} {at = a.at}
           wrote.ensures.0 wrote.ensures.1 (omega (arith, c.requires.2, c.put_answer-arg-2-1.given)))
-          (sym (ap (λ (q : Ongoing). carried_by q act.new.memory act.new.cache act.new.text asked.new.rest) next.ensures
-          ∙ ap (λ (m : Misread). carried did.desk number.result m []) tallying.ensures)); ready = ready-after act.result.session number.result tallying.result next.ensures act.ensures.within }
+          (sym (ap (λ (q : Ongoing). carried_by q act.new.memory act.new.cache act.new.text asked.new.line) next.ensures
+          ∙ ap (λ (m : Misread). carried did.desk number.result m []) tallying.ensures));
+      ready = ready-after act.result.session number.result tallying.result next.ensures act.ensures.within;
+    }

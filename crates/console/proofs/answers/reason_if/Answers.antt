@@ -6,7 +6,7 @@ use Rattle.script.specs.Reasons.{reason_number}
 use Rattle.console.proofs.answers.reason_if.Goals as goal
 
 pub returns-then-wanted : goal.returns-then-wanted
-returns-then-wanted c = λ t. c.number_of_lem.ensures ∙ ap (λ (r : Reason). reason_number r) c.why.ensures
+returns-then-wanted c = λ t. c.number_of.ensures ∙ ap (λ (r : Reason). reason_number r) c.why.ensures
 
 pub returns : goal.returns
 returns c = λ t. absurd (clash t c.if-wanted.false)

@@ -13,8 +13,11 @@ use Rattle.console.proofs.answers.start.Goals as goal
 pub returns : goal.returns
 returns c =
     let s = c.new.result in
-    let w = c.new.ensures in record { first = (λ m c t line.
+    let w = c.new.ensures in record {
+      first = (λ m c t line.
           ap (λ (x : State). carried (desk (lent x (take s.memory m) (take s.cache c)) (take s.text t)) 0 none_misread []) w.0
           ∙ ap (λ (k : ℕ). carried (desk (lent (started Off (shaped 0) 0) (take k m) (take s.cache c)) (take s.text t)) 0 none_misread []) w.1
           ∙ ap (λ (k : ℕ). carried (desk (lent (started Off (shaped 0) 0) [] (take k c)) (take s.text t)) 0 none_misread []) w.2
-          ∙ ap (λ (k : ℕ). carried (desk (lent (started Off (shaped 0) 0) [] []) (take k t)) 0 none_misread []) w.3); ready = search rules }
+          ∙ ap (λ (k : ℕ). carried (desk (lent (started Off (shaped 0) 0) [] []) (take k t)) 0 none_misread []) w.3);
+      ready = search rules;
+    }

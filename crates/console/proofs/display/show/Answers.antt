@@ -13,15 +13,18 @@ returns-then-number-ne0 c =
     let told = c.refused.ensures in
     let read = c.read-number in
     let words = c.words_for-words in
-    let a = c.args in record { shows = refused-shown _ _ told
-          ∙ text-down a.text.now a.memory.now read.new.text words.result read.result c.requires.0 words.ensures.1 words.ensures.0 read.ensures.performed c.if-number-ne0.true; within = (omega (arith, told.1), omega (arith, told.2)) }
+    let a = c.args in record {
+      shows = refused-shown _ _ told
+          ∙ text-down a.text.now a.memory.now read.new.row words.result read.result c.requires.0 words.ensures.1 words.ensures.0 read.ensures.performed c.if-number-ne0.true;
+      within = (omega (arith, told.1), omega (arith, told.2));
+    }
 
 pub slice_bounds-show_memory-end : goal.slice_bounds-show_memory-end
 slice_bounds-show_memory-end c =
     let read = c.read-number in
     let words = c.words_for-words in
     let full = zeros-length _ c.requires.0 in
-    omega (arith, words.ensures.1, full, back-size words.result c.args.memory.now read.new.text (omega (arith, words.ensures.1, full)) read.auto.text)
+    omega (arith, words.ensures.1, full, back-size words.result c.args.memory.now read.new.row (omega (arith, words.ensures.1, full)) read.auto.row)
 
 pub slice_bounds-show_memory-end-3 : goal.slice_bounds-show_memory-end-3
 slice_bounds-show_memory-end-3 c = omega (arith, c.words_for-words.ensures.1, zeros-length _ c.requires.1)
@@ -31,7 +34,7 @@ show_memory-requires c =
     let read = c.read-number in
     let words = c.words_for-words in
     let a = c.args in
-    (cache-zeros a.text.now a.memory.now read.new.text words.result read.result c.requires.0 words.ensures.1 words.ensures.0 read.ensures.performed a.cache.now c.requires.1 read.auto.text, c.requires.2)
+    (cache-zeros a.text.now a.memory.now read.new.row words.result read.result c.requires.0 words.ensures.1 words.ensures.0 read.ensures.performed a.cache.now c.requires.1 read.auto.row, c.requires.2)
 
 pub returns : goal.returns
 returns c =
@@ -39,4 +42,4 @@ returns c =
     let read = c.read-number in
     let words = c.words_for-words in
     let a = c.args in
-    record { shows = shown.ensures.shows ∙ text-up a.text.now a.memory.now read.new.text words.result read.result c.requires.0 words.ensures.1 words.ensures.0 read.ensures.performed read.auto.text c.if-number-ne0.false; within = shown.ensures.within }
+    record { shows = shown.ensures.shows ∙ text-up a.text.now a.memory.now read.new.row words.result read.result c.requires.0 words.ensures.1 words.ensures.0 read.ensures.performed read.auto.row c.if-number-ne0.false; within = shown.ensures.within }

@@ -29,9 +29,12 @@ returns-then-page-ne0 c =
     let memory = c.args.memory.now in
     let cache = ap length c.requires.0 ∙ length-replicate {A = ℕ} (length memory) 0 in
     let board = whole-rows r.result.state (length memory) r.new.memory r.new.cache r.auto.memory (r.auto.cache ∙ cache) ∙ r.ensures.leaves none in
-    let printed = page.ensures.prints ∙ ap (λ (b : Board). printed_of b) board in record { shows = refused-shown _ _ told
+    let printed = page.ensures.prints ∙ ap (λ (b : Board). printed_of b) board in record {
+      shows = refused-shown _ _ told
           ∙ page-down (recovered (unrecovered memory)) page.result.number _ printed c.if-page-ne0.true
-          ∙ memory-up memory r.result.number r.ensures.told none; within = (omega (arith, told.1), omega (arith, told.2)) }
+          ∙ memory-up memory r.result.number r.ensures.told none;
+      within = (omega (arith, told.1), omega (arith, told.2));
+    }
 
 pub put_heading-requires : goal.put_heading-requires
 put_heading-requires c =
@@ -49,5 +52,8 @@ returns c =
     let left = r.ensures.leaves none in
     let board = whole-rows r.result.state (length memory) r.new.memory r.new.cache r.auto.memory (r.auto.cache ∙ cache) ∙ left in
     let printed = page.ensures.prints ∙ ap (λ (b : Board). printed_of b) board in
-    let line = line-front put.ensures.0 put.ensures.1 c.requires.1 ∙ ap (λ (b : Board). header_line b.memory) left in record { shows = page-up (recovered (unrecovered memory)) page.result.number _ printed _ c.if-page-ne0.false line
-          ∙ memory-up memory r.result.number r.ensures.told none; within = (put.ensures.1, page.ensures.within) }
+    let line = line-front put.ensures.0 put.ensures.1 c.requires.1 ∙ ap (λ (b : Board). header_line b.memory) left in record {
+      shows = page-up (recovered (unrecovered memory)) page.result.number _ printed _ c.if-page-ne0.false line
+          ∙ memory-up memory r.result.number r.ensures.told none;
+      within = (put.ensures.1, page.ensures.within);
+    }

@@ -1,5 +1,5 @@
 use Rattle.std.proofs.Common.{◌≡◌, ◌+◌, ◌-◌, ◌≤◌, length, drop, add-one, arith, rules}
-use Rattle.bytes.specs.Bytes.{index_of}
+use Rattle.console.specs.Bytes.{index_of}
 use Rattle.text.specs.Ascii.{feed}
 use Rattle.console.proofs.Feeds.{feed-here, feed-later, feed-end}
 use Rattle.console.proofs.input.feed_at.Goals as goal

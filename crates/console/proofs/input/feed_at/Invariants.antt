@@ -1,6 +1,6 @@
 -- `console::input::feed_at` meets its contract. The invariant: the line that goes on at `from` ends where the one that goes on at `i` does.
 use Rattle.std.proofs.Common.{◌≡◌, ◌+◌, ◌-◌, ◌≤◌, length, drop, add-one, arith, rules}
-use Rattle.bytes.specs.Bytes.{index_of}
+use Rattle.console.specs.Bytes.{index_of}
 use Rattle.text.specs.Ascii.{feed}
 use Rattle.console.proofs.Feeds.{feed-here, feed-later, feed-end}
 use Rattle.console.proofs.input.feed_at.Given as goal

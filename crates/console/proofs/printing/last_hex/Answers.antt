@@ -6,7 +6,8 @@ use Rattle.console.proofs.printing.last_hex.Goals as goal
 
 pub returns : goal.returns
 returns c =
-    let last = c.answer_last-last in (
-      c.print_hex-put.ensures.prints ∙ ap (λ (f : Fed). hex_printed_of f.after.desk.board.memory) last.ensures.finishes,
-      (c.print_hex-put.ensures.within, ap (λ (f : Fed). f.after.misread) last.ensures.finishes),
-    )
+    let last = c.answer_last-last in record {
+      prints = c.print_hex-put.ensures.prints ∙ ap (λ (f : Fed). hex_printed_of f.after.desk.board.memory) last.ensures.finishes;
+      within = c.print_hex-put.ensures.within;
+      notes = ap (λ (f : Fed). f.after.misread) last.ensures.finishes;
+    }

@@ -6,7 +6,8 @@ use Rattle.console.proofs.printing.last_page.Goals as goal
 
 pub returns : goal.returns
 returns c =
-    let last = c.answer_last-last in (
-      c.print-page.ensures.prints ∙ ap (λ (f : Fed). printed_of f.after.desk.board) last.ensures.finishes,
-      (c.print-page.ensures.within, ap (λ (f : Fed). f.after.misread) last.ensures.finishes),
-    )
+    let last = c.answer_last-last in record {
+      prints = c.print-page.ensures.prints ∙ ap (λ (f : Fed). printed_of f.after.desk.board) last.ensures.finishes;
+      within = c.print-page.ensures.within;
+      notes = ap (λ (f : Fed). f.after.misread) last.ensures.finishes;
+    }

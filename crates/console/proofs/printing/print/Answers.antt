@@ -16,4 +16,5 @@ returns c =
     let a = c.args in
     let page = c.put_page-number in
     let words = words-part a.session.cache a.cache.now (λ i. omega (arith, c.shared_slice_known-2-1.given i)) in
-    taken-printed (board_of a.session a.memory.now a.cache.now) a.row.now page.new.text page.result (search rules) page.ensures c.page_bytes.result c.if-number-ne0.false c.page_bytes.ensures (λ l h. (page-holds.lines (take a.session.cache a.cache.now) words l h).size)
+    let both = taken-printed (board_of a.session a.memory.now a.cache.now) a.row.now page.new.text page.result (search rules) page.ensures c.page_bytes.result c.if-number-ne0.false c.page_bytes.ensures (λ l h. (page-holds.lines (take a.session.cache a.cache.now) words l h).size) in
+    record { prints = both.0; within = both.1 }

@@ -11,20 +11,15 @@ returns-then-number-ne0 c =
     let write = c.write-number in
     record { prints = refused-hex (take a.session.memory a.memory.now) a.row.now write.new.text write.result (search rules) write.ensures.performed c.if-number-ne0.true; within = omega arith }
 
--- A memory that is written has at most 4,096 words.
-few : (c : tie.Else1) → c.before.before.before.before.before.args.session.memory ≤ 4096
-few c =
-    let start = c.before.before.before.before.before in
-    let a = start.args in
-    let write = c.before.write in
-    let part = take a.session.memory a.memory.now in
-    omega (arith, written-most part a.row.now write.new.1.0 write.result (search rules) write.ensures c.if1.false, length-take-le a.session.memory a.memory.now start.requires)
-
 pub overflow_mul-result : goal.overflow_mul-result
-overflow_mul-result c = omega (arith, few c)
+overflow_mul-result c =
+    -- a memory that is written has at most 4,096 words
+    omega (arith, written-most (take c.args.session.memory c.args.memory.now) c.args.row.now c.write-number.new.text c.write-number.result (search rules) c.write-number.ensures.performed c.if-number-ne0.false, length-take-le c.args.session.memory c.args.memory.now c.requires)
 
 pub overflow_add-result : goal.overflow_add-result
-overflow_add-result c = omega (arith, few c)
+overflow_add-result c =
+    -- a memory that is written has at most 4,096 words
+    omega (arith, written-most (take c.args.session.memory c.args.memory.now) c.args.row.now c.write-number.new.text c.write-number.result (search rules) c.write-number.ensures.performed c.if-number-ne0.false, length-take-le c.args.session.memory c.args.memory.now c.requires)
 
 pub returns : goal.returns
 returns c =
@@ -33,4 +28,5 @@ returns c =
     let words = a.session.memory in
     let part = take words a.memory.now in
     let bytes : 22 * words + 12 ≡ 22 * length part + 12 = ap (λ (n : ℕ). 22 * n + 12) (part-size words a.memory.now c.requires) in
-    taken-hex part a.row.now write.new.text write.result (search rules) write.ensures.performed (22 * words + 12) c.if-number-ne0.false bytes (hex-holds.room part)
+    let both = taken-hex part a.row.now write.new.text write.result (search rules) write.ensures.performed (22 * words + 12) c.if-number-ne0.false bytes (hex-holds.room part) in
+    record { prints = both.0; within = both.1 }
