@@ -11,7 +11,7 @@ use board::State;
 use line::Field;
 
 // A state record, and the sum of the answers that led to it.
-#[derive(Drop)]
+#[derive(Clone, Copy)]
 pub struct Summed {
     pub state: State,
     pub sum: u64,

@@ -14,7 +14,7 @@ fn ones(word: u64) -> u64
 }
 
 // How many numbers a set has, and each of its words.
-#[derive(Drop)]
+#[derive(Clone, Copy)]
 struct Counts {
     size: u64,
     words: [u64; 8],
@@ -62,7 +62,7 @@ fn nth_bit(word: u64, p: u64) -> u64
 }
 
 // How many numbers a set has, and its p-th.
-#[derive(Drop)]
+#[derive(Clone, Copy)]
 pub struct Rank {
     pub size: u64,
     pub nth: u64,

@@ -43,7 +43,7 @@ pub const LENGTH: u8 = 20;
 pub const TEXT: u8 = 12;
 
 // Which causes stand.
-#[derive(Drop)]
+#[derive(Clone, Copy)]
 pub struct Causes {
     pub limits: bool,
     pub phase: bool,

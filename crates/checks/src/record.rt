@@ -11,7 +11,7 @@ use board::{Phase, State};
 
 // The record without the holders, the dirty lines and the workers: what cause 3 tests it by, so that the whole record is passed to no
 // function that the compiler leaves in one place (docs/BENCH.md).
-#[derive(Drop)]
+#[derive(Clone, Copy)]
 pub struct Head {
     pub phase: Phase,
     pub workers: u8,

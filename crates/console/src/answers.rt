@@ -27,7 +27,7 @@ pub struct Ongoing {
 }
 
 // What a line asks for, its first byte, 0 for an empty one, and why it is answered `?`, if it is.
-#[derive(Drop)]
+#[derive(Clone, Copy)]
 pub struct LineAsked {
     pub line: Line,
     pub first: u8,
@@ -35,14 +35,14 @@ pub struct LineAsked {
 }
 
 // After a line: what is carried on, and where its answer ends in the buffer.
-#[derive(Drop)]
+#[derive(Clone, Copy)]
 pub struct LineEnded {
     pub progress: Ongoing,
     pub end: usize,
 }
 
 // After a piece: what is carried on, the bytes of it that are used up, and the bytes of answers in the buffer.
-#[derive(Drop)]
+#[derive(Clone, Copy)]
 pub struct Answers {
     pub progress: Ongoing,
     pub used: usize,

@@ -12,7 +12,7 @@ use engine::Answer;
 use session::Session;
 
 // The number that turns the text down, 0 where none does, and how many bytes of the two rows are to be shown.
-#[derive(Drop)]
+#[derive(Clone, Copy)]
 pub struct Displayed {
     pub number: u8,
     pub heading: usize,

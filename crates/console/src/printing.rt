@@ -10,14 +10,14 @@ use script::Program;
 use session::Session;
 
 // The call's number, and how many bytes of the text row are to be printed.
-#[derive(Drop)]
+#[derive(Clone, Copy)]
 pub struct Printout {
     pub number: u8,
     pub bytes: usize,
 }
 
 // The same at an input's end, with the lines that were answered `?`.
-#[derive(Drop)]
+#[derive(Clone, Copy)]
 pub struct LastPrintout {
     pub number: u8,
     pub bytes: usize,

@@ -19,7 +19,7 @@ pub struct Sizes {
 }
 
 // After a line: the state record, the words in use, and the answer and the value to show.
-#[derive(Drop)]
+#[derive(Clone, Copy)]
 pub struct Damaged {
     pub state: State,
     pub sizes: Sizes,

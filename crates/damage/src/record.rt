@@ -5,7 +5,7 @@ ghost use Rattle.damage.specs.Record.{phase_of, undo_of, store_of, field_fits, w
 use board::{Condition, Phase, State, Store, UndoStep};
 
 // The record, and whether the number could be put; where it could not, the record is as it was.
-#[derive(Drop)]
+#[derive(Clone, Copy)]
 pub struct RecordPut {
     pub state: State,
     pub put: bool,

@@ -27,7 +27,7 @@ pub fn started(phase: Phase, lines: u16, workers: u8) -> State
 }
 
 // What a step leaves of the eight workers.
-#[derive(Drop)]
+#[derive(Clone, Copy)]
 pub enum Workers {
     Kept,
     Freed,
@@ -36,7 +36,7 @@ pub enum Workers {
 
 // What a step leaves of the state record: these fields, whether it cleared the dirty lines, and the eight workers. The
 // record is made of it in one place, `progressed`, so that it is copied once at most (docs/BENCH.md).
-#[derive(Drop)]
+#[derive(Clone, Copy)]
 pub struct Progress {
     pub phase: Phase,
     pub place: u16,

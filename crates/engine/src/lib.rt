@@ -28,14 +28,14 @@ use line::Field;
 use steps::taken_step;
 
 // A call's number, 0 where it is taken, and the state record that it leaves.
-#[derive(Drop)]
+#[derive(Clone, Copy)]
 pub struct Answer {
     pub number: u8,
     pub state: State,
 }
 
 // The same with the value that was read or counted.
-#[derive(Drop)]
+#[derive(Clone, Copy)]
 pub struct Reading {
     pub number: u8,
     pub value: u64,

@@ -6,7 +6,7 @@ use crate::runs::{Aim, Reached, Row, until, until_running};
 use board::{Call, State};
 
 // What a boot finds in the memory.
-#[derive(Drop)]
+#[derive(Clone, Copy)]
 pub enum Found {
     // 0: a board, this kiosk's or another's
     Board,
@@ -23,7 +23,7 @@ pub enum Found {
 }
 
 // What a boot came to: what was found, whether the board runs now, the last call's number, and the record to pass on.
-#[derive(Drop)]
+#[derive(Clone, Copy)]
 pub struct Booted {
     pub found: Found,
     pub running: bool,

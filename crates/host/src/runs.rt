@@ -28,7 +28,7 @@ pub enum Aim {
 
 // What a run came to: whether its aim is met, number and value of its last call (0 where it made none), and the record
 // to pass on.
-#[derive(Drop)]
+#[derive(Clone, Copy)]
 pub struct Reached {
     pub met: bool,
     pub number: u8,

@@ -7,14 +7,14 @@ ghost use Rattle.intel_hex.specs.Storing.{DigitTable, Totals, front_of};
 use crate::table;
 
 // Whether a text is a file, and how many bytes it holds: none where it is no file.
-#[derive(Drop)]
+#[derive(Clone, Copy)]
 pub struct Measured {
     pub file: bool,
     pub bytes: usize,
 }
 
 // The sum of some bytes, and whether all of them are bytes.
-#[derive(Drop)]
+#[derive(Clone, Copy)]
 struct Summed {
     bytes: usize,
     good: bool,

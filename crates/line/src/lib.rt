@@ -10,7 +10,7 @@ pub use cell::{
 pub use row::{copy, header_word, header_word_or_zero, store_header_word, store_line, write_back};
 
 // Which of a cell's three words.
-#[derive(Drop)]
+#[derive(Clone, Copy)]
 pub enum Field {
     Record,
     Backup,

@@ -88,7 +88,7 @@ pub enum TextWork {
 // Why a line is answered `?`: over 79 bytes, a byte-order mark at its start, a carriage return, blanks where tabs belong,
 // nothing in it, a letter that the program has not, a number past 2^64 − 1, a field that is no number, too few or too many
 // numbers; or, in the fault program, a number that cannot be put where it is to go.
-#[derive(Drop)]
+#[derive(Clone, Copy)]
 pub enum Reason {
     Long,
     ByteOrderMark,

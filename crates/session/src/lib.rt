@@ -28,7 +28,7 @@ pub struct Session {
 }
 
 // The session after a line, with the answer and the value to show.
-#[derive(Drop)]
+#[derive(Clone, Copy)]
 pub struct Answered {
     pub session: Session,
     pub answer: Shown,

@@ -7,7 +7,7 @@ use crate::{Answered, Session, unknown};
 use script::{Shown, TextWork};
 
 // The call's number, and the checksum of the whole text.
-#[derive(Drop)]
+#[derive(Clone, Copy)]
 struct Written {
     number: u8,
     sum: u64,

@@ -21,7 +21,7 @@ use script::Program;
 use std::io::Read;
 
 // What is carried on, and whether to go on.
-#[derive(Drop)]
+#[derive(Clone, Copy)]
 struct Reached {
     progress: Ongoing,
     more: bool,
