@@ -58,7 +58,7 @@ fn put_lengths(
     c: u64,
 ) -> Damaged
     requires { SizesWithin sizes × HasRoom memory.old cache.old }
-    ensures cache_after { left result memory.new cache.new ≡ outcome (Lengths m c) (in_use state sizes memory.old cache.old) }
+    ensures done { left result memory.new cache.new ≡ outcome (Lengths m c) (in_use state sizes memory.old cache.old) }
     ensures sizes_within { SizesWithin result.sizes }
 {
     if has_room(m, c) {
@@ -88,7 +88,7 @@ fn summed(state: State, sizes: Sizes, sum: u64) -> Damaged
 // "T: the checksum of everything".
 fn show_checksum(state: State, sizes: Sizes, memory: &[u64], cache: &[u64]) -> Damaged
     requires { SizesWithin sizes × HasRoom memory.now cache.now }
-    ensures cache_value { left result memory.now cache.now ≡ outcome Checksum (in_use state sizes memory.now cache.now) }
+    ensures done { left result memory.now cache.now ≡ outcome Checksum (in_use state sizes memory.now cache.now) }
     ensures sizes_within { SizesWithin result.sizes }
 {
     let words = sizes.memory;
@@ -106,7 +106,7 @@ pub fn carry_out(
     damage: Damage,
 ) -> Damaged
     requires { SizesWithin sizes × HasRoom memory.old cache.old }
-    ensures cache_after { left result memory.new cache.new ≡ outcome damage (in_use state sizes memory.old cache.old) }
+    ensures done { left result memory.new cache.new ≡ outcome damage (in_use state sizes memory.old cache.old) }
     ensures sizes_within { SizesWithin result.sizes }
 {
     match damage {

@@ -74,8 +74,8 @@ fn repeat(call: Call, state: State, memory: &mut [u64], cache: &mut [u64], times
 // One call of the board, with its value shown.
 fn make(session: Session, memory: &mut [u64], cache: &mut [u64], call: Call) -> Answered
     requires { Fits session memory.old cache.old }
-    ensures by_index { (text : List ℕ) → left result memory.new cache.new text ≡ carried_out (Show call) (desk_of session memory.old cache.old text) }
-    ensures memory_value { (result.session.memory ≡ session.memory) × (result.session.cache ≡ session.cache) × (result.session.text ≡ session.text) }
+    ensures done { (text : List ℕ) → left result memory.new cache.new text ≡ carried_out (Show call) (desk_of session memory.old cache.old text) }
+    ensures same_lengths { (result.session.memory ≡ session.memory) × (result.session.cache ≡ session.cache) × (result.session.text ≡ session.text) }
 {
     let state = session.state;
     let in_memory = session.memory;
@@ -184,8 +184,8 @@ fn format(
 ) -> Answered
     requires within { Within session }
     requires room { Room memory.old cache.old }
-    ensures by_index { (text : List ℕ) → left result memory.new cache.new text ≡ carried_out (Format lines workers) (desk_of session memory.old cache.old text) }
-    ensures within_2 { Within result.session }
+    ensures done { (text : List ℕ) → left result memory.new cache.new text ≡ carried_out (Format lines workers) (desk_of session memory.old cache.old text) }
+    ensures ends_within { Within result.session }
 {
     if checks::limits::outside(lines, workers) {
         return Answered {
@@ -218,7 +218,7 @@ fn format(
 // A damaging line of the fault program.
 fn harm(session: Session, memory: &mut [u64], cache: &mut [u64], asked: Damage) -> Answered
     requires { Within session × HasRoom memory.old cache.old }
-    ensures by_index { (text : List ℕ) → left result memory.new cache.new text ≡ carried_out (Line.Damage asked) (desk_of session memory.old cache.old text) }
+    ensures done { (text : List ℕ) → left result memory.new cache.new text ≡ carried_out (Line.Damage asked) (desk_of session memory.old cache.old text) }
     ensures within { Within result.session }
 {
     let state = session.state;
@@ -270,8 +270,8 @@ fn text_row() -> [u8; 70000]
 // "p room": a page in a text row of `room` bytes.
 fn print(session: Session, memory: &[u64], cache: &[u64], room: u64) -> Answered
     requires { Fits session memory.now cache.now }
-    ensures by_index { (text : List ℕ) → left result memory.now cache.now text ≡ carried_out (Line.Page room) (desk_of session memory.now cache.now text) }
-    ensures session_value { result.session ≡ session }
+    ensures done { (text : List ℕ) → left result memory.now cache.now text ≡ carried_out (Line.Page room) (desk_of session memory.now cache.now text) }
+    ensures same_session { result.session ≡ session }
 {
     if room > 70000 {
         return unknown(session);

@@ -37,7 +37,7 @@ fn write_row(memory: &[u64], row: &mut [u8]) -> Written
 // "h room": the text becomes `room` bytes, and memory is written into it.
 fn write(session: Session, memory: &[u64], text: &mut [u8], room: u64) -> Answered
     requires { Within session × TextRoom memory.now text.old }
-    ensures by_index { (cache : List ℕ) → left result memory.now cache text.new ≡ worked (TextWork.Write room) (desk_of session memory.now cache text.old) }
+    ensures done { (cache : List ℕ) → left result memory.now cache text.new ≡ worked (TextWork.Write room) (desk_of session memory.now cache text.old) }
     ensures within { Within result.session }
 {
     if room > 90200 {
@@ -59,8 +59,8 @@ fn write(session: Session, memory: &[u64], text: &mut [u8], room: u64) -> Answer
 // "Y i v": text byte i := v.
 fn put(session: Session, text: &mut [u8], at: u64, byte: u64) -> Answered
     requires { session.text ≤ length text.old }
-    ensures by_index { (memory cache : List ℕ) → left result memory cache text.new ≡ worked (TextWork.Put at byte) (desk_of session memory cache text.old) }
-    ensures session_value { result.session ≡ session }
+    ensures done { (memory cache : List ℕ) → left result memory cache text.new ≡ worked (TextWork.Put at byte) (desk_of session memory cache text.old) }
+    ensures same_session { result.session ≡ session }
 {
     if at >= session.text as u64 {
         return unknown(session);
@@ -79,8 +79,8 @@ fn put(session: Session, text: &mut [u8], at: u64, byte: u64) -> Answered
 // "y n": the first n bytes of the text are read into memory.
 fn read(session: Session, memory: &mut [u64], text: &[u8], bytes: u64) -> Answered
     requires { Within session × TextRoom memory.old text.now }
-    ensures by_index { (cache : List ℕ) → left result memory.new cache text.now ≡ worked (TextWork.Read bytes) (desk_of session memory.old cache text.now) }
-    ensures session_value { result.session ≡ session }
+    ensures done { (cache : List ℕ) → left result memory.new cache text.now ≡ worked (TextWork.Read bytes) (desk_of session memory.old cache text.now) }
+    ensures same_session { result.session ≡ session }
 {
     if bytes > session.text as u64 {
         return unknown(session);
@@ -98,7 +98,7 @@ fn read(session: Session, memory: &mut [u64], text: &[u8], bytes: u64) -> Answer
 // A line of the fault program that works with the text.
 pub fn carry_out(session: Session, memory: &mut [u64], text: &mut [u8], work: TextWork) -> Answered
     requires { Within session × TextRoom memory.old text.old }
-    ensures by_index { (cache : List ℕ) → left result memory.new cache text.new ≡ worked work (desk_of session memory.old cache text.old) }
+    ensures done { (cache : List ℕ) → left result memory.new cache text.new ≡ worked work (desk_of session memory.old cache text.old) }
     ensures within { Within result.session }
 {
     match work {

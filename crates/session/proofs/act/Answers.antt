@@ -7,18 +7,18 @@ use Rattle.session.proofs.act.Goals as goal
 pub returns-in-Format : goal.returns-in-Format
 returns-in-Format c =
     let text = c.args.text.now in
-    record { done = acted _ _ _ c.in-Format.is (c.format.ensures.by_index text); within = c.format.ensures.within_2 }
+    record { done = acted _ _ _ c.in-Format.is (c.format.ensures.done text); within = c.format.ensures.ends_within }
 
 pub returns-in-Make : goal.returns-in-Make
 returns-in-Make c =
     let text = c.args.text.now in
     let r = c.unshown in
-    let made = c.make in record { done = acted _ _ _ c.in-Make.is (hidden _ r.result made.result _ _ text _ r.ensures (made.ensures.by_index text)); within = same-within r.ensures.0 made.ensures.memory_value c.requires }
+    let made = c.make in record { done = acted _ _ _ c.in-Make.is (hidden _ r.result made.result _ _ text _ r.ensures (made.ensures.done text)); within = same-within r.ensures.0 made.ensures.same_lengths c.requires }
 
 pub returns-in-Show : goal.returns-in-Show
 returns-in-Show c =
     let made = c.make-in-Show.ensures in
-    record { done = acted _ _ _ c.in-Show.is (made.by_index c.args.text.now); within = same-within refl made.memory_value c.requires }
+    record { done = acted _ _ _ c.in-Show.is (made.done c.args.text.now); within = same-within refl made.same_lengths c.requires }
 
 pub returns-in-Cut : goal.returns-in-Cut
 returns-in-Cut c =
@@ -32,16 +32,16 @@ returns-in-Cut c =
 pub returns-in-Damage : goal.returns-in-Damage
 returns-in-Damage c =
     let text = c.args.text.now in
-    record { done = acted _ _ _ c.in-Damage.is (c.harm.ensures.by_index text); within = c.harm.ensures.within }
+    record { done = acted _ _ _ c.in-Damage.is (c.harm.ensures.done text); within = c.harm.ensures.within }
 
 pub returns-in-Page : goal.returns-in-Page
 returns-in-Page c =
-    let print = c.print.ensures in record { done = acted _ _ _ c.in-Page.is (print.by_index c.args.text.now); within = same-within print.session_value (refl, refl, refl) c.requires }
+    let print = c.print.ensures in record { done = acted _ _ _ c.in-Page.is (print.done c.args.text.now); within = same-within print.same_session (refl, refl, refl) c.requires }
 
 pub returns-in-Text : goal.returns-in-Text
 returns-in-Text c =
     let cache = c.args.cache.now in
-    record { done = acted _ _ _ c.in-Text.is (c.carry_out.ensures.by_index cache); within = c.carry_out.ensures.within }
+    record { done = acted _ _ _ c.in-Text.is (c.carry_out.ensures.done cache); within = c.carry_out.ensures.within }
 
 pub returns-in-Unknown : goal.returns-in-Unknown
 returns-in-Unknown c =

@@ -20,7 +20,7 @@ bound lines workers e h = lines-within lines workers (inside lines workers e h)
 pub returns-then-outside : goal.returns-then-outside
 returns-then-outside c =
     let a = c.args in
-    record { by_index = (λ text. format-down a.lines a.workers (desk_of a.session a.memory.now a.cache.now text) (sym c.outside.ensures ∙ c.if-outside.true)); within_2 = c.requires.within }
+    record { done = (λ text. format-down a.lines a.workers (desk_of a.session a.memory.now a.cache.now text) (sym c.outside.ensures ∙ c.if-outside.true)); ends_within = c.requires.within }
 
 pub overflow_cast-lines : goal.overflow_cast-lines
 overflow_cast-lines c = omega (arith, (bound c.args.lines c.args.workers c.outside.ensures c.if-outside.false))
@@ -47,9 +47,9 @@ returns c =
     let a = c.args in
     let within = bound c.args.lines c.args.workers c.outside.ensures c.if-outside.false in
     let words = c.row_words-words.ensures in record {
-      by_index = (λ text. format-up a.lines a.workers c.row_words-words.result a.session.state r.result (desk_of a.session a.memory.now a.cache.now text)
+      done = (λ text. format-up a.lines a.workers c.row_words-words.result a.session.state r.result (desk_of a.session a.memory.now a.cache.now text)
           a.memory.now a.cache.now r.new.memory r.new.cache words (inside c.args.lines c.args.workers c.outside.ensures c.if-outside.false) refl
           (let size : c.row_words-words.result ≤ length c.args.memory.now = omega (arith, (bound c.args.lines c.args.workers c.outside.ensures c.if-outside.false), c.row_words-words.ensures, c.requires.room.memory-room) in size) (let size : c.row_words-words.result ≤ length c.args.cache.now = omega (arith, (bound c.args.lines c.args.workers c.outside.ensures c.if-outside.false), c.row_words-words.ensures, c.requires.room.cache-room) in size)
           r.auto.memory r.auto.cache r.ensures);
-      within_2 = record { memory-within = omega (arith, within, words); cache-within = omega (arith, within, words); text-within = c.requires.within.text-within };
+      ends_within = record { memory-within = omega (arith, within, words); cache-within = omega (arith, within, words); text-within = c.requires.within.text-within };
     }

@@ -10,4 +10,4 @@ pub returns : goal.returns
 returns c =
     let r = c.carry_out-r in
     let within = r.ensures.sizes_within in
-    let a = c.args in record { by_index = (λ text. ap (λ (o : DamageOutcome). done (desk o.board (take a.session.text text)) o.answer o.value) r.ensures.cache_after); within = record { memory-within = within.memory-within; cache-within = within.cache-within; text-within = c.requires.0.text-within } }
+    let a = c.args in record { done = (λ text. ap (λ (o : DamageOutcome). done (desk o.board (take a.session.text text)) o.answer o.value) r.ensures.done); within = record { memory-within = within.memory-within; cache-within = within.cache-within; text-within = c.requires.0.text-within } }

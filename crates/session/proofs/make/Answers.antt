@@ -11,8 +11,8 @@ returns c =
     let p = c.repeat-r in
     let a = c.args in
     let s = a.session in record {
-      by_index = (λ text. made s.memory s.cache a.memory.now a.cache.now p.new.memory p.new.cache
+      done = (λ text. made s.memory s.cache a.memory.now a.cache.now p.new.memory p.new.cache
           c.requires.memory-fits c.requires.cache-fits p.auto.memory p.auto.cache
           a.call s.state p.result.state p.result.number p.result.value (take s.text text) p.ensures);
-      memory_value = (refl, refl, refl);
+      same_lengths = (refl, refl, refl);
     }

@@ -11,7 +11,7 @@ use Rattle.session.proofs.print.Goals as goal
 pub returns-then-room-gt70000 : goal.returns-then-room-gt70000
 returns-then-room-gt70000 c =
     let a = c.args in
-    record { by_index = (λ text. by_parts a.memory.now a.cache.now text c.unknown.ensures ∙ page-off _ a.room c.if-room-gt70000.true); session_value = c.unknown.ensures.0 }
+    record { done = (λ text. by_parts a.memory.now a.cache.now text c.unknown.ensures ∙ page-off _ a.room c.if-room-gt70000.true); same_session = c.unknown.ensures.0 }
 
 pub slice_bounds-put_page-end : goal.slice_bounds-put_page-end
 slice_bounds-put_page-end c = part-size _ _ (search rules)
@@ -33,4 +33,4 @@ returns c =
     let a = c.args in
     let row = c.text_row-text in
     let page = c.put_page-number in
-    record { by_index = (λ text. page-shown (desk_of a.session a.memory.now a.cache.now text) a.room page.result c.bytes_checksum-sum.result row.result page.new.text (omega arith) row.ensures (search rules) page.auto.text page.ensures c.bytes_checksum-sum.ensures); session_value = refl }
+    record { done = (λ text. page-shown (desk_of a.session a.memory.now a.cache.now text) a.room page.result c.bytes_checksum-sum.result row.result page.new.text (omega arith) row.ensures (search rules) page.auto.text page.ensures c.bytes_checksum-sum.ensures); same_session = refl }

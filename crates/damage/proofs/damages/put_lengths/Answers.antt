@@ -26,7 +26,7 @@ returns-then-has_room c =
     let a = c.args in
     let room = roomed c.args.m c.args.c c.has_room.ensures c.if-has_room.true in
     let fits = room-bounds a.m a.c room in record {
-      cache_after = by_parts m'.new.row c'.new.row c.shown.ensures
+      done = by_parts m'.new.row c'.new.row c.shown.ensures
           ∙ lengths-put a.state a.sizes a.memory.now a.cache.now a.m a.c m'.new.row c'.new.row room m'.ensures c'.ensures;
       sizes_within = kept-within c.shown.ensures.1 (record { memory-within = fits.0; cache-within = fits.1 });
     }
@@ -34,7 +34,7 @@ returns-then-has_room c =
 pub returns : goal.returns
 returns c =
     let a = c.args in record {
-      cache_after = by_parts a.memory.now a.cache.now c.shown-2.ensures
+      done = by_parts a.memory.now a.cache.now c.shown-2.ensures
           ∙ lengths-off a.state a.sizes a.memory.now a.cache.now a.m a.c (sym c.has_room.ensures ∙ c.if-has_room.false);
       sizes_within = kept-within c.shown-2.ensures.1 c.requires.0;
     }

@@ -11,7 +11,7 @@ slice_bounds-checksum-end-2 c = sym (length-take-le _ _ (omega arith))
 
 pub returns : goal.returns
 returns c = let a = c.args in record {
-  cache_value = by_parts a.memory.now a.cache.now c.summed.ensures
+  done = by_parts a.memory.now a.cache.now c.summed.ensures
       ∙ sum-shown a.state a.sizes a.memory.now a.cache.now c.checksum-sum.result c.checksum-sum.ensures;
   sizes_within = kept-within c.summed.ensures.1 c.requires.0;
 }

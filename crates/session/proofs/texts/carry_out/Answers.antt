@@ -8,16 +8,16 @@ pub returns-in-Write : goal.returns-in-Write
 returns-in-Write c =
     let write = c.write.ensures in
     let told = c.in-Write.is in
-    record { by_index = (λ cache. acted _ _ _ (ap line.Text told) (write.by_index cache)); within = write.within }
+    record { done = (λ cache. acted _ _ _ (ap line.Text told) (write.done cache)); within = write.within }
 
 pub returns-in-Put : goal.returns-in-Put
 returns-in-Put c =
     let put = c.put.ensures in
     let told = c.in-Put.is in
-    record { by_index = (λ cache. acted _ _ _ (ap line.Text told) (put.by_index c.args.memory.now cache)); within = same-within put.session_value (refl, refl, refl) c.requires.0 }
+    record { done = (λ cache. acted _ _ _ (ap line.Text told) (put.done c.args.memory.now cache)); within = same-within put.same_session (refl, refl, refl) c.requires.0 }
 
 pub returns-in-Read : goal.returns-in-Read
 returns-in-Read c =
     let read = c.read.ensures in
     let told = c.in-Read.is in
-    record { by_index = (λ cache. acted _ _ _ (ap line.Text told) (read.by_index cache)); within = same-within read.session_value (refl, refl, refl) c.requires.0 }
+    record { done = (λ cache. acted _ _ _ (ap line.Text told) (read.done cache)); within = same-within read.same_session (refl, refl, refl) c.requires.0 }

@@ -12,20 +12,20 @@ returns-then-bytes-session c =
     let a = c.args in
     let text = a.text.now in
     let told = c.unknown.ensures in record {
-      by_index = (λ cache.
+      done = (λ cache.
           by_parts a.memory.now cache text told
           ∙ read_off (desk_of a.session a.memory.now cache text) a.bytes
           (omega (arith, length-take-le a.session.text text (omega (arith, c.requires.0.text-within, c.requires.1.text-room)), c.if-bytes-session.true)));
-      session_value = told.0;
+      same_session = told.0;
     }
 
 pub returns : goal.returns
 returns c =
     let read = c.read-number in
     let a = c.args in record {
-      by_index = (λ cache.
+      done = (λ cache.
           read-shown a.session a.memory.now cache a.text.now a.bytes read.result read.new.row
           c.if-bytes-session.false (omega (arith, c.requires.0.text-within, c.requires.1.text-room))
           (omega (arith, c.requires.0.memory-within, c.requires.1.memory-room)) read.auto.row read.ensures.performed);
-      session_value = refl;
+      same_session = refl;
     }
