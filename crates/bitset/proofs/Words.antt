@@ -2,14 +2,15 @@
 use Prim.Native.Nat.{ℕ, zero, suc, ◌+◌, ◌-◌, ◌*◌, ◌/◌, ◌%◌, ◌≤◌, ◌<◌}
 use mathlib.Core.Path.{◌≡◌, refl, sym, ap, ap₂, ◌∙◌}
 use mathlib.Core.Bool.{Bool, true, false}
-use mathlib.Core.List.{List}
+use mathlib.Core.List.{List, [], ◌∷◌}
 use native.Mathlib.Omega.{arith}
 use native.Mathlib.Decide.{dec_lt}
 use native.Mathlib.Nat.{zero-add}
 use lib.Dec.{eqb}
-use lib.ListN.{length, get_or, set, length-set, get_or-replicate, get_or-eq_default}
-use lib.Seq.{set_out, get_or-set_same, get_or-set_other}
+use lib.ListN.{length, drop, get_or, set, drop_of_length-le, length-set, get_or-replicate, get_or-eq_default}
+use lib.Seq.{drop-cons, set_out, get_or-set_same, get_or-set_other}
 use borrow.Author.Tests.{eqb-true, eqb-false, ne_eqb}
+use Rattle.std.specs.List.{sum}
 use Rattle.predicate.proofs.Bools.{split}
 use Rattle.predicate.specs.Passing.{count_under, nth_under}
 use Rattle.bitset.specs.Words.{bit_of, with_bit, bits_in, capacity, contains, inserted, empty, size, nth}
@@ -118,6 +119,23 @@ unfolding size
 size-words words =
     let bits : (k : ℕ) → bits_in 64 (get_or words k 0) ≡ word_count words k = λ k. bits-count 64 (get_or words k 0) in
     λ i. bits 0 i + bits 1 i + bits 2 i + bits 3 i + bits 4 i + bits 5 i + bits 6 i + bits 7 i
+
+-- What stands from a place on: the word there, and what stands from the next on.
+from_place : (l : List ℕ) (i : ℕ) {rest : List ℕ} → i < length l → rest ≡ drop (suc i) l → get_or l i 0 ∷ rest ≡ drop i l
+from_place l i h e = ap (λ (r : List ℕ). get_or l i 0 ∷ r) e ∙ sym (drop-cons l i 0 h)
+
+-- Eight words are those at the eight places.
+eight-words : (l : List ℕ) → length l ≡ 8 → get_or l 0 0 ∷ get_or l 1 0 ∷ get_or l 2 0 ∷ get_or l 3 0 ∷ get_or l 4 0 ∷ get_or l 5 0 ∷ get_or l 6 0 ∷ get_or l 7 0 ∷ [] ≡ l
+eight-words l h =
+    from_place l 0 (omega arith) (from_place l 1 (omega arith) (from_place l 2 (omega arith) (from_place l 3 (omega arith)
+    (from_place l 4 (omega arith) (from_place l 5 (omega arith) (from_place l 6 (omega arith) (from_place l 7 (omega arith)
+    (sym (drop_of_length-le l {i = 8} (omega arith))))))))))
+
+-- The counts of the eight words together are how many numbers the set has.
+pub sum-counts : (counts words : List ℕ) → length counts ≡ 8 → ((k : ℕ) → k < 8 → get_or counts k 0 ≡ word_count words k) → sum counts ≡ size words
+sum-counts counts words eight each =
+    ap sum (sym (eight-words counts eight))
+    ∙ omega (arith, size-words words, each 0 (omega arith), each 1 (omega arith), each 2 (omega arith), each 3 (omega arith), each 4 (omega arith), each 5 (omega arith), each 6 (omega arith), each 7 (omega arith))
 
 -- And that is how many numbers are in it.
 pub size-count : (words : List ℕ) → size words ≡ count_under capacity (contains words)

@@ -1,7 +1,7 @@
 // A set of numbers below 512, a bit each, in eight words (document 02, ticket 5: the dirty lines).
 #![tactic(auto)]
 
-ghost use Rattle.std.specs.Prelude.{◌≡◌, [], ◌∷◌, ℕ, ◌+◌, ◌-◌, ◌*◌, ◌/◌, ◌^◌, ◌≤◌, ◌<◌, get_or, ltb};
+ghost use Rattle.std.specs.Prelude.{◌≡◌, [], ◌∷◌, ℕ, ◌+◌, ◌-◌, ◌*◌, ◌/◌, ◌^◌, ◌≤◌, ◌<◌, get_or, ltb, sum, MatchOption};
 ghost use Rattle.predicate.specs.Passing.{any_under, count_under, nth_under};
 ghost use Rattle.bitset.specs.Words.{bit_of, with_bit, inserted, size, nth, strays};
 
@@ -10,40 +10,29 @@ fn ones(word: u64) -> u64
     ensures value { result ≡ count_under 64 (bit_of word) }
     ensures upper_bound { result ≤ 64 }
 {
-    u64::count_ones(word) as u64
+    u64::from(word.count_ones())
 }
 
-// How many numbers a set has, and each of its words.
-#[derive(Clone, Copy)]
-struct Counts {
-    size: u64,
-    words: [u64; 8],
-}
-
-// Each word is counted once, and apart from the sum: so the compiler counts them two at a time.
-fn counted(words: [u64; 8]) -> Counts
-    ensures size_value { result.size ≡ size words }
-    ensures by_index { (k : ℕ) → k < 8 → get_or result.words k 0 ≡ count_under 64 (bit_of (get_or words k 0)) }
+// How many numbers each word of a set has.
+fn counted(words: [u64; 8]) -> [u64; 8]
+    ensures by_index { (k : ℕ) → k < 8 → get_or result k 0 ≡ count_under 64 (bit_of (get_or words k 0)) }
 {
-    let a = ones(words[0]);
-    let b = ones(words[1]);
-    let c = ones(words[2]);
-    let d = ones(words[3]);
-    let e = ones(words[4]);
-    let f = ones(words[5]);
-    let g = ones(words[6]);
-    let h = ones(words[7]);
-    Counts {
-        size: a + b + c + d + e + f + g + h,
-        words: [a, b, c, d, e, f, g, h],
-    }
+    words.map(ones)
+}
+
+// The counts of all words together.
+fn total(counts: &[u64]) -> u64
+    requires { sum counts.now < 2 ^ 64 }
+    ensures { result ≡ sum counts.now }
+{
+    counts.iter().sum()
 }
 
 // How many numbers the set has.
 pub fn size(words: [u64; 8]) -> u64
     ensures { result ≡ size words }
 {
-    counted(words).size
+    total(&counted(words))
 }
 
 // The p-th set bit of a word, from 0, rising: each round clears the lowest.
@@ -53,44 +42,38 @@ fn nth_bit(word: u64, p: u64) -> u64
     ensures upper_bound { result < 64 }
 {
     let mut rest = word;
-    let mut left = p;
-    while 0 < left {
-        rest = rest & (rest - 1);
-        left -= 1;
+    for _ in 0..p {
+        rest &= rest - 1;
     }
-    u64::trailing_zeros(rest) as u64
+    u64::from(rest.trailing_zeros())
 }
 
-// How many numbers a set has, and its p-th.
+// How many numbers a set has, and its p-th where there is one.
 #[derive(Clone, Copy)]
 pub struct Rank {
     pub size: u64,
-    pub nth: u64,
+    pub nth: Option<u64>,
 }
 
-// The p-th number from 0, rising; 512 where there is none. The words before its own are passed over by their counts, in
-// a loop of fixed length, which the compiler unrolls.
+// The p-th number from 0, rising. The words before its own are passed over by their counts.
 pub fn ranked(words: [u64; 8], p: u64) -> Rank
-    ensures { (result.size ≡ size words) × (result.nth ≡ nth words p) }
+    ensures size { result.size ≡ size words }
+    ensures nth { MatchOption result.nth (size words ≤ p) (λ i. (p < size words) × (i ≡ nth words p)) }
 {
-    let all = counted(words);
-    let size = all.size;
-    if size <= p {
-        return Rank { size, nth: 512 };
-    }
-    let counts = all.words;
-    let mut k: usize = 0;
+    let counts = counted(words);
+    let size = total(&counts);
     let mut left = p;
-    while k < 8 {
-        let count = counts[k];
-        if left < count {
+    for k in 0..8 {
+        if left < counts[k] {
             let nth = 64 * (k as u64) + nth_bit(words[k], left);
-            return Rank { size, nth };
+            return Rank {
+                size,
+                nth: Some(nth),
+            };
         }
-        left -= count;
-        k += 1;
+        left -= counts[k];
     }
-    Rank { size, nth: 512 }
+    Rank { size, nth: None }
 }
 
 // The word with a bit set.
@@ -101,7 +84,8 @@ fn with_bit(word: u64, b: u64) -> u64
     word | (1 << b)
 }
 
-// The set with number `i`. Each index is a constant, as in `effects::conditioned`.
+// The set with number `i`. Each index is a constant, so that the words need not lie in memory: with `next[(i / 64) as usize]`
+// a trial took half as long again.
 pub fn inserted(words: [u64; 8], i: u64) -> [u64; 8]
     requires { i < 512 }
     ensures { result ≡ inserted words i }
@@ -137,7 +121,8 @@ fn after(word: u64, bit: u64) -> u64
 }
 
 // Of eight words one has a number past `last`. Only the word that `last` stands in is shifted, and those after it are
-// tested at once: it is tested in every call.
+// tested at once: it is tested in every call, and a test of each word by itself, or a loop over them, took a recovery a quarter
+// more time (bench/trials.md, ticket 5).
 fn past(a: u64, b: u64, c: u64, d: u64, e: u64, f: u64, g: u64, h: u64, last: u64) -> bool
     ensures { result ≡ any_under 8 (λ k. ltb 0 (get_or (a ∷ b ∷ c ∷ d ∷ e ∷ f ∷ g ∷ h ∷ []) k 0 / 2 ^ (last + 1 - 64 * k))) }
 {

@@ -1,11 +1,11 @@
 -- What is true of the definitions of specs/: a line or a field reads as it was last stored, and no other word changes.
 use mathlib.Core.Path.{◌≡◌, ◌∙◌, sym, ap, subst}
-use mathlib.Core.List.{List, [], ◌∷◌}
-use Prim.Native.Nat.{ℕ, suc, ◌+◌, ◌-◌, ◌/◌, ◌≤◌, ◌<◌}
+use mathlib.Core.List.{List}
+use Prim.Native.Nat.{ℕ, ◌+◌, ◌-◌, ◌/◌, ◌≤◌, ◌<◌}
 use native.Mathlib.Decide.{dec_lt}
 use native.Mathlib.Omega.{arith}
-use lib.ListN.{length, take, drop, get_or, set, replicate, drop_of_length-le, length-set, length-take, length-drop, length-replicate, get_or-replicate, get_or-append}
-use lib.Seq.{drop-cons, get_or-set_same, get_or-set_other, get_or-take, get_or-drop, get_or-append-add, length-take-le}
+use lib.ListN.{length, take, drop, get_or, set, replicate, length-set, length-take, length-drop, length-replicate, get_or-replicate, get_or-append}
+use lib.Seq.{get_or-set_same, get_or-set_other, get_or-take, get_or-drop, get_or-append-add, length-take-le}
 use borrow.Rule.Slice.PartMut.{same_len_mid, set_mid_at, take_put, drop_put}
 use Rattle.line.specs.declared.Field.{Field}
 use Rattle.line.specs.declared.Field.TheVariants.{Record, Backup, Mark}
@@ -21,23 +21,6 @@ offset-bound Mark = omega arith
 -- A line's part of a row, from its first word to the next line's, is eight words.
 pub span : (l : ℕ) → line_start l + 8 - line_start l ≡ 8
 span l = omega arith
-
--- What stands from a place on: the word there, and what stands from the next on.
-from_place : (words : List ℕ) (i : ℕ) {rest : List ℕ} → i < length words → rest ≡ drop (suc i) words → get_or words i 0 ∷ rest ≡ drop i words
-from_place words i h e = ap (λ (r : List ℕ). get_or words i 0 ∷ r) e ∙ sym (drop-cons words i 0 h)
-
--- Eight words are those at the eight places.
-pub eight-words : (words : List ℕ) → length words ≡ 8 →
-    get_or words 0 0 ∷ get_or words 1 0 ∷ get_or words 2 0 ∷ get_or words 3 0 ∷ get_or words 4 0 ∷ get_or words 5 0 ∷ get_or words 6 0 ∷ get_or words 7 0 ∷ [] ≡ words
-eight-words words h =
-    from_place words 0 (omega arith)
-    (from_place words 1 (omega arith)
-    (from_place words 2 (omega arith)
-    (from_place words 3 (omega arith)
-    (from_place words 4 (omega arith)
-    (from_place words 5 (omega arith)
-    (from_place words 6 (omega arith)
-    (from_place words 7 (omega arith) (sym (drop_of_length-le words {i = 8} (omega arith))))))))))
 
 -- A line that the row has is eight words.
 pub length-line_of : (row : List ℕ) (l : ℕ) → line_start l + 8 ≤ length row → length (line_of row l) ≡ 8

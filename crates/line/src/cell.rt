@@ -12,32 +12,30 @@ pub fn cell_line(cell: usize) -> usize
     1 + cell / 2
 }
 
-// Where a field stands among a cell's three words.
-fn offset(field: Field) -> usize
-    ensures { (result ≡ field_offset field) × (result < 3) }
-{
-    match field {
-        Field::Record => 0,
-        Field::Backup => 1,
-        Field::Mark => 2,
+impl Field {
+    // Where the field stands among a cell's three words: they lie in the order of the enum.
+    fn offset(self) -> usize
+        ensures { (result ≡ field_offset self) × (result < 3) }
+    {
+        self as usize
+    }
+
+    // Where the field stands among its line's eight words; `half` is the cell's number mod 2.
+    fn word(self, half: usize) -> usize
+        requires { half < 2 }
+        ensures { (result ≡ 3 * half + field_offset self) × (result < 8) }
+    {
+        3 * half + self.offset()
     }
 }
 
-// Where a field stands among its line's eight words; `half` is the cell's number mod 2.
-fn word(half: usize, field: Field) -> usize
-    requires { half < 2 }
-    ensures { (result ≡ 3 * half + field_offset field) × (result < 8) }
-{
-    3 * half + offset(field)
-}
-
-// A field of a cell, read in its line's eight-word part.
+// A field of a cell, read in its line's eight-word part. It takes the part as lent, "starting at 8 × line"; as a `[u64; 8]` it
+// would come out of `first_chunk` as an Option that is never None.
 pub fn field_in_line(part: &[u64], half: usize, field: Field) -> u64
     requires { (length part.now ≡ 8) × (half < 2) }
     ensures { result ≡ get_or part.now (3 * half + field_offset field) 0 }
 {
-    let at = word(half, field);
-    part[at]
+    part[field.word(half)]
 }
 
 // A field of a cell, stored in its line's eight-word part.
@@ -45,8 +43,7 @@ pub fn store_in_line(part: &mut [u64], half: usize, field: Field, value: u64)
     requires { (length part.old ≡ 8) × (half < 2) }
     ensures { part.new ≡ set part.old (3 * half + field_offset field) value }
 {
-    let at = word(half, field);
-    part[at] = value;
+    part[field.word(half)] = value;
 }
 
 // A field of a cell, read in its line's part of the row.
@@ -72,6 +69,6 @@ pub fn cell_field_or_zero(row: &[u64], cell: u16, field: Field) -> u64
     ensures { result ≡ field_of row.now cell field }
 {
     let c = cell as usize;
-    let at = 8 * cell_line(c) + word(c % 2, field);
-    if at < row.len() { row[at] } else { 0 }
+    let at = 8 * cell_line(c) + field.word(c % 2);
+    row.get(at).copied().unwrap_or(0)
 }

@@ -7,7 +7,7 @@ mod row;
 pub use cell::{
     cell_field, cell_field_or_zero, cell_line, field_in_line, store_field, store_in_line,
 };
-pub use row::{copy, header_word, header_word_or_zero, store_header_word, store_line, write_back};
+pub use row::{header_word, header_word_or_zero, store_header_word, store_line, write_back};
 
 // Which of a cell's three words.
 #[derive(Clone, Copy)]

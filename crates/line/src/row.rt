@@ -1,37 +1,7 @@
-// A row by line, and the header's words.
+// A row by line, and the header's words. Which word of a line it is, and which half, is a plain number, whose bound each
+// function asks for: the callers name it by a literal, or by a cell's number mod 2.
 ghost use Rattle.std.specs.Prelude.{◌≡◌, ◌+◌, ◌<◌, ◌≤◌, length, get_or, set};
 ghost use Rattle.line.specs.Line.{line_start, line_of, with_line};
-
-// A slice filled from another of equal length.
-pub fn copy(to: &mut [u64], from: &[u64])
-    requires { length to.old ≡ length from.now }
-    ensures { to.new ≡ from.now }
-{
-    let mut i = 0;
-    while i < from.len() {
-        to[i] = from[i];
-        i += 1;
-    }
-}
-
-// A line's eight words, read out of its part.
-fn words_of(part: &[u64]) -> [u64; 8]
-    requires { length part.now ≡ 8 }
-    ensures { result ≡ part.now }
-{
-    [
-        part[0], part[1], part[2], part[3], part[4], part[5], part[6], part[7],
-    ]
-}
-
-// A line's part filled from another. All eight words are read before one is stored, so that they can move at once.
-fn fill(to: &mut [u64], from: &[u64])
-    requires { (length to.old ≡ 8) × (length from.now ≡ 8) }
-    ensures { to.new ≡ from.now }
-{
-    let words = words_of(from);
-    copy(to, &words);
-}
 
 // Write-back: the memory row's part is filled from the cache's.
 pub fn write_back(memory: &mut [u64], cache: &[u64], line: usize)
@@ -40,7 +10,7 @@ pub fn write_back(memory: &mut [u64], cache: &[u64], line: usize)
 {
     let start = 8 * line;
     let end = start + 8;
-    fill(&mut memory[start..end], &cache[start..end]);
+    memory[start..end].copy_from_slice(&cache[start..end]);
 }
 
 // Eight given words, stored in a line.
@@ -49,7 +19,7 @@ pub fn store_line(row: &mut [u64], line: usize, words: [u64; 8])
     ensures { row.new ≡ with_line row.old line words }
 {
     let start = 8 * line;
-    copy(&mut row[start..start + 8], &words);
+    row[start..start + 8].copy_from_slice(&words);
 }
 
 // A word of the header, read in line 0's part of the row.
@@ -66,10 +36,7 @@ pub fn header_word_or_zero(row: &[u64], k: usize) -> u64
     requires { k < 8 }
     ensures { result ≡ get_or row.now k 0 }
 {
-    if 8 <= row.len() {
-        return header_word(row, k);
-    }
-    if k < row.len() { row[k] } else { 0 }
+    row.get(k).copied().unwrap_or(0)
 }
 
 // A word of the header, stored in line 0's part of the row.

@@ -36,15 +36,15 @@ pub fn holds(holders: u64, worker: u64, lock: u64) -> bool
     }
 }
 
-// The worker holds a lock; locks from the last held one on are not looked at.
+// The worker holds a lock. The loop ends behind the last held one, which a `for` over the sixteen would not.
 pub fn holds_any(holders: u64, worker: u64) -> bool
     ensures { result ≡ holds_any holders worker }
 {
     let mut rest = holders;
     let mut found = false;
     while rest != 0 {
-        found = found | holds(rest, worker, 0);
-        rest = rest / 16;
+        found |= holds(rest, worker, 0);
+        rest /= 16;
     }
     found
 }
@@ -69,7 +69,8 @@ pub fn held_from(holders: u64, workers: u64) -> bool
     }
 }
 
-// The word with other bits for a lock.
+// The word with other bits for a lock. A lock is a plain number wherever it is passed, as 01's calls have it, so its bound
+// stands in each contract.
 fn with_digit(holders: u64, lock: u64, bits: u64) -> u64
     requires lock_bound { lock < 16 }
     requires bits_bound { bits < 16 }

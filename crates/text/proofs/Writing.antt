@@ -1,7 +1,7 @@
 -- What is true of texts written one after the other, or one over another.
 use Rattle.std.proofs.Common.{◌≡◌, ℕ, suc, ◌+◌, ◌-◌, ◌<◌, ◌≤◌, List, [], ◌∷◌, ◌++◌, length, take, drop, set, replicate, sym, ap, ◌∙◌, append_assoc, append-nil, add-one, arith, length-append, length-take-le, take-take, drop-drop, take_at, drop_at}
 use lib.ListN.{length-replicate, replicate-append-replicate}
-use lib.Seq.{paste, paste-zero, drop-length, take-append-le, set_split, append_snoc, take-length}
+use lib.Seq.{paste-zero, drop-length, take-append-le, set_split, append_snoc}
 use Rattle.text.specs.Ascii.{blank}
 use Rattle.text.specs.Writing.{put, Put, aligned}
 
@@ -41,10 +41,6 @@ put-set row at b h =
     set_split row at b h
     ∙ sym (append_snoc (take at row) b (drop (suc at) row))
     ∙ ap (λ (k : ℕ). take at row ++ (b ∷ []) ++ drop k row) (sym (add-one at))
-
--- A copy of a whole text is the text written.
-pub put-paste : (row : List ℕ) (at : ℕ) (text : List ℕ) → paste row at text (length text) ≡ put row at text
-put-paste row at text = ap (λ (l : List ℕ). take at row ++ l ++ drop (at + length text) row) (take-length text)
 
 -- The row up to the end of a text written into it.
 pub put_front : {row text after : List ℕ} {at end : ℕ} → Put row at text after end → at + length text ≤ length row → take end after ≡ take at row ++ text

@@ -6,7 +6,8 @@ ghost use Rattle.text.specs.Writing.{Put};
 
 use crate::{put_byte, put_text};
 
-// A number's digits, written so that the last stands before `end`. Gives where they begin.
+// A number's digits, written so that the last stands before `end`. Gives where they begin. The loop ends with the number,
+// and counts no places.
 fn put_divided(out: &mut [u8], end: usize, n: u64) -> usize
     requires { (length (number_text n) ≤ end) × (end ≤ length out.old) }
     ensures { Put out.old result (number_text n) out.new end }

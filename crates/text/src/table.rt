@@ -1,6 +1,13 @@
 // The table of the powers of ten.
 ghost use Rattle.text.specs.Powers.{PowersOfTen};
 
+// A table of the powers of ten, lent to what writes a number.
+#[derive(Clone, Copy)]
+pub(crate) struct PowerTable<'a> {
+    pub(crate) powers: &'a [u64; 20],
+    pub(crate) ghost tenfold: { PowersOfTen powers.now },
+}
+
 const POWERS: [u64; 20] = [
     1,
     10,

@@ -1,13 +1,9 @@
 -- The words before the number's own are passed over by their counts.
-use Prim.Native.Nat.{◌+◌, ◌*◌, ◌-◌, ◌≤◌}
-use mathlib.Core.Path.{◌≡◌}
+use Rattle.std.proofs.Common.{◌≡◌, ◌+◌, ◌*◌}
 use Rattle.predicate.specs.Passing.{count_under}
 use Rattle.bitset.specs.Words.{contains}
 use Rattle.bitset.proofs.ranked.Given as goal
 
 -- Come to word `k`, the walk has `left` numbers to pass over from there.
 abbrev pub invariant-loop-k : goal.invariant-loop-k
-invariant-loop-k l = (count_under (64 * l.k) (contains l.words) + l.left ≡ l.p) × (l.k ≤ 8)
-
-abbrev pub decreases-loop-k : goal.decreases-loop-k
-decreases-loop-k l = 8 - l.k
+invariant-loop-k l = count_under (64 * l.k) (contains l.words) + l.left ≡ l.p

@@ -5,4 +5,4 @@ use Rattle.line.proofs.row.store_line.Goals as goal
 pub returns : goal.returns
 returns c =
     let a = c.args in
-    back-line a.row.now a.line c.copy.ensures
+    back-line a.row.now a.line c.copy_from_slice.ensures.after

@@ -1,9 +1,0 @@
--- `text::digits::put_run` meets its contract: `DigitRun` at each place.
-use Rattle.text.proofs.Running.{DigitRun}
-use Rattle.text.proofs.digits.put_run.Given as goal
-
-abbrev pub invariant-loop-k : goal.invariant-loop-k
-invariant-loop-k l = DigitRun l.initial.out l.end l.from l.to l.scale l.s l.out l.left l.k
-
-abbrev pub decreases-loop-k : goal.decreases-loop-k
-decreases-loop-k l = l.k
