@@ -4,9 +4,10 @@
 ghost use Rattle.std.specs.Prelude.{◌≡◌};
 ghost use Rattle.board.specs.Board.{shaped, cells, row_words};
 ghost use Rattle.board.specs.Page.{page_bytes};
+ghost use Rattle.board.specs.State.{condition_of, is_free, is_updating, is_away, quiescent};
 
 // What the board is doing.
-#[derive(Clone, Copy)]
+#[derive(Clone, Copy, PartialEq, Eq)]
 pub enum Phase {
     Off,
     Formatting,
@@ -15,7 +16,7 @@ pub enum Phase {
 }
 
 // The next store of an unfinished update.
-#[derive(Clone, Copy)]
+#[derive(Clone, Copy, PartialEq, Eq)]
 pub enum Store {
     Backup,
     Mark,
@@ -23,7 +24,7 @@ pub enum Store {
 }
 
 // The next step at a recovery's cell.
-#[derive(Clone, Copy)]
+#[derive(Clone, Copy, PartialEq, Eq)]
 pub enum UndoStep {
     Restore,
     Unmark,
@@ -33,7 +34,7 @@ pub enum UndoStep {
 // What a worker is doing; an update of a cell under W is a restart point. A worker that is away (document 02's word)
 // waits for something outside, a coin say, and lets checkpoints go on without it. The order of an update's fields,
 // with the small ones first, leaves no gap that the compiler could only keep in memory (docs/BENCH.md).
-#[derive(Clone, Copy)]
+#[derive(Clone, Copy, PartialEq, Eq)]
 pub enum Condition {
     Free,
     Waiting,
@@ -42,7 +43,7 @@ pub enum Condition {
 }
 
 // A worker, with the data of its update inside.
-#[derive(Clone, Copy)]
+#[derive(Clone, Copy, PartialEq, Eq)]
 pub struct Worker {
     pub condition: Condition,
 }
@@ -87,14 +88,14 @@ pub enum Call {
 pub fn cells(lines: u16) -> u64
     ensures { result ≡ cells (shaped lines) }
 {
-    2 * (lines as u64)
+    2 * u64::from(lines)
 }
 
 // "two rows of words of equal length, 8×(L+1) words".
 pub fn row_words(lines: u16) -> usize
     ensures { result ≡ row_words lines }
 {
-    8 * (lines as usize + 1)
+    8 * (usize::from(lines) + 1)
 }
 
 // The bytes of a page: a heading and a line for each cell, 68 bytes each.
@@ -104,15 +105,52 @@ pub fn page_bytes(lines: u16) -> usize
     68 * (cells(lines) as usize + 1)
 }
 
-// The same condition, built anew field by field. A record is copied whole only in memory; a worker whose fields are
-// read and written one by one stays in registers (docs/BENCH.md).
-pub fn rebuilt(condition: Condition) -> Condition
-    ensures { result ≡ condition }
-{
-    match condition {
-        Condition::Free => Condition::Free,
-        Condition::Waiting => Condition::Waiting,
-        Condition::Updating { next, cell, value } => Condition::Updating { next, cell, value },
-        Condition::Away => Condition::Away,
+impl Condition {
+    // "A worker is free".
+    pub fn is_free(self) -> bool
+        ensures { result ≡ is_free self }
+    {
+        matches!(self, Condition::Free)
+    }
+
+    // "or in the middle of an update".
+    pub fn is_updating(self) -> bool
+        ensures { result ≡ is_updating self }
+    {
+        matches!(self, Condition::Updating { .. })
+    }
+
+    // 02: "A free worker may go away".
+    pub fn is_away(self) -> bool
+        ensures { result ≡ is_away self }
+    {
+        matches!(self, Condition::Away)
+    }
+
+    // 02: "away counts as waiting": the worker holds no checkpoint up.
+    pub fn is_quiescent(self) -> bool
+        ensures { result ≡ quiescent self }
+    {
+        matches!(self, Condition::Waiting | Condition::Away)
+    }
+}
+
+impl State {
+    // The condition of a worker; a number past the eight has none, and counts as free. Each index is a constant: read by
+    // `self.worker.get(..)`, the record is copied, which takes a tenth more instructions in a round of updates.
+    pub fn condition_of(self, worker: u64) -> Condition
+        ensures { result ≡ condition_of self worker }
+    {
+        match worker {
+            0 => self.worker[0].condition,
+            1 => self.worker[1].condition,
+            2 => self.worker[2].condition,
+            3 => self.worker[3].condition,
+            4 => self.worker[4].condition,
+            5 => self.worker[5].condition,
+            6 => self.worker[6].condition,
+            7 => self.worker[7].condition,
+            _ => Condition::Free,
+        }
     }
 }

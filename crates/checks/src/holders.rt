@@ -1,10 +1,10 @@
 // Causes 15 and 16, which are of locks, and cause 8 of giving one back.
-ghost use Rattle.std.specs.Prelude.{◌≡◌, ◌&&◌, leb, eqb};
-ghost use Rattle.board.specs.State.{updates, lock_of, updates_under};
+ghost use Rattle.std.specs.Prelude.{◌≡◌};
+ghost use Rattle.board.specs.State.{lock_of, updates_under};
 ghost use Rattle.board.specs.Causes.{no_lock, lock_held, not_holder, holder};
 
-use crate::workers::condition_of;
-use board::{Condition, State};
+use crate::workers::updates;
+use board::State;
 
 // "data cell c lies under lock c mod 16"
 pub fn lock_of(cell: u64) -> u64
@@ -41,22 +41,13 @@ pub fn holder(state: State, worker: u64) -> bool
     locks::holds_any(state.holders, worker)
 }
 
-// An unfinished update of a data cell, one from W on, under the lock.
-fn data_under(condition: Condition, workers: u64, lock: u64) -> bool
-    ensures { result ≡ updates (λ c. leb workers c && eqb (lock_of c) lock) condition }
-{
-    match condition {
-        Condition::Free => false,
-        Condition::Waiting => false,
-        Condition::Updating { cell, .. } => (workers <= cell as u64)
-            & (lock_of(cell as u64) == lock),
-        Condition::Away => false,
-    }
-}
-
 // "when none of its updates under it is unfinished, else 8": one is
 pub fn updates_under(state: State, worker: u64, lock: u64) -> bool
     ensures { result ≡ updates_under state worker lock }
 {
-    data_under(condition_of(state, worker), state.workers as u64, lock)
+    let workers = u64::from(state.workers);
+    updates(
+        state.condition_of(worker),
+        |cell| workers <= cell && lock_of(cell) == lock,
+    )
 }

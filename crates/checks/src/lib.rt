@@ -1,4 +1,4 @@
-// One function for each test of the cause table of documents 01 and 02, and a worker's condition.
+// One function for each test of the cause table of documents 01 and 02.
 #![tactic(auto)]
 
 pub mod holders;
@@ -8,5 +8,3 @@ pub mod phases;
 pub mod record;
 pub mod rows;
 mod workers;
-
-pub use workers::condition_of;

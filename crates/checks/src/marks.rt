@@ -20,13 +20,10 @@ pub fn later_mark(epoch: u64, row: &[u64]) -> bool
     requires { length row.now ≡ row_words (lines_of row.now) }
     ensures { result ≡ later_mark epoch row.now }
 {
-    let lines = row.len() / 8 - 1;
     let mut found = false;
-    let mut line: usize = 1;
-    while line <= lines {
+    for line in 1..row.len() / 8 {
         let start = 8 * line;
-        found = found | later_in_line(epoch, &row[start..start + 8]);
-        line += 1;
+        found |= later_in_line(epoch, &row[start..start + 8]);
     }
     found
 }

@@ -10,7 +10,7 @@ use crate::{limits, record};
 use board::State;
 
 // "2^64 − 1"
-const LAST_EPOCH: u64 = 0xffff_ffff_ffff_ffff;
+const LAST_EPOCH: u64 = u64::MAX;
 
 // "cache or memory not 8×(L+1) words"
 pub fn bad_rows(lines: u16, memory: &[u64], cache: &[u64]) -> bool
@@ -18,7 +18,7 @@ pub fn bad_rows(lines: u16, memory: &[u64], cache: &[u64]) -> bool
         result ≡ bad_rows lines (lent s memory.now cache.now) }
 {
     let words = board::row_words(lines);
-    !(cache.len() == words) | !(memory.len() == words)
+    (cache.len() != words) | (memory.len() != words)
 }
 
 // A page's text row is shorter than the page.
@@ -32,7 +32,7 @@ pub fn short_text(lines: u16, text: &[u8]) -> bool
 pub fn bad_length(words: usize) -> bool
     ensures { result ≡ bad_length words }
 {
-    !((words % 8 == 0) & (16 <= words) & (words <= 4096))
+    (words % 8 != 0) | !(16..=4096).contains(&words)
 }
 
 // "cache of another length"
@@ -41,18 +41,14 @@ pub fn bad_recovery_rows(memory: &[u64], cache: &[u64]) -> bool
         result ≡ bad_recovery_rows (lent s memory.now cache.now) }
 {
     let words = memory.len();
-    bad_length(words) | !(cache.len() == words)
+    bad_length(words) | (cache.len() != words)
 }
 
 // "words 3 to 7 not all zero"
 fn rest_not_zero(row: &[u64]) -> bool
     ensures { result ≡ rest_not_zero row.now }
 {
-    !((line::header_word_or_zero(row, 3) == 0)
-        & (line::header_word_or_zero(row, 4) == 0)
-        & (line::header_word_or_zero(row, 5) == 0)
-        & (line::header_word_or_zero(row, 6) == 0)
-        & (line::header_word_or_zero(row, 7) == 0))
+    (3..8).any(|word| line::header_word_or_zero(row, word) != 0)
 }
 
 // "epoch 0, L not (words div 8) − 1, W outside the limits, or words 3 to 7 not all zero"
@@ -61,7 +57,7 @@ pub fn bad_header(row: &[u64]) -> bool
 {
     let lines = line::header_word_or_zero(row, 1);
     (line::header_word_or_zero(row, 0) == 0)
-        | !(lines == limits::less(row.len() / 8, 1) as u64)
+        | (lines != (row.len() / 8).saturating_sub(1) as u64)
         | limits::outside(lines, line::header_word_or_zero(row, 2))
         | rest_not_zero(row)
 }
@@ -77,10 +73,6 @@ pub fn epoch_spent(cache: &[u64]) -> bool
 pub fn stores_spent_epoch(state: State, cache: &[u64]) -> bool
     ensures { (m : List ℕ) → result ≡ stores_spent_epoch (lent state m cache.now) }
 {
-    let dirty = state.dirty;
-    if record::checkpointing(state) & epoch_spent(cache) {
-        state.place as u64 == bitset::size(dirty)
-    } else {
-        false
-    }
+    (record::checkpointing(state) & epoch_spent(cache))
+        && u64::from(state.place) == bitset::size(state.dirty)
 }

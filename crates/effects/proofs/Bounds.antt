@@ -15,8 +15,8 @@ use Rattle.effects.specs.Bounds.{Checkpoints}
 
 module _ (s : State) (m c : List ℕ) (k : Checkpoints s m c) {n : ℕ} (count : n ≡ dirty_count s) where
   -- A dirty line is in both rows.
-  pub dirty-in : {l : ℕ} → s.place < n → l ≡ nth s.dirty s.place → (line_start l + 8 ≤ length m) × (line_start l + 8 ≤ length c)
-  dirty-in h e = omega (arith, (nth-own s.dirty s.lines k.lines s.place (omega arith)).2)
+  pub dirty-in : {place l : ℕ} → place ≡ s.place → place < n → l ≡ nth s.dirty place → (line_start l + 8 ≤ length m) × (line_start l + 8 ≤ length c)
+  dirty-in {place} p h e = omega (arith, (nth-own s.dirty s.lines k.lines place (omega arith)).2)
 
   -- There is a next epoch at the epoch's store.
   pub epoch-in : {e : ℕ} → s.place ≡ n → e ≡ epoch_of c → e < 2 ^ 64 → e + 1 < 2 ^ 64

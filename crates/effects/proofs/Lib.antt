@@ -1,3 +1,3 @@
--- `Effects` has each effect by its cases, `Ready` what the bounds of specs/ give at the step at hand.
+-- `Effects` has the steps of a checkpoint by their cases, `Bounds` what the bounds of specs/ give at the step at hand.
 pub mod Effects
 pub mod Bounds

@@ -16,14 +16,13 @@ pub fn checkpoint_step(state: State, memory: &mut [u64], cache: &mut [u64]) -> P
         ≡ perform_first (acts (lent state memory.old cache.old)) state
         (lent state memory.old cache.old) }
 {
-    let dirty = state.dirty;
-    let place = state.place as u64;
-    let next = bitset::ranked(dirty, place);
-    let n = next.size;
-    if place < n {
-        line::write_back(memory, cache, next.nth as usize);
+    let place = u64::from(state.place);
+    let next = bitset::ranked(state.dirty, place);
+    if let Some(line) = next.nth {
+        line::write_back(memory, cache, line as usize);
         return next_place(state);
     }
+    let n = next.size;
     if place == n {
         let epoch = line::header_word(cache, 0);
         line::store_header_word(cache, 0, epoch + 1);

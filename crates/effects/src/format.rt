@@ -9,6 +9,7 @@ use crate::record::{Progress, next_place, opened};
 use board::State;
 
 // Line `place` becomes zeros in both rows, or the header is made and the board runs.
+#[tactic(auto, unfolding(board::specs::Effects::format_step))]
 pub fn format_step(state: State, memory: &mut [u64], cache: &mut [u64]) -> Progress
     requires { Formats state memory.old cache.old }
     ensures { lent (progressed state result) memory.new cache.new
@@ -17,11 +18,11 @@ pub fn format_step(state: State, memory: &mut [u64], cache: &mut [u64]) -> Progr
     let place = state.place;
     let lines = state.lines;
     if place <= lines {
-        line::store_line(memory, place as usize, [0; 8]);
-        line::store_line(cache, place as usize, [0; 8]);
+        line::store_line(memory, usize::from(place), [0; 8]);
+        line::store_line(cache, usize::from(place), [0; 8]);
         next_place(state)
     } else {
-        let header = [1, lines as u64, state.workers as u64, 0, 0, 0, 0, 0];
+        let header = [1, u64::from(lines), u64::from(state.workers), 0, 0, 0, 0, 0];
         line::store_line(memory, 0, header);
         line::store_line(cache, 0, header);
         opened(state, true)

@@ -1,18 +1,20 @@
 // Every way in which a step makes a new state record.
 ghost use Rattle.std.specs.Prelude.{◌≡◌, ◌+◌, ◌<◌};
-ghost use Rattle.effects.specs.Progress.{dirty_after, progressed};
+ghost use Rattle.effects.specs.Progress.{dirty_after, workers_after, progressed};
 ghost use Rattle.board.specs.Board.{shaped};
-ghost use Rattle.board.specs.State.{started, placed, opened, requesting, after_release, released_workers, released, conditioned, dirtied, locked};
+ghost use Rattle.board.specs.State.{started, placed, opened, requesting, after_release, released, conditioned, dirtied, locked};
 
 use board::{Condition, Phase, State, UndoStep, Worker};
+
+// "all eight workers free"
+const ALL_FREE: [Worker; 8] = [Worker {
+    condition: Condition::Free,
+}; 8];
 
 // "Each of the two starts sets every field."
 pub fn started(phase: Phase, lines: u16, workers: u8) -> State
     ensures { result ≡ started phase (shaped lines) workers }
 {
-    let worker = [Worker {
-        condition: Condition::Free,
-    }; 8];
     State {
         phase,
         lines,
@@ -22,11 +24,11 @@ pub fn started(phase: Phase, lines: u16, workers: u8) -> State
         requested: false,
         holders: 0,
         dirty: [0; 8],
-        worker,
+        worker: ALL_FREE,
     }
 }
 
-// What a step leaves of the eight workers.
+// What a step leaves of the eight workers: data, as the other fields of `Progress`, of which one record is made.
 #[derive(Clone, Copy)]
 pub enum Workers {
     Kept,
@@ -46,79 +48,45 @@ pub struct Progress {
     pub workers: Workers,
 }
 
-// "release, with all eight workers free"; "Release leaves it away": the condition that it leaves a worker in.
-fn after_release(condition: Condition) -> Condition
-    ensures { result ≡ after_release condition }
-{
-    match condition {
-        Condition::Free => Condition::Free,
-        Condition::Waiting => Condition::Free,
-        Condition::Updating { .. } => Condition::Free,
-        Condition::Away => Condition::Away,
-    }
-}
-
-// A worker after the release.
+// "release, with all eight workers free"; "Release leaves it away": the worker that it leaves.
 fn released_worker(worker: Worker) -> Worker
     ensures { result.condition ≡ after_release worker.condition }
 {
-    let condition = worker.condition;
-    let after = after_release(condition);
-    Worker { condition: after }
+    match worker.condition {
+        Condition::Away => worker,
+        _ => Worker {
+            condition: Condition::Free,
+        },
+    }
 }
 
-// The eight workers after the release. Each index is a constant, as in `conditioned`.
-fn released_workers(state: State) -> [Worker; 8]
-    ensures { result ≡ released_workers state }
+// The eight workers after a step that keeps them, frees them all, or releases them.
+fn workers_after(state: State, workers: Workers) -> [Worker; 8]
+    ensures { result ≡ workers_after workers state }
 {
-    [
-        released_worker(state.worker[0]),
-        released_worker(state.worker[1]),
-        released_worker(state.worker[2]),
-        released_worker(state.worker[3]),
-        released_worker(state.worker[4]),
-        released_worker(state.worker[5]),
-        released_worker(state.worker[6]),
-        released_worker(state.worker[7]),
-    ]
-}
-
-// The dirty lines after a step that cleared them, or kept them.
-fn dirty_after(dirty: [u64; 8], cleared: bool) -> [u64; 8]
-    ensures { result ≡ dirty_after cleared dirty }
-{
-    if cleared { [0; 8] } else { dirty }
+    match workers {
+        Workers::Kept => state.worker,
+        Workers::Freed => ALL_FREE,
+        Workers::Released => state.worker.map(released_worker),
+    }
 }
 
 // The state record after a step.
 pub fn progressed(state: State, progress: Progress) -> State
     ensures { result ≡ progressed state progress }
 {
-    let phase = progress.phase;
-    let undo = progress.undo;
-    let workers = progress.workers;
-    let before = state.dirty;
-    let dirty = dirty_after(before, progress.cleared);
-    let mut worker = state.worker;
-    match workers {
-        Workers::Kept => {}
-        Workers::Freed => {
-            worker = [Worker {
-                condition: Condition::Free,
-            }; 8];
-        }
-        Workers::Released => worker = released_workers(state),
-    }
     State {
-        phase,
-        lines: state.lines,
-        workers: state.workers,
+        phase: progress.phase,
         place: progress.place,
-        undo,
+        undo: progress.undo,
         requested: progress.requested,
-        holders: state.holders,
-        dirty,
-        worker,
+        dirty: if progress.cleared {
+            [0; 8]
+        } else {
+            state.dirty
+        },
+        worker: workers_after(state, progress.workers),
+        ..state
     }
 }
 
@@ -126,9 +94,8 @@ pub fn progressed(state: State, progress: Progress) -> State
 pub fn placed(state: State, place: u16, undo: UndoStep) -> Progress
     ensures { progressed state result ≡ placed state place undo }
 {
-    let phase = state.phase;
     Progress {
-        phase,
+        phase: state.phase,
         place,
         undo,
         requested: state.requested,
@@ -142,8 +109,7 @@ pub fn next_place(state: State) -> Progress
     requires { state.place < 65535 }
     ensures { progressed state result ≡ placed state (state.place + 1) state.undo }
 {
-    let undo = state.undo;
-    placed(state, state.place + 1, undo)
+    placed(state, state.place + 1, state.undo)
 }
 
 // "Then running, all free": the end of a format, which clears the dirty lines, or of a recovery, which leaves them.
@@ -165,9 +131,8 @@ pub fn opened(state: State, cleared: bool) -> Progress
 pub fn released(state: State) -> Progress
     ensures { progressed state result ≡ released state }
 {
-    let phase = state.phase;
     Progress {
-        phase,
+        phase: state.phase,
         place: 0,
         undo: UndoStep::Restore,
         requested: false,
@@ -188,13 +153,13 @@ pub fn requesting(state: State) -> State
     }
 }
 
-// A worker in another condition. Each index is a constant, as in `checks::condition_of`.
+// A worker in another condition. Each index is a constant: put by `next.worker[worker]`, the record is copied, which
+// takes a fifth more instructions in a round of updates.
 pub fn conditioned(state: State, worker: usize, condition: Condition) -> State
     requires { worker < 8 }
     ensures { result ≡ conditioned state worker condition }
 {
     let mut next = state;
-    let condition = board::rebuilt(condition);
     let put = Worker { condition };
     match worker {
         0 => next.worker[0] = put,
@@ -214,8 +179,7 @@ pub fn dirtied(state: State, line: u64) -> State
     requires { line < 512 }
     ensures { result ≡ dirtied state line }
 {
-    let before = state.dirty;
-    let dirty = bitset::inserted(before, line);
+    let dirty = bitset::inserted(state.dirty, line);
     State { dirty, ..state }
 }
 

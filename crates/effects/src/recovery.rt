@@ -20,7 +20,7 @@ pub fn restart(memory: &[u64], cache: &mut [u64]) -> State
     ensures { (result ≡ started Recovering (shape_in memory.now) (workers_of memory.now))
         × (cache.new ≡ memory.now) }
 {
-    line::copy(cache, memory);
+    cache.copy_from_slice(memory);
     let lines = line::header_word(memory, 1);
     let workers = line::header_word(memory, 2);
     started(Phase::Recovering, lines as u16, workers as u8)
@@ -31,7 +31,7 @@ fn past_cell(state: State) -> Progress
     requires { state.lines ≤ 511 }
     ensures { progressed state result ≡ past_stop state }
 {
-    let place = state.place as u64;
+    let place = u64::from(state.place);
     if place + 1 < board::cells(state.lines) {
         placed(state, state.place + 1, UndoStep::Restore)
     } else {
@@ -40,13 +40,14 @@ fn past_cell(state: State) -> Progress
 }
 
 // "record := backup" where the mark equals the epoch; any other cell, "one step that stores nothing".
+#[tactic(auto, unfolding(board::specs::Effects::recovery_step))]
 fn first_step(state: State, memory: &[u64], cache: &mut [u64]) -> Progress
     requires { Recovers state memory.now cache.old }
     ensures { lent (progressed state result) memory.now cache.new
         ≡ recovery_step Restore state (lent state memory.now cache.old) }
 {
     let place = state.place;
-    let cell = place as usize;
+    let cell = usize::from(place);
     if logged(cache, cell) {
         let backup = line::cell_field(cache, cell, Field::Backup);
         line::store_field(cache, cell, Field::Record, backup);
@@ -57,15 +58,15 @@ fn first_step(state: State, memory: &[u64], cache: &mut [u64]) -> Progress
 }
 
 // "record := backup; mark := 0; its line written back."
+#[tactic(auto, unfolding(board::specs::Effects::recovery_step))]
 pub fn recovery_step(state: State, memory: &mut [u64], cache: &mut [u64]) -> Progress
     requires { Recovers state memory.old cache.old }
     ensures { lent (progressed state result) memory.new cache.new
         ≡ recovery_step state.undo state (lent state memory.old cache.old) }
 {
     let place = state.place;
-    let cell = place as usize;
-    let undo = state.undo;
-    match undo {
+    let cell = usize::from(place);
+    match state.undo {
         UndoStep::Restore => first_step(state, memory, cache),
         UndoStep::Unmark => {
             line::store_field(cache, cell, Field::Mark, 0);

@@ -1,7 +1,9 @@
 // Updates and restart points: the start, and the three stores of an advance.
-ghost use Rattle.std.specs.Prelude.{◌≡◌, List, ℕ, ◌+◌, ◌≤◌, length};
+ghost use Rattle.std.specs.Prelude.{◌≡◌, List, ℕ, ◌+◌, ◌<◌, ◌≤◌, length};
 ghost use Rattle.board.specs.Effects.{first_store, noted, after_last, advance};
 ghost use Rattle.board.specs.Next.{lent};
+ghost use Rattle.board.specs.State.{conditioned};
+ghost use Rattle.board.specs.declared.Condition.TheVariants.{Updating};
 ghost use Rattle.board.specs.declared.Store.TheVariants.{Backup, Mark, Record};
 ghost use Rattle.line.specs.Line.{line_start};
 ghost use Rattle.line.specs.Cell.{cell_line};
@@ -24,64 +26,94 @@ fn first_store(row: &[u64], cell: usize) -> Store
     }
 }
 
-// "The start notes it."
-pub fn noted(state: State, cache: &[u64], worker: usize, cell: u16, value: u64) -> State
-    requires { Stores cache.now worker cell }
-    ensures { (m : List ℕ) →
-        lent result m cache.now ≡ noted worker cell value (lent state m cache.now) }
-{
-    let next = first_store(cache, cell as usize);
-    conditioned(state, worker, Condition::Updating { next, cell, value })
-}
-
 // "At the last store the worker becomes waiting if a checkpoint is requested by then" (a restart point's), "else free".
 fn after_last(state: State, cell: u16) -> Condition
     ensures { result ≡ after_last state cell }
 {
-    if (cell < (state.workers as u16)) & state.requested {
+    if (cell < u16::from(state.workers)) & state.requested {
         Condition::Waiting
     } else {
         Condition::Free
     }
 }
 
-// "backup := record".
-fn back_up(state: State, cache: &mut [u64], worker: usize, cell: u16, value: u64) -> State
-    requires { Stores cache.old worker cell }
-    ensures { (m : List ℕ) →
-        lent result m cache.new
-        ≡ advance Backup worker cell value state (lent state m cache.old) }
-{
-    let old = line::cell_field(cache, cell as usize, Field::Record);
-    line::store_field(cache, cell as usize, Field::Backup, old);
-    let next = Store::Mark;
-    conditioned(state, worker, Condition::Updating { next, cell, value })
+// An unfinished update: the worker that makes it, its cell and the value. That the cell stands in the cache (`Stores`) ties
+// it to the row that is lent, so each method asks for it: no type holds both.
+#[derive(Clone, Copy)]
+struct Update {
+    worker: usize,
+    cell: u16,
+    value: u64,
 }
 
-// "mark := epoch"; "Marking a cell now promises its line's bit too".
-fn mark(state: State, cache: &mut [u64], worker: usize, cell: u16, value: u64) -> State
-    requires { Stores cache.old worker cell }
-    ensures { (m : List ℕ) →
-        lent result m cache.new
-        ≡ advance Mark worker cell value state (lent state m cache.old) }
-{
-    let epoch = line::header_word(cache, 0);
-    line::store_field(cache, cell as usize, Field::Mark, epoch);
-    let next = Store::Record;
-    let marked = conditioned(state, worker, Condition::Updating { next, cell, value });
-    let line = line::cell_line(cell as usize);
-    dirtied(marked, line as u64)
+impl Update {
+    // The record with this store as the update's next.
+    fn with_next(self, state: State, next: Store) -> State
+        requires { self.worker < 8 }
+        ensures { result ≡ conditioned state self.worker (Updating next self.cell self.value) }
+    {
+        let condition = Condition::Updating {
+            next,
+            cell: self.cell,
+            value: self.value,
+        };
+        conditioned(state, self.worker, condition)
+    }
+
+    // "backup := record".
+    #[tactic(auto, unfolding(board::specs::Effects::advance))]
+    fn back_up(self, state: State, cache: &mut [u64]) -> State
+        requires { Stores cache.old self.worker self.cell }
+        ensures { (m : List ℕ) →
+            lent result m cache.new
+            ≡ advance Backup self.worker self.cell self.value state (lent state m cache.old) }
+    {
+        let cell = usize::from(self.cell);
+        let old = line::cell_field(cache, cell, Field::Record);
+        line::store_field(cache, cell, Field::Backup, old);
+        self.with_next(state, Store::Mark)
+    }
+
+    // "mark := epoch"; "Marking a cell now promises its line's bit too".
+    #[tactic(auto, unfolding(board::specs::Effects::advance))]
+    fn mark(self, state: State, cache: &mut [u64]) -> State
+        requires { Stores cache.old self.worker self.cell }
+        ensures { (m : List ℕ) →
+            lent result m cache.new
+            ≡ advance Mark self.worker self.cell self.value state (lent state m cache.old) }
+    {
+        let cell = usize::from(self.cell);
+        let epoch = line::header_word(cache, 0);
+        line::store_field(cache, cell, Field::Mark, epoch);
+        let marked = self.with_next(state, Store::Record);
+        dirtied(marked, line::cell_line(cell) as u64)
+    }
+
+    // "record := value".
+    #[tactic(auto, unfolding(board::specs::Effects::advance))]
+    fn store_record(self, state: State, cache: &mut [u64]) -> State
+        requires { Stores cache.old self.worker self.cell }
+        ensures { (m : List ℕ) →
+            lent result m cache.new
+            ≡ advance Record self.worker self.cell self.value state (lent state m cache.old) }
+    {
+        line::store_field(cache, usize::from(self.cell), Field::Record, self.value);
+        conditioned(state, self.worker, after_last(state, self.cell))
+    }
 }
 
-// "record := value".
-fn store_record(state: State, cache: &mut [u64], worker: usize, cell: u16, value: u64) -> State
-    requires { Stores cache.old worker cell }
+// "The start notes it."
+pub fn noted(state: State, cache: &[u64], worker: usize, cell: u16, value: u64) -> State
+    requires { Stores cache.now worker cell }
     ensures { (m : List ℕ) →
-        lent result m cache.new
-        ≡ advance Record worker cell value state (lent state m cache.old) }
+        lent result m cache.now ≡ noted worker cell value (lent state m cache.now) }
 {
-    line::store_field(cache, cell as usize, Field::Record, value);
-    conditioned(state, worker, after_last(state, cell))
+    let update = Update {
+        worker,
+        cell,
+        value,
+    };
+    update.with_next(state, first_store(cache, usize::from(cell)))
 }
 
 // "backup := record; mark := epoch; record := value".
@@ -98,9 +130,14 @@ pub fn store_next(
         lent result m cache.new
         ≡ advance next worker cell value state (lent state m cache.old) }
 {
+    let update = Update {
+        worker,
+        cell,
+        value,
+    };
     match next {
-        Store::Backup => back_up(state, cache, worker, cell, value),
-        Store::Mark => mark(state, cache, worker, cell, value),
-        Store::Record => store_record(state, cache, worker, cell, value),
+        Store::Backup => update.back_up(state, cache),
+        Store::Mark => update.mark(state, cache),
+        Store::Record => update.store_record(state, cache),
     }
 }

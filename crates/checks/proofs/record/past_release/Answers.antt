@@ -1,10 +1,7 @@
--- Where no request stands, no line is counted; a count of 512 lines at most leaves room for two more.
+-- A count of 512 lines at most leaves room for two more.
 use native.Mathlib.Omega.{arith}
 use Rattle.bitset.proofs.Words.{size_room}
 use Rattle.checks.proofs.record.past_release.Goals as goal
 
 pub overflow_add-result : goal.overflow_add-result
-overflow_add-result c = record { fits = omega (arith, c.size.ensures, size_room c.args.dirty) }
-
-pub returns-then-head : goal.returns-then-head
-returns-then-head c = rw (c.size.ensures, c.if-head.true)
+overflow_add-result c = record { fits = omega (arith, c.size.ensures, size_room c.args.state.dirty) }

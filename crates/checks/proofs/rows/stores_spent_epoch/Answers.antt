@@ -1,6 +1,5 @@
 -- Each part is the part of the definition, where a checkpoint steps in the last epoch; elsewhere the count is not asked for.
-use mathlib.Core.Path.{◌≡◌, refl, sym, ap₂, ◌∙◌}
-use mathlib.Core.Bool.{Bool, true, false, ◌&&◌, false≢true}
+use Rattle.std.proofs.Common.{◌≡◌, refl, sym, ap₂, ◌∙◌, Bool, true, false, ◌&&◌}
 use Rattle.predicate.proofs.Bools.{and_left, and_right}
 use Rattle.board.specs.declared.State.{State}
 use Rattle.board.specs.State.{is_running}
@@ -11,17 +10,17 @@ use Rattle.checks.proofs.rows.stores_spent_epoch.Goals as goal
 
 -- Of three tests the first and the last hold, so the one between decides.
 between : {a c : Bool} (p b q : Bool) → a ≡ p → c ≡ q → a && c ≡ true → b ≡ p && b && q
-between {a} {c} p b q e f t = go p b q (ap₂ ◌&&◌ (sym e) (sym f) ∙ t)
+between p b q e f t = go p b q (ap₂ ◌&&◌ (sym e) (sym f) ∙ t)
   where
     go : (p b q : Bool) → p && q ≡ true → b ≡ p && b && q
     go true true true t = refl
     go true false true t = refl
-    go true b false t = absurd (false≢true t)
-    go false b q t = absurd (false≢true t)
+    go true b false t = cc
+    go false b q t = cc
 
 -- One of the two does not hold, so not all three do.
 not-both : {a c : Bool} (p b q : Bool) → a ≡ p → c ≡ q → a && c ≡ false → false ≡ p && b && q
-not-both {a} {c} p b q e f t = go p b q (ap₂ ◌&&◌ (sym e) (sym f) ∙ t)
+not-both p b q e f t = go p b q (ap₂ ◌&&◌ (sym e) (sym f) ∙ t)
   where
     go : (p b q : Bool) → p && q ≡ false → false ≡ p && b && q
     go true true q t = sym t
@@ -34,12 +33,14 @@ stepping s t = and_right (is_running s.phase) s.requested t
 
 pub returns-then-checkpointing-epoch_spent : goal.returns-then-checkpointing-epoch_spent
 returns-then-checkpointing-epoch_spent c m =
-    let given = c.args in
-    let state = given.state in
+    let state = c.args.state in
     let steps = c.checkpointing.ensures in
-    let requested = stepping state (sym steps ∙ and_left _ _ c.if-checkpointing-epoch_spent.true) in
-    rw (c.size.ensures, ← epoch-next (lent state m given.cache.now) requested) (between _ _ _ steps (c.epoch_spent.ensures state m) c.if-checkpointing-epoch_spent.true)
+    let both = c.if-checkpointing-epoch_spent.true in
+    let requested = stepping state (sym steps ∙ and_left _ _ both) in
+    rw (c.from.ensures, c.size.ensures, ← epoch-next (lent state m c.args.cache.now) requested)
+    (between _ _ _ steps (c.epoch_spent.ensures state m) both)
 
 pub returns-else-checkpointing-epoch_spent : goal.returns-else-checkpointing-epoch_spent
 returns-else-checkpointing-epoch_spent c m =
-    not-both _ _ _ c.checkpointing.ensures (c.epoch_spent.ensures c.args.state m) c.if-checkpointing-epoch_spent.false
+    let off = c.if-checkpointing-epoch_spent.false in
+    off ∙ not-both _ _ _ c.checkpointing.ensures (c.epoch_spent.ensures c.args.state m) off

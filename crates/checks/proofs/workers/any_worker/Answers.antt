@@ -1,28 +1,33 @@
-use borrow.Author.Rules.{rules}
-use mathlib.Core.Path.{refl, sym, ◌∙◌}
-use native.Mathlib.Omega.{arith}
+-- Each worker under W is asked, and no other passes.
+use Rattle.std.proofs.Common.{refl, sym, ap, ◌∙◌, ℕ, arith}
 use Rattle.predicate.specs.Passing.{any_under}
 use Rattle.checks.proofs.Tests.{under_more}
-use Rattle.checks.proofs.Scan.{scan-end, sought-under}
+use Rattle.checks.proofs.Scan.{told_at, told-under, told-past}
+use Rattle.checks.proofs.workers.any_worker.Goals.{then-i-state, else-i-state}
 use Rattle.checks.proofs.workers.any_worker.Goals as goal
 
 pub loop-i-init : goal.loop-i-init
 unfolding any_under
-loop-i-init c = (search rules, c.looked_at-end.ensures, refl)
-
-pub bounds-state-at : goal.bounds-state-at
-bounds-state-at c = omega (arith, c.loop-i.invariant)
+loop-i-init g c told h = refl
 
 pub loop-i-preserved : goal.loop-i-preserved
-loop-i-preserved c =
+loop-i-preserved g c told h =
     let at = c.loop-i in
-    let start = c.args in (
-      search rules,
-      at.invariant.1,
-      rw (under_more, c.is_sought-found.ensures, at.invariant.2, sought-under start.state start.sought at.i (omega (arith, at.invariant))),
-    )
+    let more = under_more at.i (told_at c.args.state told) in
+    elim c.if-i-state.branch [
+      | then-i-state w ↦
+          rw (
+            w.found-is,
+            at.invariant told h,
+            h _ _ _ w.test-found.ensures,
+            w.from.ensures,
+            w.from-then-i-state.ensures,
+            more,
+            told-under c.args.state told at.i (omega (arith, w.if-i-state)),
+          )
+      | else-i-state w ↦ w.found-is ∙ at.invariant told h ∙ sym (more ∙ told-past c.args.state told at.i (omega (arith, w.if-i-state)))
+    ]
 
 pub returns : goal.returns
-returns c =
-    let at = c.loop-i in
-    at.invariant.2 ∙ sym (scan-end c.args.state c.args.sought at.i (omega (arith, at.invariant)))
+returns g c told h =
+    c.loop-i.invariant told h ∙ ap (λ (k : ℕ). any_under k (told_at c.args.state told)) (omega (arith, c.loop-i.auto.i-end, c.loop-i-test.false))

@@ -1,5 +1,0 @@
--- The phase is the record's.
-use Rattle.checks.proofs.phases.not_recovering_or_running.Goals as goal
-
-pub returns : goal.returns
-returns c m k = rw (c.is_off.ensures, c.is_formatting.ensures)

@@ -1,5 +1,0 @@
--- In the middle of an update the test is the cell's.
-use Rattle.checks.proofs.workers.updates_from.Goals as goal
-
-pub returns-in-Updating : goal.returns-in-Updating
-returns-in-Updating c = rw c.in-Updating.is
