@@ -1,2 +1,3 @@
--- `Memory` has what recovery's start knows once the rows and the header have passed.
+-- `Memory` has what recovery's start knows once the rows and the header have passed, `Guard` what a guard's outcome says.
 pub mod Memory
+pub mod Guard

@@ -14,18 +14,10 @@ pub fn taken_advance(state: State, memory: &[u64], cache: &mut [u64], worker: u6
         ≡ effect (Call.Advance worker)
         (lent state memory.now cache.old) }
 {
-    let condition = checks::condition_of(state, worker);
-    match condition {
-        Condition::Free => state,
-        Condition::Waiting => state,
-        Condition::Updating { next, cell, value } => store_next(
-            state,
-            cache,
-            worker as usize,
-            cell,
-            value,
-            next,
-        ),
-        Condition::Away => state,
+    match state.condition_of(worker) {
+        Condition::Updating { next, cell, value } => {
+            store_next(state, cache, worker as usize, cell, value, next)
+        }
+        Condition::Free | Condition::Waiting | Condition::Away => state,
     }
 }

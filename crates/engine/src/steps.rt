@@ -15,10 +15,8 @@ pub fn taken_step(state: State, memory: &mut [u64], cache: &mut [u64]) -> Progre
         ≡ effect Call.Step
         (lent state memory.old cache.old) }
 {
-    let phase = state.phase;
-    let undo = state.undo;
-    match phase {
-        Phase::Off => placed(state, state.place, undo),
+    match state.phase {
+        Phase::Off => placed(state, state.place, state.undo),
         Phase::Formatting => format_step(state, memory, cache),
         Phase::Recovering => recovery_step(state, memory, cache),
         Phase::Running => checkpoint_step(state, memory, cache),

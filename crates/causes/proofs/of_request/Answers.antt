@@ -1,15 +1,10 @@
--- Each cause that is looked at is the table's, in the table's order.
+-- The epoch that is tested is the cache's.
 use mathlib.Core.List.{[]}
+use Rattle.std.proofs.Common.{arith}
 use Rattle.board.specs.Causes.{cause, causes, first_standing}
+use Rattle.causes.proofs.Guard.{no_refusal_is_taken}
 use Rattle.causes.proofs.of_request.Goals as goal
 
 pub returns : goal.returns
 unfolding cause causes first_standing
-returns c =
-    rw (
-      c.first.ensures,
-      c.epoch_spent.ensures c.args.state [],
-      c.bad_rows.ensures c.args.state,
-      c.bad_record.ensures,
-      c.not_running.ensures [] [],
-    )
+returns c = grind (arith, no_refusal_is_taken, c.epoch_spent.ensures c.args.state [])

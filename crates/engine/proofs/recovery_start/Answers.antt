@@ -1,19 +1,18 @@
 -- `engine::recovery_start` meets its contract: a taken recovery has the rows and the header that `restart` asks for.
-use mathlib.Core.Path.{◌∙◌, sym}
-use borrow.Author.Rules.{rules}
+use mathlib.Core.Path.{refl, ◌∙◌, sym}
 use Rattle.board.specs.Next.{value_of}
 use Rattle.engine.proofs.Passed.{recovery-restarts}
 use Rattle.engine.proofs.Effect.{starts-recovery}
-use Rattle.engine.proofs.Outcome.{refused, done}
+use Rattle.engine.proofs.Outcome.{refused-state, done}
 use Rattle.engine.proofs.recovery_start.Goals as goal
 
-pub returns-then-number-ne-TAKEN : goal.returns-then-number-ne-TAKEN
+pub returns-in_err-of_recovery_start : goal.returns-in_err-of_recovery_start
 unfolding value_of
-returns-then-number-ne-TAKEN c = search (rules, refused)
+returns-in_err-of_recovery_start c = record { performed = refused-state _ _ _ _ refl _ _ c.from_residual.ensures.1 c.in_err-of_recovery_start.ensures }
 
-pub restart-next-requires : goal.restart-next-requires
-restart-next-requires c = recovery-restarts _ (sym c.of_recovery_start-number.ensures ∙ c.if-number-ne-TAKEN.false)
+pub restart-requires : goal.restart-requires
+restart-requires c = recovery-restarts _ (sym c.in_ok-of_recovery_start.ensures)
 
 pub returns : goal.returns
 unfolding value_of
-returns c = search (rules, done, starts-recovery)
+returns c = record { performed = done _ _ _ _ refl c.in_ok-of_recovery_start.ensures (starts-recovery _ _ _ c.restart.ensures.0 c.restart.ensures.1) }

@@ -4,23 +4,23 @@ use native.Mathlib.Omega.{arith}
 use Rattle.board.specs.Next.{value_of}
 use Rattle.engine.proofs.Passed.{restart-stores}
 use Rattle.engine.proofs.Effect.{starts-restart}
-use Rattle.engine.proofs.Outcome.{refused, done}
+use Rattle.engine.proofs.Outcome.{refused-state, done}
 use Rattle.engine.proofs.restart_point.Goals as goal
 
-pub returns-then-number-ne-TAKEN : goal.returns-then-number-ne-TAKEN
+pub returns-in_err-of_restart_point : goal.returns-in_err-of_restart_point
 unfolding value_of
-returns-then-number-ne-TAKEN c = record { performed = refused _ _ _ _ refl (c.of_restart_point-number.ensures c.args.value) c.if-number-ne-TAKEN.true }
+returns-in_err-of_restart_point c = record { performed = refused-state _ _ _ _ refl _ _ c.from_residual.ensures.1 (c.in_err-of_restart_point.ensures c.args.value) }
 
 pub overflow_cast-worker : goal.overflow_cast-worker
-overflow_cast-worker c = omega (arith, restart-stores _ _ _ (sym (c.of_restart_point-number.ensures c.args.value) ∙ c.if-number-ne-TAKEN.false))
+overflow_cast-worker c = omega (arith, restart-stores _ _ _ (sym (c.in_ok-of_restart_point.ensures c.args.value)))
 
-pub noted-next-requires : goal.noted-next-requires
-noted-next-requires c = (restart-stores _ _ _ (sym (c.of_restart_point-number.ensures c.args.value) ∙ c.if-number-ne-TAKEN.false)).0
+pub noted-requires : goal.noted-requires
+noted-requires c = (restart-stores _ _ _ (sym (c.in_ok-of_restart_point.ensures c.args.value))).0
 
 pub returns : goal.returns
 unfolding value_of
 returns c = record {
   performed =
-      done _ _ _ _ refl (c.of_restart_point-number.ensures c.args.value) c.if-number-ne-TAKEN.false
-      (starts-restart _ _ _ _ _ (c.noted-next.ensures _));
+      done _ _ _ _ refl (c.in_ok-of_restart_point.ensures c.args.value)
+      (starts-restart _ _ _ _ _ (c.noted.ensures _));
 }

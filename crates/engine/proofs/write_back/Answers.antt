@@ -1,19 +1,18 @@
 -- `engine::write_back` meets its contract: a taken write-back has a line that is in both rows.
-use mathlib.Core.Path.{◌∙◌, sym}
-use borrow.Author.Rules.{rules}
+use mathlib.Core.Path.{refl, ◌∙◌, sym}
 use Rattle.board.specs.Next.{value_of}
 use Rattle.engine.proofs.Passed.{line-in-rows}
 use Rattle.engine.proofs.Effect.{writes-back}
 use Rattle.engine.proofs.Outcome.{refused, done}
 use Rattle.engine.proofs.write_back.Goals as goal
 
-pub returns-then-number-ne-TAKEN : goal.returns-then-number-ne-TAKEN
+pub returns-in_err-of_write_back : goal.returns-in_err-of_write_back
 unfolding value_of
-returns-then-number-ne-TAKEN c = search (rules, refused)
+returns-in_err-of_write_back c = record { performed = refused _ _ _ _ refl _ _ c.from_residual.ensures.1 c.in_err-of_write_back.ensures }
 
 pub write_back-requires : goal.write_back-requires
-write_back-requires c = line-in-rows _ _ (sym c.of_write_back-number.ensures ∙ c.if-number-ne-TAKEN.false)
+write_back-requires c = line-in-rows _ _ (sym c.in_ok-of_write_back.ensures)
 
 pub returns : goal.returns
 unfolding value_of
-returns c = search (rules, done, writes-back)
+returns c = record { performed = done _ _ _ _ refl c.in_ok-of_write_back.ensures (writes-back _ _ _ _ c.write_back.ensures) }
