@@ -9,7 +9,7 @@ ghost use Rattle.board.specs.Hex.{HexWritePerformed, HexReadPerformed};
 pub extern "C" fn nevrodde_hex_write(memory: &[u64], text: &mut [u8]) -> u8
     ensures performed { HexWritePerformed memory.now text.old result text.new }
 {
-    intel_hex::write(memory, text)
+    causes::answer_number(intel_hex::write(memory, text))
 }
 
 // HEX text into a row of words: "it hands the text over as bytes and gets a number back".
@@ -17,5 +17,5 @@ pub extern "C" fn nevrodde_hex_write(memory: &[u64], text: &mut [u8]) -> u8
 pub extern "C" fn nevrodde_hex_read(text: &[u8], row: &mut [u64]) -> u8
     ensures performed { HexReadPerformed text.now row.old result row.new }
 {
-    intel_hex::read(text, row)
+    causes::answer_number(intel_hex::read(text, row))
 }

@@ -12,7 +12,6 @@ use Rattle.predicate.proofs.Bools.{chosen, passed_over, split, and_left, and_rig
 use Rattle.predicate.proofs.Passing.{none-under}
 use Rattle.text.specs.Ascii.{'0', '9', 'A', 'F', 'a', 'f'}
 use Rattle.board.specs.Hex.{hex_digit, byte_of}
-use Rattle.intel_hex.specs.Storing.{DigitTable}
 
 -- A character stands between two others.
 abbrev pub between : ℕ → ℕ → ℕ → Bool
@@ -60,10 +59,9 @@ module _ (c : ℕ) where
       (λ d. split (between 'A' 'F' c) (λ u. omega (arith, inside 'A' 'F' c u))
       (λ u. split (between 'a' 'f' c) (λ l. omega (arith, inside 'a' 'f' c l)) (λ l. absurd (omega (arith, no_digit d u l)))))
 
--- A table that passes the test at each byte is that of the digits.
-pub digit-table : {table : List ℕ} → any_under 256 (λ c. not (eqb (get_or table c 0) (hex_digit c))) ≡ false → DigitTable table
-digit-table {table} t =
-    record { entry = λ c h. eqb-true (get_or table c 0) (hex_digit c) (not-off _ (none-under 256 (λ c. not (eqb (get_or table c 0) (hex_digit c))) t c h)) }
+-- A table that passes the test at each byte has the digits.
+pub digit-table : (table : List ℕ) → any_under 256 (λ c. not (eqb (get_or table c 0) (hex_digit c))) ≡ false → (c : ℕ) → c < 256 → get_or table c 0 ≡ hex_digit c
+digit-table table t c h = eqb-true (get_or table c 0) (hex_digit c) (not-off _ (none-under 256 (λ c. not (eqb (get_or table c 0) (hex_digit c))) t c h))
 
 -- Two digits write a byte.
 pub digits-write : (high low : ℕ) {h l : ℕ} → h ≡ hex_digit high → l ≡ hex_digit low → ltb h 16 && ltb l 16 ≡ true → 16 * h + l ≡ byte_of high low
@@ -85,11 +83,6 @@ module _ (high low : ℕ) where
       let h = ltb (hex_digit high) 16 in
       let l = ltb (hex_digit low) 16 in
       (ltb-true (hex_digit high) 16 (and_left h l e), ltb-true (hex_digit low) 16 (and_right h l e))
-
-  -- A byte is at most 255, and 256 stands for none.
-  pub byte-most : byte_of high low ≤ 256
-  byte-most =
-      split both (λ e. omega (arith, digits-write high low refl refl e, both-digits e)) (λ e. omega (arith, none_written_lem high low refl refl e))
 
   -- A byte is written by two digits.
   pub by_digits : byte_of high low < 256 → (hex_digit high < 16) × (hex_digit low < 16) × (byte_of high low ≡ 16 * hex_digit high + hex_digit low)

@@ -1,15 +1,15 @@
 -- A row filled record by record with the words of a text.
-use Prim.Native.Nat.{ℕ, ◌+◌, ◌*◌, ◌≤◌, ◌<◌}
+use Prim.Native.Nat.{ℕ, ◌+◌, ◌*◌, ◌/◌, ◌≤◌, ◌<◌}
 use mathlib.Core.Path.{◌≡◌, refl, sym, ap, subst, ◌∙◌}
 use mathlib.Core.List.{List, [], ◌++◌}
 use mathlib.Core.Bool.{true}
 use native.Mathlib.Omega.{arith}
-use lib.ListN.{length, get_or, drop, length-drop, length-append}
-use lib.Seq.{drop-drop, get_or-drop, get_or-take, ext_get_or}
+use lib.ListN.{length, get_or, take, drop, length-drop, length-append}
+use lib.Seq.{get_or-drop, get_or-take, ext_get_or, length-take-le}
 use Rattle.predicate.proofs.Bools.{split}
 use Rattle.board.specs.Hex.{file, byte_of, bytes_in, all_bytes, count_of, bytes_of, data_of, record_length, has_record, has_data, has_end, parsed, read_bytes}
 use Rattle.intel_hex.specs.Storing.{stored, Filling}
-use Rattle.intel_hex.proofs.Parsing.{in-at, in-length, reads_to, reads_end, reads-data, reads_none, record-within}
+use Rattle.intel_hex.proofs.Parsing.{in-at, in-length, in-take, reads_to, reads_end, reads-data, reads_none, record-within}
 use Rattle.intel_hex.proofs.Words.{bytes-split}
 use Rattle.intel_hex.proofs.Files.{behind, file-bytes, reads-files}
 use Rattle.intel_hex.proofs.Fronts.{data-length, data-record, data-some, end-record, end_none}
@@ -69,105 +69,94 @@ over-of (onward o) e = absurd (omega (arith, o.some))
 
 -- ---- the records stored so far
 
--- The records before `at` are stored, `from` bytes; `n` is how many the next one has.
-pub record Storing (text row₀ row : List ℕ) (at from n : ℕ) : Type 0 where
+-- The records before `rest` are stored, `from` bytes.
+pub record Storing (text row₀ row rest : List ℕ) (from : ℕ) : Type 0 where
   pub more : List ℕ
-  pub within : at ≤ length text
-  pub reads : reads_to from (drop at text) ≡ file more
+  pub reads : reads_to from rest ≡ file more
   pub all : all_bytes more ≡ true
   pub fits : from + length more ≡ 8 * length row₀
   pub size : length row ≡ length row₀
-  pub next : n ≡ count_of (drop at text)
   pub whole : stored row from more ≡ stored row₀ 0 (read_bytes (parsed text))
 
 -- None yet.
-pub storing-begins : {text row : List ℕ} {n : ℕ} → Filling text row → n ≡ count_of text → Storing text row row 0 0 n
+pub storing-begins : {text row : List ℕ} → Filling text row → Storing text row row text 0
 unfolding parsed
-storing-begins {text} {row} f e =
+storing-begins {text} {row} f =
     record {
       more = f.bytes;
-      within = omega arith;
       reads = f.parses;
       all = file-bytes ((reads-files text f.bytes).0 f.parses);
       fits = omega (arith, f.fills);
       size = refl;
-      next = e;
       whole = ap (λ p. stored row 0 (read_bytes p)) (sym f.parses);
     }
 
--- A record stands at `at`.
-pub storing-there : {text row₀ row : List ℕ} {at from n : ℕ} → Storing text row₀ row at from n → has_record (drop at text) ≡ true
-storing-there {text} {row₀} {row} {at} {from} {n} s = there (next_of from (drop at text) s.more s.reads)
+-- A record stands next.
+pub storing-there : {text row₀ row rest : List ℕ} {from : ℕ} → Storing text row₀ row rest from → has_record rest ≡ true
+storing-there {text} {row₀} {row} {rest} {from} s = there (next_of from rest s.more s.reads)
 
--- It ends within the text.
-pub storing-within : {text row₀ row : List ℕ} {at from n : ℕ} → Storing text row₀ row at from n → at + (2 * n + 12) ≤ length text
-storing-within {text} {row₀} {row} {at} {from} {n} s =
-    omega (arith, record-within (drop at text) (storing-there s), length-drop at text, s.next, s.within)
+-- The data of a record, `n` bytes.
+pub record Piece (rest digits : List ℕ) (n : ℕ) : Type 0 where
+  pub count : n ≡ count_of rest
+  pub some : 0 < n
+  pub within : 2 * n + 12 ≤ length rest
+  pub long : length digits ≡ 2 * n
+  pub bytes : bytes_in (length digits / 2) digits ≡ bytes_in n (drop 9 rest)
 
--- Its bytes.
-abbrev pub next_bytes : List ℕ → ℕ → ℕ → List ℕ
-next_bytes text at n = bytes_in n (drop (at + 9) text)
+pub piece-of : {rest digits : List ℕ} → has_record rest ≡ true → 0 < count_of rest → digits ≡ take (2 * count_of rest) (drop 9 rest) → Piece rest digits (count_of rest)
+piece-of {rest} {digits} r h e =
+    let n = count_of rest in
+    let inside : 2 * n + 12 ≤ length rest = record-within rest r in
+    let long : length digits ≡ 2 * n = ap length e ∙ length-take-le (2 * n) (drop 9 rest) (omega (arith, length-drop 9 rest)) in
+    let half : length digits / 2 ≡ n = omega arith in
+    record { count = refl; some = h; within = inside; long = long; bytes = (λ i. bytes_in (half i) (e i)) ∙ in-take n (drop 9 rest) }
 
 -- A data record, and the bytes that follow it.
-pub record Data (text more : List ℕ) (at from n : ℕ) : Type 0 where
-  pub rest : List ℕ
-  pub parts : next_bytes text at n ++ rest ≡ more
-  pub reads : reads_to (from + n) (drop (at + (2 * n + 12)) text) ≡ file rest
+pub record Data (rest more : List ℕ) (from n : ℕ) : Type 0 where
+  pub later : List ℕ
+  pub parts : bytes_in n (drop 9 rest) ++ later ≡ more
+  pub reads : reads_to (from + n) (drop (2 * n + 12) rest) ≡ file later
 
--- It is a data record where it has bytes.
-storing-data : {text row₀ row : List ℕ} {at from n : ℕ} (s : Storing text row₀ row at from n) → 0 < n → Data text s.more at from n
-storing-data {text} {row₀} {row} {at} {from} {n} s h =
-    let t = drop at text in
-    let o = onward-of (next_of from t s.more s.reads) (omega (arith, s.next)) in
-    let past : drop (record_length t) t ≡ drop (at + (2 * n + 12)) text =
-    drop-drop (record_length t) at text ∙ ap (λ (c : ℕ). drop (at + (2 * c + 12)) text) (sym s.next) in
+storing-data : {text row₀ row rest digits : List ℕ} {from n : ℕ} (s : Storing text row₀ row rest from) → Piece rest digits n → Data rest s.more from n
+storing-data {text} {row₀} {row} {rest} {digits} {from} {n} s p =
+    let o = onward-of (next_of from rest s.more s.reads) (omega (arith, p.some, p.count)) in
     record {
-      rest = o.rest;
-      parts = (λ i. bytes_in (s.next i) (sym (drop-drop 9 at text) i) ++ o.rest) ∙ o.parts;
-      reads = (λ i. reads_to (from + s.next i) (sym past i)) ∙ o.reads;
+      later = o.rest;
+      parts = (λ i. bytes_in (p.count i) (drop 9 rest) ++ o.rest) ∙ o.parts;
+      reads = (λ i. reads_to (from + p.count i) (drop (2 * p.count i + 12) rest)) ∙ o.reads;
     }
 
 -- Its bytes are bytes, and fit into the row.
-pub storing-fits : {text row₀ row : List ℕ} {at from n : ℕ} → Storing text row₀ row at from n → 0 < n →
-    (all_bytes (next_bytes text at n) ≡ true) × (from + n ≤ 8 * length row)
-storing-fits {text} {row₀} {row} {at} {from} {n} s h =
-    let d = storing-data s h in
-    let bytes = next_bytes text at n in (
-      (bytes-split bytes d.rest (subst (λ (l : List ℕ). all_bytes l ≡ true) (sym d.parts) s.all)).0,
-      omega (arith, s.fits, s.size, ap length d.parts, length-append bytes d.rest, in-length n (drop (at + 9) text)),
+pub storing-fits : {text row₀ row rest digits : List ℕ} {from n : ℕ} → Storing text row₀ row rest from → Piece rest digits n →
+    (all_bytes (bytes_in (length digits / 2) digits) ≡ true) × (from + n ≤ 8 * length row)
+storing-fits {text} {row₀} {row} {rest} {digits} {from} {n} s p =
+    let d = storing-data s p in
+    let bytes = bytes_in n (drop 9 rest) in (
+      ap all_bytes p.bytes ∙ (bytes-split bytes d.later (subst (λ (l : List ℕ). all_bytes l ≡ true) (sym d.parts) s.all)).0,
+      omega (arith, s.fits, s.size, ap length d.parts, length-append bytes d.later, in-length n (drop 9 rest)),
     )
 
--- A record follows it.
-pub storing-next : {text row₀ row : List ℕ} {at from n : ℕ} → Storing text row₀ row at from n → 0 < n → has_record (drop (at + (2 * n + 12)) text) ≡ true
-storing-next {text} {row₀} {row} {at} {from} {n} s h =
-    let d = storing-data s h in
-    there (next_of (from + n) (drop (at + (2 * n + 12)) text) d.rest d.reads)
-
--- A text that is a file begins with a record.
-pub filling-there : {text row : List ℕ} → Filling text row → has_record text ≡ true
-unfolding parsed
-filling-there {text} {row} f = there (next_of 0 text f.bytes f.parses)
-
 -- One record more.
-pub storing-more : {text row₀ row after : List ℕ} {at from n k : ℕ} → Storing text row₀ row at from n → 0 < n → after ≡ stored row from (next_bytes text at n) →
-    k ≡ count_of (drop (at + (2 * n + 12)) text) → Storing text row₀ after (at + (2 * n + 12)) (from + n) k
-storing-more {text} {row₀} {row} {after} {at} {from} {n} {k} s h e c =
-    let d = storing-data s h in
-    let bytes = next_bytes text at n in
-    let size = in-length n (drop (at + 9) text) in
-    record {
-      more = d.rest;
-      within = storing-within s;
-      reads = d.reads;
-      all = (bytes-split bytes d.rest (subst (λ (l : List ℕ). all_bytes l ≡ true) (sym d.parts) s.all)).1;
-      fits = omega (arith, s.fits, ap length d.parts, length-append bytes d.rest, size);
-      size = ap length e ∙ stored-length row from bytes ∙ s.size;
-      next = c;
-      whole = (λ i. stored (e i) (from + sym size i) d.rest) ∙ sym (stored-append row from bytes d.rest) ∙ ap (stored row from) d.parts ∙ s.whole;
-    }
+pub storing-more : {text row₀ row after rest behind digits : List ℕ} {from n : ℕ} → Storing text row₀ row rest from → Piece rest digits n →
+    after ≡ stored row from (bytes_in (length digits / 2) digits) → behind ≡ drop (2 * n + 12) rest → Storing text row₀ after behind (from + length digits / 2)
+storing-more {text} {row₀} {row} {after} {rest} {behind} {digits} {from} {n} s p e f =
+    let d = storing-data s p in
+    let bytes = bytes_in n (drop 9 rest) in
+    let size = in-length n (drop 9 rest) in
+    let half : length digits / 2 ≡ n = omega (arith, p.long) in
+    let now : after ≡ stored row from bytes = e ∙ ap (stored row from) p.bytes in
+    subst (λ (k : ℕ). Storing text row₀ after behind (from + k)) (sym half)
+    (record {
+      more = d.later;
+      reads = (λ i. reads_to (from + n) (f i)) ∙ d.reads;
+      all = (bytes-split bytes d.later (subst (λ (l : List ℕ). all_bytes l ≡ true) (sym d.parts) s.all)).1;
+      fits = omega (arith, s.fits, ap length d.parts, length-append bytes d.later, size);
+      size = ap length now ∙ stored-length row from bytes ∙ s.size;
+      whole = (λ i. stored (now i) (from + sym size i) d.later) ∙ sym (stored-append row from bytes d.later) ∙ ap (stored row from) d.parts ∙ s.whole;
+    })
 
 -- All of them.
-pub storing-ends : {text row₀ row : List ℕ} {at from : ℕ} → Storing text row₀ row at from 0 → row ≡ stored row₀ 0 (read_bytes (parsed text))
+pub storing-ends : {text row₀ row rest : List ℕ} {from : ℕ} → Storing text row₀ row rest from → count_of rest ≡ 0 → row ≡ stored row₀ 0 (read_bytes (parsed text))
 unfolding stored
-storing-ends {text} {row₀} {row} {at} {from} s =
-    ap (stored row from) (sym (over-of (next_of from (drop at text) s.more s.reads) (sym s.next))) ∙ s.whole
+storing-ends {text} {row₀} {row} {rest} {from} s e =
+    ap (stored row from) (sym (over-of (next_of from rest s.more s.reads) e)) ∙ s.whole

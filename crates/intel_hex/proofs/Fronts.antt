@@ -2,15 +2,17 @@
 use Prim.Native.Nat.{ℕ, zero, suc, ◌+◌, ◌*◌, ◌%◌, ◌≤◌, ◌<◌}
 use mathlib.Core.Path.{◌≡◌, refl, sym, ap, ◌∙◌}
 use mathlib.Core.List.{List, [], ◌∷◌}
-use mathlib.Core.Bool.{Bool, true, false, not, ◌&&◌, ◌||◌, true≢false}
+use mathlib.Core.Bool.{Bool, true, false, ◌&&◌}
 use native.Mathlib.Omega.{arith}
-use lib.Dec.{eqb, leb, ltb}
+use lib.Dec.{eqb, ltb}
 use lib.ListN.{length, get_or, drop, length-drop}
 use lib.Seq.{get_or-drop, length-take-le}
-use borrow.Author.Tests.{eqb-true, eqb-false, ltb-true, ltb-false, leb-true, leb-false, eq-eqb}
-use Rattle.predicate.proofs.Bools.{chosen, passed_over, split, clash, and_left, and_right, or_left, or_right, not-off, not-of}
+use borrow.Author.Tests.{eqb-true, ltb-true, eq-eqb}
+use Rattle.predicate.proofs.Bools.{chosen, passed_over, split, clash, and_left, and_right}
 use Rattle.text.specs.Ascii.{feed, ':'}
 use Rattle.board.specs.Hex.{byte_of, all_bytes, sum_of, count_of, bytes_of, address_of, type_of, data_of, has_record, has_data, has_end}
+use Rattle.std.specs.Prelude.{Some, None}
+use Rattle.intel_hex.specs.declared.reading.Record.{Record}
 use Rattle.intel_hex.specs.Storing.{front_of}
 use Rattle.intel_hex.proofs.Parsing.{in-at, in-length, record-end, record-within}
 
@@ -18,11 +20,6 @@ use Rattle.intel_hex.proofs.Parsing.{in-at, in-length, record-end, record-within
 and-true : (a : Bool) → a && true ≡ a
 and-true true = refl
 and-true false = refl
-
--- Of two tests one of which holds, where the first fails the second holds.
-or-on : (a b : Bool) → a ≡ false → a || b ≡ true → b ≡ true
-or-on true b p e = absurd (true≢false p)
-or-on false b p e = e
 
 -- Of numbers that all are bytes each is one.
 pub all-at : (l : List ℕ) (i : ℕ) → all_bytes l ≡ true → i < length l → get_or l i 0 < 256
@@ -99,34 +96,22 @@ module _ (text : List ℕ) where
   unless : (has_record text ≡ true → ⊥) → false ≡ has_record text
   unless f = split (has_record text) (λ e. absurd (f e)) (λ e. sym e)
 
-  -- It says that it has over 255 bytes, or ends past the text.
-  pub no_room : {count : ℕ} → count ≡ count_of text → ltb 255 count || leb (length text) (2 * count + 11) ≡ true → false ≡ has_record text
-  no_room {count} c e =
-      unless (λ r. split (ltb 255 count) (λ t. omega (arith, ltb-true 255 count t, record-count r))
-      (λ t. omega (arith, leb-true (length text) (2 * count + 11) (or-on (ltb 255 count) _ t e), record-within text r)))
+  -- Where one of the first five is no byte there is no record.
+  pub no-byte : (k : ℕ) → k < 5 → byte_of (get_or text (2 * k + 1) 0) (get_or text (2 * k + 2) 0) ≡ 256 → has_record text ≡ false
+  no-byte k h e =
+      sym (unless (λ r. omega (arith, all-at (bytes_of text) k (record-digits r) (omega (arith, in-length (count_of text + 5) (drop 1 text))), front-byte k h)))
 
-  -- It does neither.
-  pub some-room : {count : ℕ} → ltb 255 count || leb (length text) (2 * count + 11) ≡ false → (count ≤ 255) × (2 * count + 11 < length text)
-  some-room {count} e =
-      let long = ltb 255 count in
-      let short = leb (length text) (2 * count + 11) in
-      (ltb-false 255 count (or_left long short e), leb-false (length text) (2 * count + 11) (or_right long short e))
+  -- It ends past the text.
+  pub no_room : {count : ℕ} → count ≡ count_of text → length text ≤ 2 * count + 11 → false ≡ has_record text
+  no_room {count} c h = unless (λ r. omega (arith, record-within text r))
 
-  -- It has no colon or no line feed.
-  pub no-frame : {count : ℕ} → count ≡ count_of text → not (eqb (get_or text 0 0) ':') || not (eqb (get_or text (2 * count + 11) 0) feed) ≡ true → false ≡ has_record text
-  no-frame {count} c e =
-      let first = eqb (get_or text 0 0) ':' in
-      let last = eqb (get_or text (2 * count + 11) 0) feed in
-      unless (λ r. split (not first) (λ t. eqb-false (get_or text 0 0) ':' (not-of first t) (record-colon r))
-      (λ t. eqb-false (get_or text (2 * count + 11) 0) feed (not-of last (or-on (not first) (not last) t e)) (ap (λ (n : ℕ). get_or text (2 * n + 11) 0) c ∙ record-end text r)))
+  -- It has no colon.
+  pub no-colon : (get_or text 0 0 ≡ ':' → ⊥) → false ≡ has_record text
+  no-colon f = unless (λ r. f (record-colon r))
 
-  -- It has both.
-  pub frame : {count : ℕ} → count ≡ count_of text → not (eqb (get_or text 0 0) ':') || not (eqb (get_or text (2 * count + 11) 0) feed) ≡ false → digits && summed ≡ has_record text
-  frame {count} c e =
-      let first = eqb (get_or text 0 0) ':' in
-      let last = eqb (get_or text (2 * count + 11) 0) feed in
-      framed (eqb-true (get_or text 0 0) ':' (not-off first (or_left (not first) (not last) e)))
-      (ap (λ (n : ℕ). get_or text (2 * n + 11) 0) (sym c) ∙ eqb-true (get_or text (2 * count + 11) 0) feed (not-off last (or_right (not first) (not last) e)))
+  -- It has no line feed.
+  pub no-feed : {count : ℕ} → count ≡ count_of text → (get_or text (2 * count + 11) 0 ≡ feed → ⊥) → false ≡ has_record text
+  no-feed {count} c f = unless (λ r. f (ap (λ (n : ℕ). get_or text (2 * n + 11) 0) c ∙ record-end text r))
 
   -- Where there is no record, there is neither data nor an end.
   pub no_end : has_record text ≡ false → has_end text ≡ false
@@ -165,12 +150,12 @@ module _ (text : List ℕ) where
 
 module _ (address : ℕ) (text : List ℕ) where
   -- No record.
-  pub front-none : has_record text ≡ false → 256 ≡ front_of address text
+  pub front-none : has_record text ≡ false → None ≡ front_of address text
   unfolding front_of
   front-none e = sym (passed_over (has_end text) _ _ (no_end text e) ∙ passed_over (has_data address text) _ _ (no-data text address e))
 
   -- A text that is too short for one.
-  pub front-short : length text < 12 → 256 ≡ front_of address text
+  pub front-short : length text < 12 → None ≡ front_of address text
   front-short h = front-none (split (has_record text) (λ e. absurd (omega (arith, record-within text e))) (λ e. e))
 
   -- The record's parts, as they were read.
@@ -196,16 +181,16 @@ module _ (address : ℕ) (text : List ℕ) where
     as-data = (λ i. p.there i && eqb (sym p.typed i) 0 && ltb 0 (sym p.counted i) && eqb (sym p.located i) address)
 
     -- The end record.
-    pub front-end : ended ≡ true → 0 ≡ front_of address text
+    pub front-end : ended ≡ true → Some Record.End ≡ front_of address text
     unfolding front_of
     front-end e = sym (chosen (has_end text) _ _ (as-end ∙ e))
 
     -- A data record.
-    pub front-data : ended ≡ false → held ≡ true → count ≡ front_of address text
+    pub front-data : ended ≡ false → held ≡ true → Some (Record.Data count) ≡ front_of address text
     unfolding front_of
-    front-data e d = p.counted ∙ sym (passed_over (has_end text) _ _ (as-end ∙ e) ∙ chosen (has_data address text) _ _ (as-data ∙ d))
+    front-data e d = ap (λ (n : ℕ). Some (Record.Data n)) p.counted ∙ sym (passed_over (has_end text) _ _ (as-end ∙ e) ∙ chosen (has_data address text) _ _ (as-data ∙ d))
 
     -- Another record.
-    pub front-other : ended ≡ false → held ≡ false → 256 ≡ front_of address text
+    pub front-other : ended ≡ false → held ≡ false → None ≡ front_of address text
     unfolding front_of
     front-other e d = sym (passed_over (has_end text) _ _ (as-end ∙ e) ∙ passed_over (has_data address text) _ _ (as-data ∙ d))

@@ -1,5 +1,5 @@
 -- Laws of four numbers in one word, sixteen bits each: a half word's bytes, their characters and their sum.
-use Prim.Native.Nat.{ℕ, suc, ◌+◌, ◌*◌, ◌-◌, ◌/◌, ◌%◌, ◌^◌, ◌≤◌, ◌<◌}
+use Prim.Native.Nat.{ℕ, suc, ◌+◌, ◌*◌, ◌-◌, ◌/◌, ◌%◌, ◌≤◌, ◌<◌}
 use mathlib.Core.Path.{◌≡◌, refl, sym, ap, ap₂, ◌∙◌}
 use mathlib.Core.List.{List, [], ◌∷◌, ◌++◌}
 use native.Mathlib.Omega.{arith}
@@ -265,10 +265,6 @@ spaced-under half =
     let c : half / 65536 % 256 ≤ 255 = omega arith in
     let d : half / 16777216 % 256 ≤ 255 = omega arith in
     omega arith
-
--- The two parts of a word added are no more than it.
-pub halves-fit : (f : ℕ) → f < 2 ^ 64 → f % 65536 + f / 65536 < 2 ^ 64
-halves-fit f h = omega arith
 
 -- Two numbers added, the first of sixteen bits.
 two-added : (x y f : ℕ) → x < 65536 → f ≡ x + 65536 * y → f % 65536 + f / 65536 ≡ x + y

@@ -1,6 +1,7 @@
 -- `Theorems` proves what is claimed of HEX text. `Words`, `Spelling`, `Files` and `Canonical` lead to it; `Digits` and `Parsing` serve the functions' proofs too,
 -- `Summing`, `Fronts` and the others those alone.
 pub mod Digits
+pub mod Chunks
 pub mod Parsing
 pub mod Words
 pub mod Spelling

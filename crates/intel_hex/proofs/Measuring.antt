@@ -1,20 +1,19 @@
 -- A text measured record by record.
-use Prim.Native.Nat.{ℕ, ◌+◌, ◌*◌, ◌≤◌, ◌<◌}
+use Prim.Native.Nat.{ℕ, ◌+◌, ◌*◌, ◌≤◌}
 use mathlib.Core.Path.{◌≡◌, refl, sym, ap, ◌∙◌}
 use mathlib.Core.List.{List}
-use mathlib.Core.Bool.{true, false, not, ◌&&◌}
+use mathlib.Core.Bool.{true, false}
 use native.Mathlib.Omega.{arith}
-use lib.Dec.{ltb}
 use lib.ListN.{length, drop, length-drop, length-append}
-use lib.Seq.{drop-drop}
-use borrow.Author.Tests.{ltb-true, ltb-false, lt-ltb}
-use Rattle.predicate.proofs.Bools.{split, chosen, passed_over, and_left, and_right, and-not}
+use Rattle.predicate.proofs.Bools.{split, chosen, passed_over}
 use Rattle.board.specs.Hex.{Parsed, no_file, file, in_front, count_of, data_of, record_length, has_data, has_end, parsed, is_no_file, read_bytes}
+use Rattle.std.specs.Prelude.{Option, Some, None}
+use Rattle.intel_hex.specs.declared.reading.Record.{Record}
 use Rattle.intel_hex.specs.Storing.{front_of}
 use Rattle.intel_hex.proofs.Parsing.{record-within, reads_to, reads_end, reads-data, reads_none}
-use Rattle.intel_hex.proofs.Fronts.{data-length, data-record, data-some, record-count}
+use Rattle.intel_hex.proofs.Fronts.{data-length, data-record}
 
--- ---- what the number of a front says
+-- ---- what stands at a front
 
 module _ (address : ℕ) (text : List ℕ) where
   -- A data record stands there.
@@ -23,32 +22,35 @@ module _ (address : ℕ) (text : List ℕ) where
     pub some : has_data address text ≡ true
     pub count : count_of text ≡ n
 
-  -- A number from 1 to 255.
-  pub counts : {n : ℕ} → n ≡ front_of address text → 0 < n → n < 256 → DataFront n
+  -- The three cases.
+  by-end : {front : Option Record} → front ≡ front_of address text → has_end text ≡ true → front ≡ Some Record.End
   unfolding front_of
-  counts {n} e h g =
-      split (has_end text) (λ t. absurd (omega (arith, e ∙ chosen (has_end text) _ _ t)))
-      (λ t. split (has_data address text)
-      (λ d. record { no_end = t; some = d; count = sym (e ∙ passed_over (has_end text) _ _ t ∙ chosen (has_data address text) _ _ d) })
-      (λ d. absurd (omega (arith, e ∙ passed_over (has_end text) _ _ t ∙ passed_over (has_data address text) _ _ d))))
+  by-end e t = e ∙ chosen (has_end text) _ _ t
 
-  -- 0.
-  pub ends : 0 ≡ front_of address text → has_end text ≡ true
+  by-data : {front : Option Record} → front ≡ front_of address text → has_end text ≡ false → has_data address text ≡ true → front ≡ Some (Record.Data (count_of text))
   unfolding front_of
+  by-data e t d = e ∙ passed_over (has_end text) _ _ t ∙ chosen (has_data address text) _ _ d
+
+  by-none : {front : Option Record} → front ≡ front_of address text → has_end text ≡ false → has_data address text ≡ false → front ≡ None
+  unfolding front_of
+  by-none e t d = e ∙ passed_over (has_end text) _ _ t ∙ passed_over (has_data address text) _ _ d
+
+  pub counts : {n : ℕ} → Some (Record.Data n) ≡ front_of address text → DataFront n
+  counts {n} e =
+      split (has_end text) (λ t. let z = by-end e t in cc)
+      (λ t. split (has_data address text)
+      (λ d. record { no_end = t; some = d; count = let z = by-data e t d in cc })
+      (λ d. let z = by-none e t d in cc))
+
+  pub ends : Some Record.End ≡ front_of address text → has_end text ≡ true
   ends e =
       split (has_end text) (λ t. t)
-      (λ t. split (has_data address text)
-      (λ d. absurd (omega (arith, e ∙ passed_over (has_end text) _ _ t ∙ chosen (has_data address text) _ _ d, data-some text address d)))
-      (λ d. absurd (omega (arith, e ∙ passed_over (has_end text) _ _ t ∙ passed_over (has_data address text) _ _ d))))
+      (λ t. split (has_data address text) (λ d. let z = by-data e t d in cc) (λ d. let z = by-none e t d in cc))
 
-  -- A greater one.
-  pub none : {n : ℕ} → n ≡ front_of address text → 256 ≤ n → (has_end text ≡ false) × (has_data address text ≡ false)
-  unfolding front_of
-  none {n} e h =
-      split (has_end text) (λ t. absurd (omega (arith, e ∙ chosen (has_end text) _ _ t)))
-      (λ t. split (has_data address text)
-      (λ d. absurd (omega (arith, e ∙ passed_over (has_end text) _ _ t ∙ chosen (has_data address text) _ _ d, record-count text (data-record text address d))))
-      (λ d. (t, d)))
+  pub none : None ≡ front_of address text → (has_end text ≡ false) × (has_data address text ≡ false)
+  none e =
+      split (has_end text) (λ t. let z = by-end e t in cc)
+      (λ t. split (has_data address text) (λ d. let z = by-data e t d in cc) (λ d. (t, d)))
 
 -- ---- measuring
 
@@ -66,66 +68,53 @@ shifted-more : (k n : ℕ) (bytes : List ℕ) → length bytes ≡ n → (p : Pa
 shifted-more k n bytes e no_file = refl
 shifted-more k n bytes e (file more) = ap held (omega (arith, length-append bytes more))
 
--- The records up to character `at` are looked through; they have `address` bytes, and `n` says what stands next.
-pub record Measuring (text : List ℕ) (at address n : ℕ) : Type 0 where
-  pub within : at ≤ length text
-  pub fewer : address ≤ at
-  pub next : n ≡ front_of address (drop at text)
-  pub rest : shifted 0 (parsed text) ≡ shifted address (reads_to address (drop at text))
+-- The records before `rest` are looked through; they have `address` bytes.
+pub record Measuring (text rest : List ℕ) (address : ℕ) : Type 0 where
+  pub fits : address + length rest ≤ length text
+  pub same : shifted 0 (parsed text) ≡ shifted address (reads_to address rest)
 
 -- At the beginning.
-pub measuring-begins : {text : List ℕ} {n : ℕ} → n ≡ front_of 0 text → Measuring text 0 0 n
+pub measuring-begins : {text : List ℕ} → Measuring text text 0
 unfolding parsed
-measuring-begins {text} e = record { within = omega arith; fewer = omega arith; next = e; rest = refl }
+measuring-begins {text} = record { fits = omega arith; same = refl }
 
--- The test that a data record stands next.
-pub some_next : (n : ℕ) → ltb 0 n && ltb n 256 ≡ true → (0 < n) × (n < 256)
-some_next n e = (ltb-true 0 n (and_left (ltb 0 n) (ltb n 256) e), ltb-true n 256 (and_right (ltb 0 n) (ltb n 256) e))
-
--- The test that none does.
-pub none-next : (n : ℕ) → ltb 0 n && ltb n 256 ≡ false → (n ≡ 0 → ⊥) → 256 ≤ n
-none-next n e z = ltb-false n 256 (and-not (ltb 0 n) (ltb n 256) e (lt-ltb 0 n (omega arith)))
-
--- The next record is within the text.
-pub next-within : {text : List ℕ} {at address n : ℕ} → Measuring text at address n → 0 < n → n < 256 → at + (2 * n + 12) ≤ length text
-next-within {text} {at} {address} {n} m h g =
-    let d = counts address (drop at text) m.next h g in
-    omega (arith, record-within (drop at text) (data-record (drop at text) address d.some), length-drop at text, d.count, m.within)
+-- The next record is within what is left.
+pub next-within : (address : ℕ) {n : ℕ} (rest : List ℕ) → Some (Record.Data n) ≡ front_of address rest → 2 * n + 12 ≤ length rest
+next-within address {n} rest e =
+    let d = counts address rest e in
+    omega (arith, record-within rest (data-record rest address d.some), d.count)
 
 -- One record more.
-pub measuring-more : {text : List ℕ} {at address n k : ℕ} → Measuring text at address n → 0 < n → n < 256 →
-    k ≡ front_of (address + n) (drop (at + (2 * n + 12)) text) → Measuring text (at + (2 * n + 12)) (address + n) k
-measuring-more {text} {at} {address} {n} m h g e =
-    let t = drop at text in
-    let d = counts address t m.next h g in
-    let past : drop (record_length t) t ≡ drop (at + (2 * n + 12)) text =
-    drop-drop (record_length t) at text ∙ ap (λ (c : ℕ). drop (at + (2 * c + 12)) text) d.count in
+pub measuring-more : {text rest after : List ℕ} {address n : ℕ} → Measuring text rest address → Some (Record.Data n) ≡ front_of address rest →
+    after ≡ drop (2 * n + 12) rest → Measuring text after (address + n)
+measuring-more {text} {rest} {after} {address} {n} m e f =
+    let d = counts address rest e in
+    let past : drop (record_length rest) rest ≡ after = ap (λ (c : ℕ). drop (2 * c + 12) rest) d.count ∙ sym f in
     record {
-      within = next-within m h g;
-      fewer = omega (arith, m.fewer);
-      next = e;
-      rest = m.rest ∙ ap (shifted address) (reads-data address t d.no_end d.some)
-          ∙ shifted-more address n (data_of t) (data-length t ∙ d.count) (reads_to (address + count_of t) (drop (record_length t) t))
+      fits = omega (arith, m.fits, next-within address rest e, ap length f, length-drop (2 * n + 12) rest);
+      same = m.same ∙ ap (shifted address) (reads-data address rest d.no_end d.some)
+          ∙ shifted-more address n (data_of rest) (data-length rest ∙ d.count) (reads_to (address + count_of rest) (drop (record_length rest) rest))
           ∙ (λ i. shifted (address + n) (reads_to (address + d.count i) (past i)));
     }
 
 -- A size says whether there is a file, and how many bytes it holds.
-sized : (p : Parsed) (k : ℕ) → shifted 0 p ≡ held k → (true ≡ not (is_no_file p)) × (k ≡ length (read_bytes p))
+sized : (p : Parsed) (k : ℕ) → shifted 0 p ≡ held k → (is_no_file p ≡ false) × (k ≡ length (read_bytes p))
 sized no_file k e = let z : ◌≡◌ {A = ℕ} 0 1 = cc in absurd (omega arith)
 sized (file bytes) k e = let z : 0 + length bytes ≡ k = cc in (refl, omega arith)
 
-unsized : (p : Parsed) → shifted 0 p ≡ none-held → (false ≡ not (is_no_file p)) × (0 ≡ length (read_bytes p))
-unsized no_file e = (refl, refl)
-unsized (file bytes) e = let z : ◌≡◌ {A = ℕ} 0 1 = cc in absurd (omega arith)
+unsized : (p : Parsed) → shifted 0 p ≡ none-held → is_no_file p ≡ true
+unsized no_file e = refl
+unsized (file bytes) e = cc
 
 -- The end record.
-pub measuring-ends : {text : List ℕ} {at address : ℕ} → Measuring text at address 0 → (true ≡ not (is_no_file (parsed text))) × (address ≡ length (read_bytes (parsed text)))
-measuring-ends {text} {at} {address} m =
+pub measuring-ends : {text rest : List ℕ} {address : ℕ} → Measuring text rest address → Some Record.End ≡ front_of address rest →
+    (is_no_file (parsed text) ≡ false) × (address ≡ length (read_bytes (parsed text)))
+measuring-ends {text} {rest} {address} m e =
     let all : address + 0 ≡ address = omega arith in
-    sized (parsed text) address (m.rest ∙ ap (shifted address) (reads_end address (drop at text) (ends address (drop at text) m.next)) ∙ ap held all)
+    sized (parsed text) address (m.same ∙ ap (shifted address) (reads_end address rest (ends address rest e)) ∙ ap held all)
 
 -- No record.
-pub measuring-stops : {text : List ℕ} {at address n : ℕ} → Measuring text at address n → 256 ≤ n → (false ≡ not (is_no_file (parsed text))) × (0 ≡ length (read_bytes (parsed text)))
-measuring-stops {text} {at} {address} {n} m h =
-    let z = none address (drop at text) m.next h in
-    unsized (parsed text) (m.rest ∙ ap (shifted address) (reads_none address (drop at text) z.0 z.1))
+pub measuring-stops : {text rest : List ℕ} {address : ℕ} → Measuring text rest address → None ≡ front_of address rest → is_no_file (parsed text) ≡ true
+measuring-stops {text} {rest} {address} m e =
+    let z = none address rest e in
+    unsized (parsed text) (m.same ∙ ap (shifted address) (reads_none address rest z.0 z.1))

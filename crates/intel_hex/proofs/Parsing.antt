@@ -6,7 +6,7 @@ use mathlib.Core.Bool.{true, false, cond, ◌&&◌, true≢false}
 use native.Mathlib.Omega.{arith}
 use lib.Dec.{eqb}
 use lib.ListN.{length, get_or, take, drop, length-drop}
-use lib.Seq.{get_or-drop, drop-drop, take_all}
+use lib.Seq.{get_or-drop, get_or-take, drop-drop, take_all, ext_get_or}
 use borrow.Author.Tests.{eqb-true}
 use Rattle.predicate.proofs.Bools.{chosen, passed_over, and_right}
 use Rattle.text.specs.Ascii.{feed, ':'}
@@ -43,6 +43,15 @@ in-next n text k =
     ap (λ (x : ℕ). byte_of x (get_or (drop (2 * k) text) 1 0) ∷ bytes_in n (drop 2 (drop (2 * k) text))) (get_or-drop (2 * k) text 0 0 ∙ ap (λ (i : ℕ). get_or text i 0) here)
     ∙ ap (λ (y : ℕ). byte_of (get_or text (2 * k) 0) y ∷ bytes_in n (drop 2 (drop (2 * k) text))) (get_or-drop (2 * k) text 1 0)
     ∙ ap (λ (t : List ℕ). byte_of (get_or text (2 * k) 0) (get_or text (2 * k + 1) 0) ∷ bytes_in n t) (drop-drop 2 (2 * k) text ∙ ap (λ (i : ℕ). drop i text) past)
+
+-- Bytes of a text that ends behind their characters.
+pub in-take : (n : ℕ) (text : List ℕ) → bytes_in n (take (2 * n) text) ≡ bytes_in n text
+in-take n text =
+    ext_get_or 0 (bytes_in n (take (2 * n) text)) (bytes_in n text) (in-length n (take (2 * n) text) ∙ sym (in-length n text)) (λ k h.
+    let low : k < n = omega (arith, in-length n (take (2 * n) text)) in
+    in-at n (take (2 * n) text) k low
+    ∙ (λ i. byte_of (get_or-take (2 * n) text (2 * k) 0 (omega arith) i) (get_or-take (2 * n) text (2 * k + 1) 0 (omega arith) i))
+    ∙ sym (in-at n text k low))
 
 -- What is lent of a text from character `n` on.
 pub tail : (n : ℕ) (text : List ℕ) → take (length text - n) (drop n text) ≡ drop n text

@@ -2,14 +2,13 @@
 use Prim.Native.Nat.{ℕ, suc, ◌+◌, ◌*◌, ◌-◌, ◌/◌, ◌≤◌, ◌<◌}
 use mathlib.Core.Path.{◌≡◌, sym, ap, ◌∙◌}
 use mathlib.Core.List.{List, [], ◌∷◌}
-use mathlib.Core.Bool.{Bool, false, ◌&&◌}
+use mathlib.Core.Bool.{Bool, true, false, ◌&&◌}
 use native.Mathlib.Omega.{arith}
 use lib.Dec.{ltb, eqb}
 use lib.ListN.{get_or, drop}
 use borrow.Author.Tests.{eqb-true, eqb-false, ltb-true, ltb-false, lt-ltb, le-ltb}
 use Rattle.predicate.proofs.Bools.{split, and_both}
 use Rattle.board.specs.Hex.{hex_digit, byte_of, bytes_in, all_bytes, sum_of}
-use Rattle.intel_hex.specs.Storing.{Totals}
 use Rattle.intel_hex.proofs.Parsing.{in-next}
 use Rattle.intel_hex.proofs.Digits.{digit-most, by_digits, digits-write}
 
@@ -25,20 +24,6 @@ pub record Summing (n : ℕ) (text : List ℕ) (k sum strays : ℕ) : Type 0 whe
   pub total : strays ≡ 0 → sum + sum_of (after n text k) ≡ sum_of (bytes_in n text)
   pub all : strays ≡ 0 → all_bytes (after n text k) ≡ all_bytes (bytes_in n text)
   pub stray : 0 < strays → all_bytes (bytes_in n text) ≡ false
-
--- None of them yet.
-pub summing-begins : (n : ℕ) (text : List ℕ) → Summing n text 0 0 0
-summing-begins n text =
-    let m : n - 0 ≡ n = omega arith in
-    let z : after n text 0 ≡ bytes_in n text = ap (λ (m : ℕ). bytes_in m text) m in
-    record {
-      within = omega arith;
-      most = omega arith;
-      few = omega arith;
-      total = λ e. omega (arith, ap sum_of z);
-      all = λ e. ap all_bytes z;
-      stray = λ h. absurd (omega arith);
-    }
 
 -- The next byte and those after it.
 opened : (n : ℕ) (text : List ℕ) (k : ℕ) → k < n → after n text k ≡ byte_of (get_or text (2 * k) 0) (get_or text (2 * k + 1) 0) ∷ after n text (k + 1)
@@ -83,14 +68,11 @@ summing-more {n} {text} {k} {sum} {strays} {high} {low} s h p q =
           (λ z. s.stray (omega (arith, eqb-false strays 0 z)));
     }
 
--- All of them.
-pub summing-ends : {n : ℕ} {text : List ℕ} {k sum strays : ℕ} → Summing n text k sum strays → n ≤ k → Totals (bytes_in n text) sum (eqb strays 0)
+-- All of them, and none is no byte.
+pub summing-all : {n : ℕ} {text : List ℕ} {k sum strays : ℕ} → Summing n text k sum strays → n ≤ k → strays ≡ 0 →
+    (all_bytes (bytes_in n text) ≡ true) × (sum ≡ sum_of (bytes_in n text))
 unfolding sum_of all_bytes bytes_in
-summing-ends {n} {text} {k} {sum} {strays} s h =
+summing-all {n} {text} {k} {sum} {strays} s h e =
     let m : n - k ≡ 0 = omega arith in
     let z : after n text k ≡ [] = ap (λ (m : ℕ). bytes_in m (drop (2 * k) text)) m in
-    record {
-      all = split (eqb strays 0) (λ e. e ∙ ap all_bytes (sym z) ∙ s.all (eqb-true strays 0 e))
-          (λ e. e ∙ sym (s.stray (omega (arith, eqb-false strays 0 e))));
-      total = λ e. omega (arith, s.total (eqb-true strays 0 e), ap sum_of z);
-    }
+    (sym (s.all e) ∙ ap all_bytes z, omega (arith, s.total e, ap sum_of z))

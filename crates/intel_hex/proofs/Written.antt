@@ -6,13 +6,15 @@ use mathlib.Core.Bool.{false, ◌&&◌}
 use native.Mathlib.Omega.{arith}
 use native.Mathlib.Numerals.{add-one}
 use lib.Dec.{leb, eqb}
-use lib.ListN.{length, get_or, drop, set, length-append}
+use lib.ListN.{length, get_or, drop, length-append}
 use lib.Seq.{drop-cons, drop-length}
 use borrow.Author.Tests.{eqb-true, leb-true}
 use Rattle.predicate.proofs.Bools.{and_left, and_right, not-off}
 use Rattle.text.specs.Ascii.{feed, ':'}
-use Rattle.text.specs.Writing.{put, Put}
-use Rattle.text.proofs.Writing.{put-set, put-put, and_then}
+use Rattle.text.specs.Appending.{Appended}
+use Rattle.text.specs.Writing.{put}
+use Rattle.text.specs.declared.writer.Writer.{Writer}
+use Rattle.text.proofs.Writing.{put-put, and_then}
 use Rattle.board.specs.Causes.{bad_length}
 use Rattle.board.specs.Hex.{bytes_text, sum_of, record_text, low_bytes, word_bytes, hex_from}
 use Rattle.intel_hex.proofs.Words.{low-length}
@@ -47,18 +49,13 @@ low_sum (suc n) w = omega (arith, low_sum n (w / 256))
 
 -- ---- texts behind texts
 
--- A byte stored is a text written.
-pub byte_put : (row : List ℕ) (at b : ℕ) → at < length row → Put row at (b ∷ []) (set row at b) (at + 1)
-byte_put row at b h = record { ends = refl; holds = put-set row at b h }
+-- A text written is any that is the same.
+pub written_as : {old new : Writer} {t u : List ℕ} → Appended old t new → t ≡ u → Appended old u new
+written_as {old} {new} p e = subst (λ (x : List ℕ). Appended old x new) e p
 
--- A text written is any that is the same, up to the same end.
-pub written_as : {row t u after : List ℕ} {at a b : ℕ} → Put row at t after a → t ≡ u → a ≡ b → Put row at u after b
-written_as {row} {t} {u} {after} {at} {a} {b} p e f = subst (λ (x : List ℕ). Put row at x after b) e (subst (λ (x : ℕ). Put row at t after x) f p)
-
--- A text written from where another ends on is both written.
-pub follows : {row t u after last : List ℕ} {at a b end : ℕ} → Put row at t after a → Put after b u last end → a ≡ b → b ≤ length row →
-    Put row at (t ++ u) last end
-follows p q e h = and_then (written_as p refl e) q h
+-- A text written behind another is both written.
+pub follows : {old mid new : Writer} {t u : List ℕ} → Appended old t mid → Appended mid u new → mid.at ≤ length old.out.now → Appended old (t ++ u) new
+follows p q h = record { same = q.same ∙ p.same; long = q.long ∙ p.long; put = and_then p.put q.put h }
 
 -- ---- a record's text
 
@@ -112,26 +109,27 @@ two-front memory i h =
     ∙ ap (λ (l : List ℕ). get_or memory i 0 ∷ l)
     (ap (λ (k : ℕ). drop k memory) (sym (add-one i)) ∙ drop-cons memory (i + 1) 0 h ∙ ap (λ (k : ℕ). get_or memory (i + 1) 0 ∷ drop k memory) past)
 
--- A record written before the text of the words behind it.
-pub record-put : (text after memory : List ℕ) (i : ℕ) → i + 1 < length memory → 22 * i + 44 ≤ length text →
-    after ≡ put text (22 * i) (record_text (8 * i) 0 (word_bytes (get_or memory i 0 ∷ get_or memory (i + 1) 0 ∷ []))) →
-    put after (22 * (i + 2)) (hex_from (8 * (i + 2)) (drop (i + 2) memory)) ≡ put text (22 * i) (hex_from (8 * i) (drop i memory))
+-- A record written before the text of the words behind it, two words a record.
+pub record-put : (text after memory : List ℕ) (i : ℕ) → 2 * i + 1 < length memory → 44 * i + 44 ≤ length text →
+    after ≡ put text (44 * i) (record_text (16 * i) 0 (word_bytes (get_or memory (2 * i) 0 ∷ get_or memory (2 * i + 1) 0 ∷ []))) →
+    put after (44 * (i + 1)) (hex_from (16 * (i + 1)) (drop (2 * (i + 1)) memory)) ≡ put text (44 * i) (hex_from (16 * i) (drop (2 * i) memory))
 unfolding hex_from
 record-put text after memory i h room e =
-    let v = get_or memory i 0 in
-    let w = get_or memory (i + 1) 0 in
-    let here = record_text (8 * i) 0 (word_bytes (v ∷ w ∷ [])) in
-    let rest = hex_from (8 * (i + 2)) (drop (i + 2) memory) in
-    let ends : 22 * (i + 2) ≡ 22 * i + length here = omega (arith, record-length (8 * i) v w) in
-    let next : 8 * i + 16 ≡ 8 * (i + 2) = omega arith in
-    let both : hex_from (8 * i) (drop i memory) ≡ here ++ rest =
-    ap (hex_from (8 * i)) (two-front memory i h) ∙ ap (λ (k : ℕ). here ++ hex_from k (drop (i + 2) memory)) next in
-    ap (λ (row : List ℕ). put row (22 * (i + 2)) rest) e
-    ∙ ap (λ (k : ℕ). put (put text (22 * i) here) k rest) ends
-    ∙ put-put text (22 * i) here rest (omega arith)
-    ∙ ap (put text (22 * i)) (sym both)
+    let v = get_or memory (2 * i) 0 in
+    let w = get_or memory (2 * i + 1) 0 in
+    let here = record_text (16 * i) 0 (word_bytes (v ∷ w ∷ [])) in
+    let rest = hex_from (16 * (i + 1)) (drop (2 * (i + 1)) memory) in
+    let ends : 44 * (i + 1) ≡ 44 * i + length here = omega (arith, record-length (16 * i) v w) in
+    let next : 16 * i + 16 ≡ 16 * (i + 1) = omega arith in
+    let past : 2 * i + 2 ≡ 2 * (i + 1) = omega arith in
+    let both : hex_from (16 * i) (drop (2 * i) memory) ≡ here ++ rest =
+    ap (hex_from (16 * i)) (two-front memory (2 * i) h) ∙ (λ k. here ++ hex_from (next k) (drop (past k) memory)) in
+    ap (λ (row : List ℕ). put row (44 * (i + 1)) rest) e
+    ∙ ap (λ (k : ℕ). put (put text (44 * i) here) k rest) ends
+    ∙ put-put text (44 * i) here rest (omega arith)
+    ∙ ap (put text (44 * i)) (sym both)
 
 -- Behind the last word there is the end record.
-pub end-left : (memory : List ℕ) (i : ℕ) → i ≡ length memory → hex_from (8 * i) (drop i memory) ≡ record_text 0 1 []
+pub end-left : (memory : List ℕ) (i : ℕ) → 2 * i ≡ length memory → hex_from (16 * i) (drop (2 * i) memory) ≡ record_text 0 1 []
 unfolding hex_from
-end-left memory i e = ap (hex_from (8 * i)) (ap (λ (k : ℕ). drop k memory) e ∙ drop-length memory)
+end-left memory i e = ap (hex_from (16 * i)) (ap (λ (k : ℕ). drop k memory) e ∙ drop-length memory)

@@ -1,20 +1,12 @@
 -- What the contracts of the private functions that look a text through and store its words cite.
-use Rattle.std.specs.Prelude.{ℕ, ◌+◌, ◌*◌, ◌/◌, ◌^◌, ◌<◌, List, [], ◌∷◌, Bool, true, cond, ◌≡◌, length, get_or, set}
+use Rattle.std.specs.Prelude.{ℕ, ◌+◌, ◌*◌, ◌/◌, ◌^◌, List, [], ◌∷◌, cond, Option, Some, None, ◌≡◌, length, get_or, set}
 use Rattle.intel_hex.specs.Lanes.{lanes}
-use Rattle.board.specs.Hex.{hex_digit, all_bytes, sum_of, file, count_of, has_data, has_end, parsed}
+use Rattle.board.specs.Hex.{file, count_of, has_data, has_end, parsed}
+use Rattle.intel_hex.specs.declared.reading.Record.{Record}
 
--- The table of the digits that characters stand for: an entry for each byte.
-pub record DigitTable (digits : List ℕ) : Type 0 where
-  pub entry : (c : ℕ) → c < 256 → get_or digits c 0 ≡ hex_digit c
-
--- `good` says whether all are bytes, and then `sum` is their sum.
-pub record Totals (bytes : List ℕ) (sum : ℕ) (good : Bool) : Type 0 where
-  pub all : good ≡ all_bytes bytes
-  pub total : good ≡ true → sum ≡ sum_of bytes
-
--- What stands at a text's front: 0 for the end record, else how many bytes the data record there has, 256 where there is neither.
-unfoldable pub front_of : ℕ → List ℕ → ℕ
-front_of address text = cond (has_end text) 0 (cond (has_data address text) (count_of text) 256)
+-- What stands at a text's front: the end record, a data record of so many bytes, or neither.
+unfoldable pub front_of : ℕ → List ℕ → Option Record
+front_of address text = cond (has_end text) (Some Record.End) (cond (has_data address text) (Some (Record.Data (count_of text))) None)
 
 -- Two characters of a text from `at` on, the first of them low.
 abbrev pub two_at : List ℕ → ℕ → ℕ

@@ -1,134 +1,100 @@
 // A text looked through: which record stands at its front, and how many bytes the whole of it holds. A text is lent from its
-// next record on.
-ghost use Rattle.std.specs.Prelude.{◌≡◌, not, length, ◌+◌, ◌*◌, ◌≤◌};
-ghost use Rattle.board.specs.Hex.{hex_digit, byte_of, bytes_in, count_of, has_record, address_of, parsed, is_no_file, read_bytes};
-ghost use Rattle.intel_hex.specs.Storing.{DigitTable, Totals, front_of};
+// next record on; that it has the twelve characters of the shortest record is a bound on a slice, and stands where it is used.
+ghost use Rattle.std.specs.Prelude.{◌≡◌, true, false, length, MatchOption, ◌+◌, ◌*◌, ◌/◌, ◌≤◌};
+ghost use Rattle.board.specs.Hex.{bytes_in, all_bytes, sum_of, count_of, has_record, address_of, type_of, parsed, is_no_file, read_bytes};
+ghost use Rattle.intel_hex.specs.Storing.{front_of};
 
-use crate::table;
+use crate::table::{byte, digit};
 
-// Whether a text is a file, and how many bytes it holds: none where it is no file.
+// What stands at a text's front: the end record, or a data record of so many bytes.
 #[derive(Clone, Copy)]
-pub struct Measured {
-    pub file: bool,
-    pub bytes: usize,
+enum Record {
+    End,
+    Data(usize),
 }
 
-// The sum of some bytes, and whether all of them are bytes.
-#[derive(Clone, Copy)]
-struct Summed {
-    bytes: usize,
-    good: bool,
-}
-
-// The digit that a character stands for; 16 for one that is none.
-fn digit(digits: &[u8; 256], c: u8) -> u8
-    requires { DigitTable digits.now }
-    ensures { result ≡ hex_digit c }
-{
-    digits[c as usize]
-}
-
-// The byte that two characters write; 256 where one of them is no digit.
-fn byte_of(digits: &[u8; 256], high: u8, low: u8) -> usize
-    requires { DigitTable digits.now }
-    ensures { (result ≡ byte_of high low) × (result ≤ 256) }
-{
-    let h = digit(digits, high) as usize;
-    let l = digit(digits, low) as usize;
-    if (h < 16) & (l < 16) { 16 * h + l } else { 256 }
-}
-
-// The sum of the first `n` bytes that a text's characters write, right where all of them are bytes. What are no digits are
-// counted, and not looked for one by one.
-fn sum(digits: &[u8; 256], text: &[u8], n: usize) -> Summed
-    requires { DigitTable digits.now × (2 * n ≤ length text.now) × (n ≤ 260) }
-    ensures { Totals (bytes_in n text.now) result.bytes result.good }
+// The sum of the bytes that a text's characters write, where all of them are bytes. What are no digits are counted, and not
+// looked for one by one.
+fn sum(text: &[u8]) -> Option<usize>
+    requires { length text.now ≤ 520 }
+    ensures { let bytes = bytes_in (length text.now / 2) text.now in
+        MatchOption result (all_bytes bytes ≡ false) (λ n. (all_bytes bytes ≡ true) × (n ≡ sum_of bytes)) }
 {
     let mut bytes = 0;
     let mut strays = 0;
-    let mut k = 0;
-    while k < n {
-        let high = digit(digits, text[2 * k]) as usize;
-        let low = digit(digits, text[2 * k + 1]) as usize;
+    let (pairs, _) = text.as_chunks::<2>();
+    for pair in pairs {
+        let high = digit(pair[0]) as usize;
+        let low = digit(pair[1]) as usize;
         bytes += 16 * high + low;
         strays += high / 16 + low / 16;
-        k += 1;
     }
-    Summed {
-        bytes,
-        good: strays == 0,
-    }
+    if strays == 0 { Some(bytes) } else { None }
 }
 
 // There is a record at the text's front; `count` is how many bytes of data it says that it has.
-fn has_record(digits: &[u8; 256], text: &[u8], count: usize) -> bool
-    requires { DigitTable digits.now × (12 ≤ length text.now) × (count ≡ count_of text.now) × (count ≤ 256) }
+fn has_record(text: &[u8], count: u8) -> bool
+    requires { (12 ≤ length text.now) × (count ≡ count_of text.now) }
     ensures { result ≡ has_record text.now }
 {
-    let end = 2 * count + 11;
-    if (count > 255) | (text.len() <= end) {
+    let end = 2 * count as usize + 11;
+    if (text.len() <= end) || (text[0] != b':') || (text[end] != b'\n') {
         return false;
     }
-    if (text[0] != b':') | (text[end] != b'\n') {
-        return false;
+    match sum(&text[1..end]) {
+        Some(all) => all % 256 == 0,
+        None => false,
     }
-    let all = sum(digits, &text[1..], count + 5);
-    all.good & (all.bytes % 256 == 0)
 }
 
 // The address of the record at the text's front.
-fn address_of(digits: &[u8; 256], text: &[u8]) -> usize
-    requires { DigitTable digits.now × (12 ≤ length text.now) }
-    ensures { result ≡ address_of text.now }
+fn address_of(text: &[u8]) -> Option<u16>
+    requires { 12 ≤ length text.now }
+    ensures { MatchOption result (has_record text.now ≡ false) (λ n. n ≡ address_of text.now) }
 {
-    256 * byte_of(digits, text[3], text[4]) + byte_of(digits, text[5], text[6])
+    Some(u16::from_be_bytes([byte(text[3], text[4])?, byte(text[5], text[6])?]))
 }
 
-// What stands at the text's front: 0 for the end record, else how many bytes the data record there has, 256 where there is
-// neither.
-fn front(digits: &[u8; 256], text: &[u8], address: usize) -> usize
-    requires { DigitTable digits.now }
+// The type of the record at the text's front.
+fn type_of(text: &[u8]) -> Option<u8>
+    requires { 12 ≤ length text.now }
+    ensures { MatchOption result (has_record text.now ≡ false) (λ n. n ≡ type_of text.now) }
+{
+    byte(text[7], text[8])
+}
+
+// What stands at the text's front, if its data are for `address`.
+fn front(text: &[u8], address: usize) -> Option<Record>
     ensures { result ≡ front_of address text.now }
 {
     if text.len() < 12 {
-        return 256;
+        return None;
     }
-    let count = byte_of(digits, text[1], text[2]);
-    if !has_record(digits, text, count) {
-        return 256;
+    let count = byte(text[1], text[2])?;
+    let here = address_of(text)? as usize;
+    let kind = type_of(text)?;
+    if !has_record(text, count) {
+        return None;
     }
-    let kind = byte_of(digits, text[7], text[8]);
-    let here = address_of(digits, text);
     if (kind == 1) & (count == 0) & (here == 0) & (text.len() == 12) {
-        return 0;
+        return Some(Record::End);
     }
     if (kind == 0) & (count > 0) & (here == address) {
-        return count;
+        return Some(Record::Data(count as usize));
     }
-    256
+    None
 }
 
-// A text looked through to its end.
-pub fn measure(text: &[u8]) -> Measured
-    ensures { (result.file ≡ not (is_no_file (parsed text.now))) × (result.bytes ≡ length (read_bytes (parsed text.now))) }
+// How many bytes a text holds, if it is a file: it is looked through to its end.
+pub fn measure(text: &[u8]) -> Option<usize>
+    ensures { MatchOption result (is_no_file (parsed text.now) ≡ true)
+        (λ n. (is_no_file (parsed text.now) ≡ false) × (n ≡ length (read_bytes (parsed text.now)))) }
 {
-    let digits = table::digits();
-    let mut at = 0;
+    let mut rest = text;
     let mut address = 0;
-    let mut n = front(&digits, text, 0);
-    while (n > 0) & (n < 256) {
-        at += 2 * n + 12;
+    while let Record::Data(n) = front(rest, address)? {
+        rest = &rest[2 * n + 12..];
         address += n;
-        n = front(&digits, &text[at..], address);
     }
-    if n == 0 {
-        return Measured {
-            file: true,
-            bytes: address,
-        };
-    }
-    Measured {
-        file: false,
-        bytes: 0,
-    }
+    Some(address)
 }

@@ -1,10 +1,14 @@
-// A memory as text: records of 16 bytes, then the end record.
+// A memory as text: records of 16 bytes, then the end record. Each function is lent a writer, and leaves it behind what it
+// wrote.
 ghost use Rattle.std.specs.Prelude.{◌≡◌, false, [], ◌∷◌, ◌++◌, length, ◌+◌, ◌-◌, ◌%◌, ◌^◌, ◌<◌, ◌≤◌};
 ghost use Rattle.text.specs.Ascii.{feed, ':'};
-ghost use Rattle.text.specs.Writing.{put, Put};
+ghost use Rattle.text.specs.Appending.{Appended};
+ghost use Rattle.text.specs.Writing.{put};
 ghost use Rattle.board.specs.Causes.{bad_length};
 ghost use Rattle.intel_hex.specs.Lanes.{spaced, Paired};
 ghost use Rattle.board.specs.Hex.{bytes_text, sum_of, record_text, low_bytes, word_bytes, hex_text, hex_bytes};
+
+use text::Writer;
 
 // The four bytes of half a word, sixteen bits each, the lowest first.
 fn spread(half: u64) -> u64
@@ -26,42 +30,43 @@ fn characters(bytes: u64) -> u64
     digits + 0x3030_3030_3030_3030 + letters / 16 * 7
 }
 
-// The two low bytes of `pair`, from `at` on.
-fn put_pair(text: &mut [u8], at: usize, pair: u64)
-    requires { at + 2 ≤ length text.old }
-    ensures { Put text.old at (low_bytes 2 pair) text.new (at + 2) }
+// The two low bytes of `pair`.
+fn put_pair(text: &mut Writer<'_>, pair: u64)
+    requires { text.old.at + 2 ≤ length text.old.out.now }
+    ensures { Appended text.old (low_bytes 2 pair) text.new × (text.new.at ≡ text.old.at + 2) }
 {
-    text[at] = (pair % 256) as u8;
-    text[at + 1] = (pair / 256 % 256) as u8;
+    text.put_byte((pair % 256) as u8);
+    text.put_byte((pair / 256 % 256) as u8);
 }
 
-// A byte as two digits, from `at` on.
-fn put_byte(text: &mut [u8], at: usize, byte: u8)
-    requires { at + 2 ≤ length text.old }
-    ensures { Put text.old at (bytes_text (byte ∷ [])) text.new (at + 2) }
+// A byte as two digits.
+fn put_byte(text: &mut Writer<'_>, byte: u8)
+    requires { text.old.at + 2 ≤ length text.old.out.now }
+    ensures { Appended text.old (bytes_text (byte ∷ [])) text.new × (text.new.at ≡ text.old.at + 2) }
 {
-    put_pair(text, at, characters(byte as u64));
+    put_pair(text, characters(byte as u64));
 }
 
-// The bytes of half a word as digits, the lowest first, from `at` on. The compiler joins the stores.
-fn put_half(text: &mut [u8], at: usize, half: u64)
-    requires { (half < 2 ^ 32) × (at + 8 ≤ length text.old) }
-    ensures { Put text.old at (bytes_text (low_bytes 4 half)) text.new (at + 8) }
+// The bytes of half a word as digits, the lowest first. The compiler joins the stores; the library's copy of `to_le_bytes`
+// would test each time whether it overlaps the row.
+fn put_half(text: &mut Writer<'_>, half: u64)
+    requires { (half < 2 ^ 32) × (text.old.at + 8 ≤ length text.old.out.now) }
+    ensures { Appended text.old (bytes_text (low_bytes 4 half)) text.new × (text.new.at ≡ text.old.at + 8) }
 {
     let pairs = characters(spread(half));
-    put_pair(text, at, pairs);
-    put_pair(text, at + 2, pairs / 65536);
-    put_pair(text, at + 4, pairs / 0x1_0000_0000);
-    put_pair(text, at + 6, pairs / 0x1_0000_0000_0000);
+    put_pair(text, pairs);
+    put_pair(text, pairs / 65536);
+    put_pair(text, pairs / 0x1_0000_0000);
+    put_pair(text, pairs / 0x1_0000_0000_0000);
 }
 
-// A word's bytes as digits, the lowest first, from `at` on.
-fn put_word(text: &mut [u8], at: usize, word: u64)
-    requires { at + 16 ≤ length text.old }
-    ensures { Put text.old at (bytes_text (low_bytes 8 word)) text.new (at + 16) }
+// A word's bytes as digits, the lowest first.
+fn put_word(text: &mut Writer<'_>, word: u64)
+    requires { text.old.at + 16 ≤ length text.old.out.now }
+    ensures { Appended text.old (bytes_text (low_bytes 8 word)) text.new × (text.new.at ≡ text.old.at + 16) }
 {
-    put_half(text, at, word % 0x1_0000_0000);
-    put_half(text, at + 8, word / 0x1_0000_0000);
+    put_half(text, word % 0x1_0000_0000);
+    put_half(text, word / 0x1_0000_0000);
 }
 
 // The sum of a word's bytes: four sums of two, two of four, and one.
@@ -73,40 +78,38 @@ fn byte_sum(word: u64) -> u64
     fours % 65536 + fours / 65536
 }
 
-// What stands before a record's data: a colon, 16 bytes of data, the address, the type 00; from `at` on.
-fn put_head(text: &mut [u8], at: usize, high: u8, low: u8)
-    requires { at + 9 ≤ length text.old }
-    ensures { Put text.old at (':' ∷ bytes_text (16 ∷ high ∷ low ∷ 0 ∷ [])) text.new (at + 9) }
+// What stands before a record's data: a colon, 16 bytes of data, the address, the type 00.
+fn put_head(text: &mut Writer<'_>, high: u8, low: u8)
+    requires { text.old.at + 9 ≤ length text.old.out.now }
+    ensures { Appended text.old (':' ∷ bytes_text (16 ∷ high ∷ low ∷ 0 ∷ [])) text.new × (text.new.at ≡ text.old.at + 9) }
 {
-    text[at] = b':';
-    put_byte(text, at + 1, 16);
-    put_byte(text, at + 3, high);
-    put_byte(text, at + 5, low);
-    put_byte(text, at + 7, 0);
+    text.put_byte(b':');
+    put_byte(text, 16);
+    put_byte(text, high);
+    put_byte(text, low);
+    put_byte(text, 0);
 }
 
-// What stands behind a record's data: the checksum and a line feed, from `at` on.
-fn put_tail(text: &mut [u8], at: usize, sum: u64)
-    requires { at + 3 ≤ length text.old }
-    ensures { Put text.old at (bytes_text ((256 - sum % 256) % 256 ∷ []) ++ (feed ∷ [])) text.new (at + 3) }
+// What stands behind a record's data: the checksum and a line feed.
+fn put_tail(text: &mut Writer<'_>, sum: u64)
+    requires { text.old.at + 3 ≤ length text.old.out.now }
+    ensures { Appended text.old (bytes_text ((256 - sum % 256) % 256 ∷ []) ++ (feed ∷ [])) text.new × (text.new.at ≡ text.old.at + 3) }
 {
-    put_byte(text, at, ((256 - sum % 256) % 256) as u8);
-    text[at + 2] = b'\n';
+    put_byte(text, ((256 - sum % 256) % 256) as u8);
+    text.put_byte(b'\n');
 }
 
-// The record of two words, from `at` on.
-fn put_record(text: &mut [u8], at: usize, address: u16, v: u64, w: u64)
-    requires { at + 44 ≤ length text.old }
-    ensures { Put text.old at (record_text address 0 (word_bytes (v ∷ w ∷ []))) text.new (at + 44) }
+// The record of two words.
+fn put_record(text: &mut Writer<'_>, address: u16, v: u64, w: u64)
+    requires { text.old.at + 44 ≤ length text.old.out.now }
+    ensures { Appended text.old (record_text address 0 (word_bytes (v ∷ w ∷ []))) text.new × (text.new.at ≡ text.old.at + 44) }
 {
-    let high = (address / 256) as u8;
-    let low = (address % 256) as u8;
-    put_head(text, at, high, low);
-    put_word(text, at + 9, v);
-    put_word(text, at + 25, w);
+    let [high, low] = address.to_be_bytes();
+    put_head(text, high, low);
+    put_word(text, v);
+    put_word(text, w);
     put_tail(
         text,
-        at + 41,
         16 + high as u64 + low as u64 + byte_sum(v) + byte_sum(w),
     );
 }
@@ -116,11 +119,10 @@ pub fn put_memory(memory: &[u64], text: &mut [u8])
     requires { (bad_length (length memory.now) ≡ false) × (hex_bytes (length memory.now) ≤ length text.old) }
     ensures { text.new ≡ put text.old 0 (hex_text memory.now) }
 {
-    let mut i = 0;
-    while i < memory.len() {
-        put_record(text, 22 * i, (8 * i) as u16, memory[i], memory[i + 1]);
-        i += 2;
+    let mut writer = Writer { out: text, at: 0 };
+    let (pairs, _) = memory.as_chunks::<2>();
+    for (i, pair) in pairs.iter().enumerate() {
+        put_record(&mut writer, (16 * i) as u16, pair[0], pair[1]);
     }
-    let end = *b":00000001FF\n";
-    text::put_text(text, 22 * i, &end);
+    writer.put_text(b":00000001FF\n");
 }

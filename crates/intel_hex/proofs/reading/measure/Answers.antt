@@ -1,62 +1,49 @@
-use Prim.Native.Nat.{ℕ, ◌+◌, ◌*◌, ◌≤◌}
-use mathlib.Core.Path.{◌≡◌, ap, ◌∙◌}
+use Prim.Native.Nat.{ℕ, ◌+◌, ◌*◌, ◌-◌, ◌≤◌, ◌<◌}
+use mathlib.Core.Path.{◌≡◌, sym, ap, ◌∙◌}
 use mathlib.Core.List.{List}
-use mathlib.Core.Bool.{true, ◌&&◌}
 use native.Mathlib.Omega.{arith}
-use lib.Dec.{ltb}
-use lib.ListN.{length}
-use borrow.Author.Rules.{rules}
+use lib.ListN.{length, take, drop, length-drop}
+use Rattle.std.specs.Prelude.{Some}
+use Rattle.intel_hex.specs.declared.reading.Record.{Record}
 use Rattle.intel_hex.specs.Storing.{front_of}
 use Rattle.intel_hex.proofs.Parsing.{tail}
-use Rattle.intel_hex.proofs.Measuring.{Measuring, some_next, none-next, measuring-begins, next-within, measuring-more, measuring-ends, measuring-stops}
+use Rattle.intel_hex.proofs.Measuring.{measuring-begins, next-within, measuring-more, measuring-ends, measuring-stops}
 use Rattle.intel_hex.proofs.reading.measure.Goals as goal
 
-pub front-n-requires : goal.front-n-requires
-front-n-requires c = c.digits-digits.ensures
-
-pub front-n-requires-in-loop-n : goal.front-n-requires-in-loop-n
-front-n-requires-in-loop-n c = c.digits-digits.ensures
+-- The next record is a data record, and ends within the text.
+inside : (address : ℕ) {n : ℕ} {found : Record} (rest : List ℕ) → Some found ≡ front_of address rest → found ≡ Record.Data n → 2 * n + 12 ≤ length rest
+inside address rest e f = next-within address rest (ap Some (sym f) ∙ e)
 
 pub loop-n-init : goal.loop-n-init
-loop-n-init c = measuring-begins c.front-n.ensures
+loop-n-init c = measuring-begins
 
-pub overflow_mul-at : goal.overflow_mul-at
-overflow_mul-at c = record { fits = omega (arith, some_next c.loop-n.n c.loop-n-test.true) }
+pub returns-in_err-n : goal.returns-in_err-n
+returns-in_err-n c = rw c.from_residual.ensures (measuring-stops c.loop-n.invariant c.in_err-n.ensures)
 
-pub overflow_add-at : goal.overflow_add-at
-overflow_add-at c = record { fits = omega (arith, some_next c.loop-n.n c.loop-n-test.true) }
+pub overflow_mul-rest : goal.overflow_mul-rest
+overflow_mul-rest c = record { fits = omega (arith, inside c.loop-n.address c.loop-n.rest.now c.in_ok-n.ensures c.in-Data.is, c.loop-n.invariant.fits) }
 
--- The next record ends within the text.
-ends : {text : List ℕ} {at address n : ℕ} → Measuring text at address n → ltb 0 n && ltb n 256 ≡ true → at + (2 * n + 12) ≤ length text
-ends {text} {at} {address} {n} m e =
-    let some = some_next n e in
-    next-within m some.0 some.1
+pub overflow_add-rest : goal.overflow_add-rest
+overflow_add-rest c = record { fits = omega (arith, inside c.loop-n.address c.loop-n.rest.now c.in_ok-n.ensures c.in-Data.is, c.loop-n.invariant.fits) }
 
-pub overflow_add-at-in-loop-n : goal.overflow_add-at-in-loop-n
-overflow_add-at-in-loop-n c = record { fits = omega (arith, ends c.loop-n.invariant c.loop-n-test.true) }
+pub slice_bounds-rest-count : goal.slice_bounds-rest-count
+slice_bounds-rest-count c = inside c.loop-n.address c.loop-n.rest.now c.in_ok-n.ensures c.in-Data.is
+
+pub slice_bounds-rest-start : goal.slice_bounds-rest-start
+slice_bounds-rest-start c = inside c.loop-n.address c.loop-n.rest.now c.in_ok-n.ensures c.in-Data.is
 
 pub overflow_add-address : goal.overflow_add-address
-overflow_add-address c = record { fits = omega (arith, ends c.loop-n.invariant c.loop-n-test.true, c.loop-n.invariant.fewer) }
+overflow_add-address c = record { fits = omega (arith, inside c.loop-n.address c.loop-n.rest.now c.in_ok-n.ensures c.in-Data.is, c.loop-n.invariant.fits) }
 
-pub slice_bounds-front-count : goal.slice_bounds-front-count
-slice_bounds-front-count c = ends c.loop-n.invariant c.loop-n-test.true
-
-pub slice_bounds-front-start : goal.slice_bounds-front-start
-slice_bounds-front-start c = ends c.loop-n.invariant c.loop-n-test.true
-
-pub slice_bounds-front-end : goal.slice_bounds-front-end
-slice_bounds-front-end c = search rules
+-- What is left behind it is shorter.
+shorter : (n : ℕ) (rest : List ℕ) → 2 * n + 12 ≤ length rest → length (take (length rest - (2 * n + 12)) (drop (2 * n + 12) rest)) < length rest
+shorter n rest h = omega (arith, ap length (tail (2 * n + 12) rest), length-drop (2 * n + 12) rest)
 
 pub loop-n-smaller : goal.loop-n-smaller
-loop-n-smaller c = omega (arith, ends c.loop-n.invariant c.loop-n-test.true)
+loop-n-smaller c = shorter c.in-Data.n c.loop-n.rest.now (inside c.loop-n.address c.loop-n.rest.now c.in_ok-n.ensures c.in-Data.is)
 
 pub loop-n-preserved : goal.loop-n-preserved
-loop-n-preserved c =
-    let some = some_next c.loop-n.n c.loop-n-test.true in
-    measuring-more c.loop-n.invariant some.0 some.1 (c.front-n-in-loop-n.ensures ∙ ap (front_of (c.loop-n.address + c.loop-n.n)) (tail (c.loop-n.at + (2 * c.loop-n.n + 12)) c.args.text.now))
-
-pub returns-then-n-eq0 : goal.returns-then-n-eq0
-returns-then-n-eq0 c = measuring-ends (rw c.if-n-eq0.true at c.loop-n.invariant)
+loop-n-preserved c = measuring-more c.loop-n.invariant (ap Some (sym c.in-Data.is) ∙ c.in_ok-n.ensures) (tail (2 * c.in-Data.n + 12) c.loop-n.rest.now)
 
 pub returns : goal.returns
-returns c = measuring-stops c.loop-n.invariant (none-next c.loop-n.n c.loop-n-test.false c.if-n-eq0.false)
+returns c = measuring-ends c.loop-n.invariant (ap Some (sym c.in_default.is) ∙ c.in_ok-n.ensures)

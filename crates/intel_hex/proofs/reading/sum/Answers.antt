@@ -1,50 +1,19 @@
-use Prim.Native.Nat.{ℕ, ◌+◌, ◌*◌, ◌≤◌}
-use mathlib.Core.Path.{◌≡◌}
-use mathlib.Core.List.{List}
+use Prim.Native.Nat.{◌/◌, ◌<◌}
+use mathlib.Core.Path.{ap, ◌∙◌}
 use native.Mathlib.Omega.{arith}
-use lib.ListN.{get_or}
+use lib.ListN.{length}
 use Rattle.board.specs.Hex.{hex_digit}
-use Rattle.intel_hex.proofs.Digits.{digit-most}
-use Rattle.intel_hex.proofs.Summing.{summing-begins, summing-more, summing-ends}
+use Rattle.intel_hex.proofs.Chunks.{pair_at}
+use Rattle.intel_hex.proofs.Summing.{summing-more, summing-all}
 use Rattle.intel_hex.proofs.reading.sum.Goals as goal
 
-pub loop-k-init : goal.loop-k-init
-loop-k-init c = summing-begins _ _
+pub loop-pair-preserved : goal.loop-pair-preserved
+loop-pair-preserved c =
+    let t = c.args.text.now in
+    let k = c.loop-pair.pair-index in
+    let h : k < length t / 2 = omega (arith, c.loop-pair-test.true, c.as_chunks.ensures.front_len) in
+    let pair = pair_at t k c.as_chunks.ensures.front h in
+    summing-more c.loop-pair.invariant h (c.digit-high.ensures ∙ ap hex_digit pair.0) (c.digit-low.ensures ∙ ap hex_digit pair.1)
 
-pub bounds-text-k : goal.bounds-text-k
-bounds-text-k c = omega (arith, c.requires, c.loop-k.invariant.within)
-
-pub digit-high-requires : goal.digit-high-requires
-digit-high-requires c = c.requires.0
-
-pub digit-low-requires : goal.digit-low-requires
-digit-low-requires c = c.requires.0
-
--- A digit is at most 16.
-most : {d : ℕ} (c : ℕ) → d ≡ hex_digit c → d ≤ 16
-most c e = omega (arith, digit-most c)
-
--- Both digits are at most 16.
-both : {high low : ℕ} (text : List ℕ) (k : ℕ) → high ≡ hex_digit (get_or text (2 * k) 0) → low ≡ hex_digit (get_or text (2 * k + 1) 0) → (high ≤ 16) × (low ≤ 16)
-both text k h l = (most (get_or text (2 * k) 0) h, most (get_or text (2 * k + 1) 0) l)
-
-pub overflow_mul-bytes : goal.overflow_mul-bytes
-overflow_mul-bytes c = record { fits = omega (arith, both c.args.text.now c.loop-k.k c.digit-high.ensures c.digit-low.ensures, c.loop-k.invariant.most, c.loop-k.invariant.few, c.loop-k.invariant.within, c.requires) }
-
-pub overflow_add-bytes : goal.overflow_add-bytes
-overflow_add-bytes c = record { fits = omega (arith, both c.args.text.now c.loop-k.k c.digit-high.ensures c.digit-low.ensures, c.loop-k.invariant.most, c.loop-k.invariant.few, c.loop-k.invariant.within, c.requires) }
-
-pub overflow_add-bytes-in-loop-k : goal.overflow_add-bytes-in-loop-k
-overflow_add-bytes-in-loop-k c = record { fits = omega (arith, both c.args.text.now c.loop-k.k c.digit-high.ensures c.digit-low.ensures, c.loop-k.invariant.most, c.loop-k.invariant.few, c.loop-k.invariant.within, c.requires) }
-
-pub overflow_add-strays : goal.overflow_add-strays
-overflow_add-strays c = record { fits = omega (arith, both c.args.text.now c.loop-k.k c.digit-high.ensures c.digit-low.ensures, c.loop-k.invariant.most, c.loop-k.invariant.few, c.loop-k.invariant.within, c.requires) }
-
-pub overflow_add-strays-in-loop-k : goal.overflow_add-strays-in-loop-k
-overflow_add-strays-in-loop-k c = record { fits = omega (arith, both c.args.text.now c.loop-k.k c.digit-high.ensures c.digit-low.ensures, c.loop-k.invariant.most, c.loop-k.invariant.few, c.loop-k.invariant.within, c.requires) }
-
-pub loop-k-preserved : goal.loop-k-preserved
-loop-k-preserved c = summing-more c.loop-k.invariant c.loop-k-test.true c.digit-high.ensures c.digit-low.ensures
-
-pub returns : goal.returns
-returns c = summing-ends c.loop-k.invariant (omega arith)
+pub returns-then-strays-eq0 : goal.returns-then-strays-eq0
+returns-then-strays-eq0 c = summing-all c.loop-pair.invariant (omega (arith, c.loop-pair-test.false, c.as_chunks.ensures.front_len)) c.if-strays-eq0.true

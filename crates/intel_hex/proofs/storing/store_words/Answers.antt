@@ -1,63 +1,50 @@
-use Prim.Native.Nat.{ℕ, ◌*◌}
-use mathlib.Core.Path.{◌≡◌, sym, ap, subst, ◌∙◌}
-use mathlib.Core.List.{List}
+use Prim.Native.Nat.{ℕ, ◌*◌, ◌/◌, ◌≤◌, ◌<◌}
+use mathlib.Core.Path.{◌≡◌, sym, ap, ◌∙◌}
+use mathlib.Core.List.{List, []}
 use mathlib.Core.Bool.{true}
 use native.Mathlib.Omega.{arith}
-use lib.ListN.{length, drop, length-drop}
+use lib.ListN.{length, get_or, take, drop, length-drop}
+use lib.Seq.{length-take-le}
 use borrow.Author.Rules.{rules}
+use Rattle.std.specs.Simd.{first_chunks}
 use Rattle.board.specs.Hex.{bytes_in, all_bytes, word_of}
-use Rattle.intel_hex.proofs.Parsing.{tail}
+use Rattle.intel_hex.proofs.Chunks.{chunk_at}
+use Rattle.intel_hex.proofs.Parsing.{in-take}
 use Rattle.intel_hex.proofs.Whole.{all-part, words-begin, words_more, words-end}
 use Rattle.intel_hex.proofs.storing.store_words.Goals as goal
+
+module _ {chunks : List (List ℕ)} (digits : List ℕ) (i : ℕ) (e : chunks ≡ first_chunks 16 (length digits / 16) digits) (h : i < length digits / 16) where
+  -- The digits of word `i`.
+  word : get_or chunks i [] ≡ take 16 (drop (16 * i) digits)
+  word = ap (λ l. get_or l i []) e ∙ chunk_at 16 (length digits / 16) digits i [] h
+
+  sixteen : 16 ≤ length (get_or chunks i [])
+  sixteen = omega (arith, ap length word, length-take-le 16 (drop (16 * i) digits) (omega (arith, length-drop (16 * i) digits)))
+
+  -- The bytes that they write.
+  bytes : bytes_in 8 (get_or chunks i []) ≡ bytes_in 8 (drop (16 * i) digits)
+  bytes = ap (bytes_in 8) word ∙ in-take 8 (drop (16 * i) digits)
+
+  all : all_bytes (bytes_in (8 * (length digits / 16)) digits) ≡ true → all_bytes (bytes_in 8 (get_or chunks i [])) ≡ true
+  all a =
+      let two : 2 * (8 * i) ≡ 16 * i = omega arith in
+      ap all_bytes (bytes ∙ ap (λ (k : ℕ). bytes_in 8 (drop k digits)) (sym two)) ∙ all-part (8 * (length digits / 16)) digits a (8 * i) 8 (omega arith)
 
 pub loop-i-init : goal.loop-i-init
 loop-i-init c = words-begin _ _ _ _
 
-pub overflow_mul-i : goal.overflow_mul-i
-overflow_mul-i c = record { fits = omega (arith, c.requires, c.loop-i.invariant.within, c.loop-i-test.true) }
-
-pub slice_bounds-word_of-count : goal.slice_bounds-word_of-count
-slice_bounds-word_of-count c = omega (arith, c.requires, c.loop-i.invariant.within, c.loop-i-test.true)
-
-pub slice_bounds-word_of-start : goal.slice_bounds-word_of-start
-slice_bounds-word_of-start c = omega (arith, c.requires, c.loop-i.invariant.within, c.loop-i-test.true)
-
-pub slice_bounds-word_of-end : goal.slice_bounds-word_of-end
-slice_bounds-word_of-end c = search rules
-
 pub word_of-requires : goal.word_of-requires
 word_of-requires c =
-    let t = c.args.text.now in
-    let i = c.loop-i.i in
-    let two : 2 * (8 * i) ≡ 16 * i = omega arith in
-    let whole = all-part (8 * c.args.n) t c.requires.1 (8 * i) 8 (omega (arith, c.loop-i-test.true)) in (
-      omega (arith, ap length (tail (16 * i) t), length-drop (16 * i) t, c.requires.0, c.loop-i-test.true),
-      subst (λ (u : List ℕ). all_bytes (bytes_in 8 u) ≡ true) (ap (λ (k : ℕ). drop k t) two ∙ sym (tail (16 * i) t)) whole,
-    )
-
-pub overflow_add-row : goal.overflow_add-row
-overflow_add-row c = record { fits = omega (arith, c.requires, c.loop-i.invariant.within, c.loop-i.invariant.size, c.loop-i-test.true) }
-
-pub offset_bounds-row-from : goal.offset_bounds-row-from
-offset_bounds-row-from c = record { fits = omega (arith, c.requires, c.loop-i.invariant.within, c.loop-i.invariant.size, c.loop-i-test.true) }
-
-pub bounds-row-from : goal.bounds-row-from
-bounds-row-from c = omega (arith, c.requires, c.loop-i.invariant.within, c.loop-i.invariant.size, c.loop-i-test.true)
-
-pub overflow_add-i : goal.overflow_add-i
-overflow_add-i c = search rules
-
-pub loop-i-smaller : goal.loop-i-smaller
-loop-i-smaller c = omega (arith, c.loop-i-test.true)
+    let d = c.args.digits.now in
+    let f = c.as_chunks.ensures.front in
+    let h : c.loop-i.i < length d / 16 = omega (arith, c.loop-i-test.true, c.as_chunks.ensures.front_len) in
+    (sixteen d c.loop-i.i f h, all d c.loop-i.i f h c.requires.0)
 
 pub loop-i-preserved : goal.loop-i-preserved
 loop-i-preserved c =
-    let l = c.loop-i in
-    words_more l.invariant c.loop-i-test.true c.requires.2 (search rules)
-    (c.word_of.ensures ∙ ap (λ (u : List ℕ). word_of (bytes_in 8 u)) (tail (16 * l.i) c.args.text.now))
-
-pub shape_of-row : goal.shape_of-row
-shape_of-row c = c.loop-i.invariant.size
+    let d = c.args.digits.now in
+    let h : c.loop-i.i < length d / 16 = omega (arith, c.loop-i-test.true, c.as_chunks.ensures.front_len) in
+    words_more c.loop-i.invariant h c.requires.1 (search rules) (c.word_of.ensures ∙ ap word_of (bytes d c.loop-i.i c.as_chunks.ensures.front h))
 
 pub returns : goal.returns
-returns c = words-end c.loop-i.invariant (omega arith)
+returns c = words-end c.loop-i.invariant (omega (arith, c.loop-i-test.false, c.as_chunks.ensures.front_len))

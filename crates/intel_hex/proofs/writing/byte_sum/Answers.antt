@@ -10,15 +10,5 @@ overflow_add-twos c =
     let w = c.args.word in
     record { fits = omega (arith, c.spread.ensures, c.spread-2.ensures, spaced-under (w % 4294967296), spaced-under (w / 4294967296)) }
 
-pub overflow_add-fours : goal.overflow_add-fours
-overflow_add-fours c =
-    let w = c.args.word in
-    record { fits = omega (arith, c.spread.ensures, c.spread-2.ensures, spaced-under (w % 4294967296), spaced-under (w / 4294967296)) }
-
-pub overflow_add-result : goal.overflow_add-result
-overflow_add-result c =
-    let w = c.args.word in
-    record { fits = omega (arith, c.spread.ensures, c.spread-2.ensures, spaced-under (w % 4294967296), spaced-under (w / 4294967296)) }
-
 pub returns : goal.returns
 returns c = word_sum c.args.word _ _ (ap₂ ◌+◌ c.spread.ensures c.spread-2.ensures) refl

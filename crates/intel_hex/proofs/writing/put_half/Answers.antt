@@ -1,5 +1,5 @@
 -- `hex::writing::put_half` meets its contract: four pairs of characters, one behind the other.
-use mathlib.Core.Path.{refl, subst}
+use mathlib.Core.Path.{subst}
 use Prim.Native.Nat.{ℕ}
 use native.Mathlib.Omega.{arith}
 use Rattle.intel_hex.specs.Lanes.{Paired}
@@ -9,9 +9,8 @@ use Rattle.intel_hex.proofs.writing.put_half.Goals as goal
 
 pub returns : goal.returns
 returns c =
-    let a = c.args in
-    let two = follows c.put_pair.ensures c.put_pair-2.ensures refl (omega arith) in
-    let three = follows two c.put_pair-3.ensures (omega arith) (omega arith) in
-    let four = follows three c.put_pair-4.ensures (omega arith) (omega arith) in
+    let two = follows c.put_pair.ensures.0 c.put_pair-2.ensures.0 (omega arith) in
+    let three = follows two c.put_pair-3.ensures.0 (omega arith) in
+    let four = follows three c.put_pair-4.ensures.0 (omega arith) in
     let pairs = subst (λ (n : ℕ). Paired n c.characters-pairs.result) c.spread.ensures c.characters-pairs.ensures in
-    written_as four (half-text a.half c.characters-pairs.result pairs) (omega arith)
+    (written_as four (half-text c.args.half c.characters-pairs.result pairs), omega arith)
