@@ -1,5 +1,10 @@
 -- What each damaging line leaves and shows, from what its parts did.
-use Rattle.std.proofs.Common.{◌≡◌, ℕ, Bool, true, false, cond, List, take, sym, ap, ◌∙◌, subst}
+use Rattle.std.proofs.Common.{◌≡◌, ℕ, ◌<◌, ◌≤◌, Bool, true, false, cond, leb, List, ◌++◌, length, take, Option, Some, None, refl, sym, ap, ◌∙◌, length-set}
+use mathlib.Core.Logic.{◌⊎◌, inl, inr}
+use borrow.Author.Tests.{lt-leb}
+use Rattle.std.specs.Option.{MatchOption, is_some, unwrap_or, option_and}
+use Rattle.std.proofs.lemmas.List.{take_at}
+use Rattle.predicate.proofs.Bools.{chosen, passed_over, and-off, and-off-right}
 use Rattle.board.specs.declared.State.{State}
 use Rattle.board.specs.Board.{Board}
 use Rattle.board.specs.Next.{lent}
@@ -12,7 +17,7 @@ use Rattle.damage.specs.declared.Damaged.{Damaged}
 use Rattle.damage.specs.Record.{field_fits, field_put, word_there, word_put, worker_fits, worker_put, holder_fits, holder_put}
 use Rattle.damage.specs.Rows.{resized, word_fits, stored_if, Stored}
 use Rattle.damage.specs.Checksum.{checksum}
-use Rattle.damage.specs.Damages.{DamageOutcome, showing, answer_if, room_for, relengthened, outcome, in_use, left, SizesWithin}
+use Rattle.damage.specs.Damages.{DamageOutcome, showing, answer_if, room_for, relengthened, outcome, in_use, left}
 
 -- What the code leaves and shows, by its parts.
 pub by_parts : {r : Damaged} {state : State} {sizes : Sizes} {answer value : Shown} (m c : List ℕ) →
@@ -27,9 +32,32 @@ by_parts {r} {state} {sizes} {answer} {value} m c w =
 pub told-as : {d : Damage} {x : DamageOutcome} (b : Board) (k : Damage) → d ≡ k → x ≡ outcome k b → x ≡ outcome d b
 told-as b k told did = did ∙ ap (λ (y : Damage). outcome y b) (sym told)
 
--- Sizes that stay are within the room.
-pub kept-within : {s t : Sizes} → t ≡ s → SizesWithin s → SizesWithin t
-kept-within e h = subst SizesWithin (sym e) h
+-- The record put anew, if it can be.
+pub option-put : (o : Option State) (fits : Bool) (given old : State) → MatchOption o (fits ≡ false) (λ s. (fits ≡ true) × (s ≡ given)) →
+    (is_some o ≡ fits) × (unwrap_or o old ≡ cond fits given old)
+option-put None fits given old e = (sym e, sym (passed_over fits given old e))
+option-put (Some s) fits given old e = (sym e.0, e.1 ∙ sym (chosen fits given old e.0))
+
+-- The record stays, and it is told whether a word was put.
+pub and-put : (o : Option (Unit {0})) {r : Option State} {s : State} → r ≡ option_and o (Some s) → (unwrap_or r s ≡ s) × (is_some r ≡ is_some o)
+and-put None {r} {s} e = (ap (λ (x : Option State). unwrap_or x s) e, ap is_some e)
+and-put (Some u) {r} {s} e = (ap (λ (x : Option State). unwrap_or x s) e, ap is_some e)
+
+-- A row keeps its length.
+length-stored : (fits : Bool) (row : List ℕ) (i v : ℕ) → length (stored_if fits row i v) ≡ length row
+length-stored true row i v = length-set row i v
+length-stored false row i v = refl
+
+-- What was put into the first words of an array.
+pub stored-front : {fits : Bool} {row after : List ℕ} {i v : ℕ} {put : Bool} (n : ℕ) (rest : List ℕ) → length row ≡ n → Stored fits row i v put after →
+    Stored fits row i v put (take n (after ++ rest))
+stored-front {fits} {row} {after} {i} {v} n rest e w =
+    record { told = w.told; leaves = take_at after rest n (ap length w.leaves ∙ length-stored fits row i v ∙ e) ∙ w.leaves }
+
+-- Lengths past the room.
+pub room-off : (m c : ℕ) → (4104 < m) ⊎ ((m ≤ 4104) × (4104 < c)) → room_for m c ≡ false
+room-off m c (inl h) = and-off (leb m 4104) (leb c 4104) (lt-leb m 4104 h)
+room-off m c (inr h) = and-off-right (leb m 4104) (leb c 4104) (lt-leb c 4104 h.1)
 
 module _ (state : State) (s : Sizes) (m c : List ℕ) where
   pub lengths-put : (x y : ℕ) (m' c' : List ℕ) → room_for x y ≡ true → take x m' ≡ resized (take s.memory m) x →

@@ -1,20 +1,11 @@
--- Checksums of numbers one after the other, and the product that mixes one in.
-use Rattle.std.proofs.Common.{◌≡◌, ℕ, ◌+◌, ◌*◌, ◌/◌, ◌%◌, ◌^◌, ◌<◌, ◌≤◌, List, [], ◌∷◌, ◌++◌, length, get_or, drop, sym, refl, ap, ◌∙◌, add-one, arith, drop_of_length-le, drop-cons}
-use native.Mathlib.Nat.{mod-add-mod, mul-add-mod_self_right}
+-- Checksums of numbers one after the other.
+use Rattle.std.proofs.Common.{◌≡◌, ℕ, List, [], ◌∷◌, ◌++◌, length, get_or, sym, refl, ◌∙◌, arith}
+use Rattle.std.specs.List.{fold, range_with_len}
+use Rattle.board.specs.declared.State.{State}
+use Rattle.board.specs.declared.Worker.{Worker}
 use Rattle.board.specs.Board.{Board}
-use Rattle.damage.specs.Checksum.{mixed, summed, field_numbers, workers_numbers, dirty_numbers, holders_numbers, row_numbers, checksum}
-
--- The product by 2^40 + 435 mod 2^64, from the low 24 bits and two halves.
-pub spread-parts : (y : ℕ) →
-    ((y % 16777216 * 1099511627776 + y / 4294967296 * 435 % 4294967296 * 4294967296) % 2 ^ 64 + y % 4294967296 * 435) % 2 ^ 64 ≡ (y * 1099511628211) % 2 ^ 64
-spread-parts y =
-    let far = y % 16777216 * 1099511627776 in
-    let high = y / 4294967296 * 435 % 4294967296 * 4294967296 in
-    let low = y % 4294967296 * 435 in
-    let over = y / 16777216 + y / 4294967296 * 435 / 4294967296 in
-    let whole : y * 1099511628211 ≡ over * 2 ^ 64 + (far + high + low) = omega arith in
-    mod-add-mod (far + high) (2 ^ 64) low
-    ∙ sym (ap (λ (n : ℕ). n % 2 ^ 64) whole ∙ mul-add-mod_self_right over (2 ^ 64) (far + high + low))
+use Rattle.board.specs.State.{free_worker}
+use Rattle.damage.specs.Checksum.{mixed, summed, field_numbers, condition_numbers, worker_numbers, workers_numbers, dirty_numbers, holder_number, holders_numbers, row_numbers, checksum}
 
 -- Numbers in two parts.
 pub summed-append : (h : ℕ) (xs ys : List ℕ) → summed h (xs ++ ys) ≡ summed (summed h xs) ys
@@ -22,43 +13,11 @@ unfolding summed
 summed-append h [] ys = refl
 summed-append h (x ∷ xs) ys = summed-append (mixed h x) xs ys
 
--- ---- a row mixed in word by word
-
--- The words from `i` on, mixed into what is reached, give the whole sum.
-pub record Mixing (whole : ℕ) (row : List ℕ) (reached i : ℕ) : Type 0 where
-  pub within : i ≤ length row
-  pub rest : whole ≡ summed reached (drop i row)
-
--- Before the first word.
-pub mixing-none : (reached : ℕ) (row : List ℕ) → Mixing (summed reached row) row reached 0
-mixing-none reached row = record { within = omega arith; rest = refl }
-
--- The same once the row's length is mixed in.
-pub mixing-row : {reached : ℕ} (h : ℕ) (row : List ℕ) → reached ≡ mixed h (length row) → Mixing (summed h (row_numbers row)) row reached 0
+-- Numbers folded one after the other.
+pub fold-summed : (h : ℕ) (xs : List ℕ) → fold mixed h xs ≡ summed h xs
 unfolding summed
-mixing-row h row e = record { within = omega arith; rest = ap (λ (x : ℕ). summed x row) (sym e) }
-
--- A word more.
-pub mixing-more : {whole reached i next : ℕ} {row : List ℕ} → Mixing whole row reached i → i < length row → next ≡ mixed reached (get_or row i 0) →
-    Mixing whole row next (i + 1)
-unfolding summed
-mixing-more {whole} {reached} {i} {next} {row} m h e =
-    record {
-      within = omega arith;
-      rest = m.rest
-          ∙ ap (summed reached) (drop-cons row i 0 h)
-          ∙ ap (λ (k : ℕ). summed (mixed reached (get_or row i 0)) (drop k row)) (sym (add-one i))
-          ∙ ap (λ (x : ℕ). summed x (drop (i + 1) row)) (sym e);
-    }
-
--- All of them.
-pub mixing-all : {whole reached i : ℕ} {row : List ℕ} → Mixing whole row reached i → length row ≤ i → reached ≡ whole
-unfolding summed
-mixing-all {whole} {reached} {i} {row} m past = sym (m.rest ∙ ap (summed reached) (drop_of_length-le row past))
-
--- Four parts, one after the other.
-pub four-parts : (h : ℕ) (a b c d : List ℕ) → summed h (a ++ b ++ c ++ d) ≡ summed (summed (summed (summed h a) b) c) d
-four-parts h a b c d = simp summed-append
+fold-summed h [] = refl
+fold-summed h (x ∷ xs) = fold-summed (mixed h x) xs
 
 -- Six parts.
 six-parts : (h : ℕ) (a b c d e f : List ℕ) → summed h (a ++ b ++ c ++ d ++ e ++ f) ≡ summed (summed (summed (summed (summed (summed h a) b) c) d) e) f
@@ -68,6 +27,35 @@ six-parts h a b c d e f = simp summed-append
 pub eight-parts : (h : ℕ) (a b c d e f g i : List ℕ) →
     summed h (a ++ b ++ c ++ d ++ e ++ f ++ g ++ i) ≡ summed (summed (summed (summed (summed (summed (summed (summed h a) b) c) d) e) f) g) i
 eight-parts h a b c d e f g i = simp summed-append
+
+-- A worker's numbers more.
+abbrev pub with_worker : ℕ → Worker → ℕ
+with_worker h w = summed h (condition_numbers w.condition)
+
+-- Eight workers folded one after the other.
+fold-eight : (l : List Worker) (d : Worker) (h : ℕ) → length l ≡ 8 → fold with_worker h l ≡
+    with_worker (with_worker (with_worker (with_worker (with_worker (with_worker (with_worker (with_worker h (get_or l 0 d)) (get_or l 1 d)) (get_or l 2 d)) (get_or l 3 d)) (get_or l 4 d)) (get_or l 5 d)) (get_or l 6 d)) (get_or l 7 d)
+fold-eight [] z h n = absurd (omega arith)
+fold-eight (a ∷ []) z h n = absurd (omega arith)
+fold-eight (a ∷ b ∷ []) z h n = absurd (omega arith)
+fold-eight (a ∷ b ∷ c ∷ []) z h n = absurd (omega arith)
+fold-eight (a ∷ b ∷ c ∷ d ∷ []) z h n = absurd (omega arith)
+fold-eight (a ∷ b ∷ c ∷ d ∷ e ∷ []) z h n = absurd (omega arith)
+fold-eight (a ∷ b ∷ c ∷ d ∷ e ∷ f ∷ []) z h n = absurd (omega arith)
+fold-eight (a ∷ b ∷ c ∷ d ∷ e ∷ f ∷ g ∷ []) z h n = absurd (omega arith)
+fold-eight (a ∷ b ∷ c ∷ d ∷ e ∷ f ∷ g ∷ i ∷ []) z h n = refl
+fold-eight (a ∷ b ∷ c ∷ d ∷ e ∷ f ∷ g ∷ i ∷ j ∷ more) z h n = absurd (omega arith)
+
+pub workers-folded : (h : ℕ) (s : State) → length s.worker ≡ 8 → fold with_worker h s.worker ≡ summed h (workers_numbers s)
+unfolding workers_numbers
+workers-folded h s n =
+    fold-eight s.worker free_worker h n
+    ∙ sym (eight-parts h (worker_numbers s 0) (worker_numbers s 1) (worker_numbers s 2) (worker_numbers s 3) (worker_numbers s 4) (worker_numbers s 5) (worker_numbers s 6) (worker_numbers s 7))
+
+-- The sixteen holders folded one after the other.
+pub holders-folded : (h : ℕ) (s : State) → fold (λ a k. mixed a (holder_number s.holders k)) h (range_with_len 0 16) ≡ summed h (holders_numbers s)
+unfolding summed holders_numbers
+holders-folded h s = refl
 
 -- Everything, part by part.
 pub checksum-parts : (b : Board) →

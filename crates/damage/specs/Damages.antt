@@ -93,11 +93,6 @@ in_use state sizes memory cache = lent state (take sizes.memory memory) (take si
 abbrev pub left : Damaged → List ℕ → List ℕ → DamageOutcome
 left r memory cache = showing (in_use r.state r.sizes memory cache) r.answer r.value
 
--- The words in use are within the room.
-pub record SizesWithin (s : Sizes) : Type 0 where
-  pub memory-within : s.memory ≤ 4104
-  pub cache-within : s.cache ≤ 4104
-
 -- The arrays have the room.
 pub record HasRoom (memory cache : List ℕ) : Type 0 where
   pub memory-room : 4104 ≤ length memory

@@ -1,12 +1,13 @@
 -- Why a line of the script is answered `?`, by the first reason that fits it. Document 01 fixes what standard output has of
 -- such a line; what is said of it on standard error is ours.
-use Rattle.std.specs.Prelude.{ℕ, ◌≡◌, List, [], ◌∷◌, ◌++◌, map, Bool, true, false, cond, not, ◌&&◌, ◌||◌, ltb, eqb, length, drop, get_or, replicate}
+use Rattle.std.specs.Prelude.{ℕ, ◌≡◌, List, [], ◌∷◌, ◌++◌, map, Bool, true, false, cond, not, ◌&&◌, ◌||◌, ltb, eqb, length, drop, get_or, replicate, Result, MatchResult}
 use Rattle.script.specs.declared.Line.{Line}
 use Rattle.script.specs.declared.Line.TheVariants as line
 use Rattle.script.specs.declared.Program.{Program}
 use Rattle.script.specs.declared.Program.TheVariants.{Drill, Fault, Page, Hex}
 use Rattle.script.specs.declared.Reason.{Reason}
 use Rattle.script.specs.declared.Reason.TheVariants.{Long, ByteOrderMark, CarriageReturn, Blanks, Empty, Letter, Past, NoNumber, Count, Unfit}
+use Rattle.script.specs.declared.reasons.UnknownReason.{UnknownReason}
 use Rattle.text.specs.Numbers.{all_digits}
 use Rattle.text.specs.Ascii.{blank, 'A', 'B', 'C', 'E', 'F', 'G', 'H', 'K', 'M', 'N', 'O', 'P', 'Q', 'R', 'S', 'T', 'U', 'V', 'W', 'X', 'Y', 'a', 'b', 'f', 'h', 'n', 'p', 'y'}
 use Rattle.script.specs.Grammar.{is_number, command}
@@ -98,6 +99,10 @@ reason_number Past = 7
 reason_number NoNumber = 8
 reason_number Count = 9
 reason_number Unfit = 10
+
+-- The reason with a number, or an error with a number that no reason has.
+abbrev pub Decodes : ℕ → Result Reason UnknownReason → Type 0
+Decodes number r = MatchResult r (λ why. reason_number why ≡ number) (λ e. (e.0 ≡ number) × ((why : Reason) → reason_number why ≡ number → ⊥))
 
 -- ---- what is claimed of the letters
 

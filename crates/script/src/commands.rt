@@ -1,13 +1,17 @@
 // What a letter with its numbers asks for (document 01, "The drill program"). A letter that is not the drill's asks for
 // `other`: what it asks for in the program at hand.
-ghost use Rattle.std.specs.Prelude.{◌≡◌, List, [], ◌∷◌};
-ghost use Rattle.script.specs.Grammar.{drilled, meaning};
-ghost use Rattle.script.specs.Fields.{drilled_of, further_of, command_of};
+#![tactic(auto, unfolding(crate::specs::Grammar::drilled))]
+
+ghost use Rattle.std.specs.Prelude.{◌≡◌, [], ◌∷◌, MatchOption};
+ghost use Rattle.script.specs.declared.Line.TheVariants.{Unknown};
+ghost use Rattle.script.specs.Grammar.{drilled, further, command, fields, formed, meaning};
 
 use crate::damages::damaging;
-use crate::fields::{field_end, numbers};
-use crate::{Line, Numbers, Program};
+use crate::fields::{first_letter, read_numbers};
+use crate::{Line, Program};
 use board::Call;
+
+// The letters by how many numbers they take: one match of all, by letter and numbers, would pass forty lines.
 
 // "C (request), S (step), X (cut), R (recovery's start)".
 fn with_none(letter: u8, other: Line) -> Line
@@ -85,51 +89,55 @@ fn with_three(letter: u8, a: u64, b: u64, c: u64, other: Line) -> Line
     }
 }
 
-// The drill's letters with the numbers read.
-fn with_numbers(letter: u8, got: Numbers, other: Line) -> Line
-    ensures { result ≡ drilled_of letter got other }
+// What a letter of the drill with its numbers asks for; any other letter asks for `other`.
+fn drilled(letter: u8, numbers: &[u64], other: Line) -> Line
+    ensures { result ≡ drilled letter numbers.now other }
 {
-    match got {
-        Numbers::Zero => with_none(letter, other),
-        Numbers::One(a) => with_one(letter, a, other),
-        Numbers::Two(a, b) => with_two(letter, a, b, other),
-        Numbers::Three(a, b, c) => with_three(letter, a, b, c, other),
-        Numbers::Four(_, _, _, _) => other,
-        Numbers::Five(_, _, _, _, _) => other,
-        Numbers::Bad => Line::Unknown,
+    match numbers {
+        [] => with_none(letter, other),
+        [a] => with_one(letter, *a, other),
+        [a, b] => with_two(letter, *a, *b, other),
+        [a, b, c] => with_three(letter, *a, *b, *c, other),
+        _ => other,
     }
 }
 
-// What a letter that is not the drill's asks for in a program.
-fn further(program: Program, letter: u8, got: Numbers) -> Line
-    ensures { result ≡ further_of program letter got }
-{
-    match program {
-        Program::Drill => Line::Unknown,
-        Program::Fault => damaging(letter, got),
-        Program::Page => Line::Unknown,
-        Program::Hex => Line::Unknown,
+impl Program {
+    // What a letter that is not the drill's asks for.
+    fn further(self, letter: u8, numbers: &[u64]) -> Line
+        ensures { result ≡ further self letter numbers.now }
+    {
+        match self {
+            Program::Fault => damaging(letter, numbers),
+            Program::Drill | Program::Page | Program::Hex => Line::Unknown,
+        }
+    }
+
+    // What a letter with its numbers asks for.
+    fn command(self, letter: u8, numbers: &[u64]) -> Line
+        ensures { result ≡ command self letter numbers.now }
+    {
+        drilled(letter, numbers, self.further(letter, numbers))
     }
 }
 
-// What a letter with the numbers read asks for in a program.
-fn asked(program: Program, letter: u8, got: Numbers) -> Line
-    ensures { result ≡ command_of program letter got }
+// What a line's fields ask for, where the first is a letter and the others are numbers.
+#[tactic(auto, using(crate::proofs::NumberLaws::formed_no_letter, crate::proofs::NumberLaws::formed_no_numbers, crate::proofs::NumberLaws::formed_lettered))]
+fn asked(program: Program, line: &[u8]) -> Option<Line>
+    ensures { MatchOption result (formed program (fields line.now) ≡ Unknown) (λ asks. asks ≡ formed program (fields line.now)) }
 {
-    let other = further(program, letter, got);
-    with_numbers(letter, got, other)
+    let letter = first_letter(line)?;
+    let numbers = read_numbers(line)?;
+    Some(program.command(letter, numbers.as_slice()))
 }
 
 // What a line of the script, without its line feed, asks for in a program.
+#[tactic(auto, unfolding(crate::specs::Grammar::meaning))]
 pub fn parse(program: Program, line: &[u8]) -> Line
     ensures { result ≡ meaning program line.now }
 {
     if line.len() > 79 {
         return Line::Unknown;
     }
-    if field_end(line, 0) != 1 {
-        return Line::Unknown;
-    }
-    let letter = line[0];
-    asked(program, letter, numbers(line, 1))
+    asked(program, line).unwrap_or(Line::Unknown)
 }

@@ -1,9 +1,10 @@
 // What the letters ask for that only the fault program has.
+#![tactic(auto, unfolding(crate::specs::Grammar::damaging))]
+
 ghost use Rattle.std.specs.Prelude.{◌≡◌, [], ◌∷◌};
 ghost use Rattle.script.specs.Grammar.{damaging};
-ghost use Rattle.script.specs.Fields.{damaging_of};
 
-use crate::{Damage, Line, Numbers, TextWork};
+use crate::{Damage, Line, TextWork};
 use board::Call;
 
 // "T", "n".
@@ -38,15 +39,6 @@ fn with_one(letter: u8, a: u64) -> Line
             call: Call::ComeBack { worker: a },
         },
         _ => Line::Unknown,
-    }
-}
-
-// "Y i v".
-fn text_put(at: u64, byte: u64) -> Line
-    ensures { result ≡ Line.Text (TextWork.Put at byte) }
-{
-    Line::Text {
-        work: TextWork::Put { at, byte },
     }
 }
 
@@ -85,7 +77,9 @@ fn with_two(letter: u8, a: u64, b: u64) -> Line
         b'O' => Line::Damage {
             damage: Damage::Holder { lock: a, holder: b },
         },
-        b'Y' => text_put(a, b),
+        b'Y' => Line::Text {
+            work: TextWork::Put { at: a, byte: b },
+        },
         _ => Line::Unknown,
     }
 }
@@ -108,17 +102,15 @@ fn with_five(letter: u8, a: u64, b: u64, c: u64, d: u64, e: u64) -> Line
     }
 }
 
-// The fault program's own letters with the numbers read.
-pub fn damaging(letter: u8, got: Numbers) -> Line
-    ensures { result ≡ damaging_of letter got }
+// The fault program's own letters with their numbers.
+pub fn damaging(letter: u8, numbers: &[u64]) -> Line
+    ensures { result ≡ damaging letter numbers.now }
 {
-    match got {
-        Numbers::Zero => with_none(letter),
-        Numbers::One(a) => with_one(letter, a),
-        Numbers::Two(a, b) => with_two(letter, a, b),
-        Numbers::Three(_, _, _) => Line::Unknown,
-        Numbers::Four(_, _, _, _) => Line::Unknown,
-        Numbers::Five(a, b, c, d, e) => with_five(letter, a, b, c, d, e),
-        Numbers::Bad => Line::Unknown,
+    match numbers {
+        [] => with_none(letter),
+        [a] => with_one(letter, *a),
+        [a, b] => with_two(letter, *a, *b),
+        [a, b, c, d, e] => with_five(letter, *a, *b, *c, *d, *e),
+        _ => Line::Unknown,
     }
 }

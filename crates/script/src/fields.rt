@@ -1,94 +1,108 @@
 // The fields of a line and the decimal numbers in them.
-ghost use Rattle.std.specs.Prelude.{◌≡◌, ◌+◌, ◌≤◌, length, drop};
-ghost use Rattle.script.specs.Fields.{first, number_of, added, with_field, numbers_of, later};
+ghost use Rattle.std.specs.Prelude.{◌≡◌, ◌==◌, ◌-◌, ◌<◌, ◌≤◌, ◌++◌, ℕ, List, [], ◌∷◌, length, take, drop, true, false, MatchOption};
+ghost use Rattle.std.specs.Char.{is_ascii_digit};
+ghost use Rattle.text.specs.Ascii.{tab};
+ghost use Rattle.script.specs.Grammar.{fields};
+ghost use Rattle.script.specs.Fields.{lone_letter, number_of, numbers_of};
 
-use crate::{Number, Numbers};
+use std::marker::Model;
 
-// Where the field that starts at `at` ends: at the next tab or the line's end.
-pub fn field_end(line: &[u8], at: usize) -> usize
-    requires { at ≤ length line.now }
-    ensures { (result ≡ at + length (first (drop at line.now))) × (at ≤ result) × (result ≤ length line.now) }
+// What parts the fields of a line.
+pub fn is_tab(byte: &u8) -> bool
+    ensures { result ≡ (byte.now == tab) }
 {
-    let mut i = at;
-    while i < line.len() {
-        if line[i] == b'\t' {
-            return i;
-        }
-        i += 1;
+    *byte == b'\t'
+}
+
+// The letter that a line begins with: its first field, where that is one byte.
+#[tactic(auto, unfolding(crate::specs::Grammar::fields, crate::specs::Fields::lone_letter))]
+pub fn first_letter(line: &[u8]) -> Option<u8>
+    ensures { result ≡ lone_letter (fields line.now) }
+{
+    match line {
+        [b'\t', ..] => None,
+        [letter] | [letter, b'\t', ..] => Some(*letter),
+        _ => None,
     }
-    i
+}
+
+// A decimal digit's number.
+fn digit(byte: u8) -> Option<u64>
+    ensures { MatchOption result (is_ascii_digit byte ≡ false) (λ d. (is_ascii_digit byte ≡ true) × (d ≡ byte - 48)) }
+{
+    if byte.is_ascii_digit() {
+        Some(u64::from(byte - b'0'))
+    } else {
+        None
+    }
 }
 
 // A field as a decimal number: one or more digits, not past 2^64 − 1.
-pub fn number(field: &[u8]) -> Number
+pub fn decimal(field: &[u8]) -> Option<u64>
     ensures { result ≡ number_of field.now }
 {
-    let mut value: u64 = 0;
-    let mut i = 0;
-    if field.len() == 0 {
-        return Number::Bad;
+    if field.is_empty() {
+        return None;
     }
-    while i < field.len() {
-        let byte = field[i];
-        if byte < b'0' {
-            return Number::Bad;
+    let mut value = 0u64;
+    for byte in field {
+        value = value.checked_mul(10)?.checked_add(digit(*byte)?)?;
+    }
+    Some(value)
+}
+
+// The numbers behind a line's letter, five at most. No heap is used, so an array has them, and a count how many there are;
+// both are private, and outside it is a list.
+#[derive(Drop)]
+pub struct Numbers {
+    values: [u64; 5],
+    count: usize,
+}
+
+impl Model for Numbers {
+    ghost Value = { List ℕ };
+
+    ghost view = { λ n. take n.count n.values };
+
+    ghost invariant = { λ n. n.count ≤ 5 };
+}
+
+impl Numbers {
+    fn new() -> Self
+        ensures { result ≡ [] }
+    {
+        Numbers {
+            values: [0; 5],
+            count: 0,
         }
-        if byte > b'9' {
-            return Number::Bad;
+    }
+
+    // One number more; none where there are five already.
+    fn push(&mut self, number: u64) -> Option<()>
+        ensures { MatchOption result (length self.old ≡ 5) (λ _. (length self.old < 5) × (self.new ≡ self.old ++ number ∷ [])) }
+    {
+        if self.count == self.values.len() {
+            return None;
         }
-        let digit = wide(byte - b'0');
-        if value > (18446744073709551615 - digit) / 10 {
-            return Number::Bad;
-        }
-        value = 10 * value + digit;
-        i += 1;
+        self.values[self.count] = number;
+        self.count += 1;
+        Some(())
     }
-    Number::Value(value)
-}
 
-fn wide(x: u8) -> u64
-    ensures { result ≡ x }
-{
-    x as u64
-}
-
-// One number more.
-fn add(got: Numbers, n: u64) -> Numbers
-    ensures { result ≡ added got n }
-{
-    match got {
-        Numbers::Zero => Numbers::One(n),
-        Numbers::One(a) => Numbers::Two(a, n),
-        Numbers::Two(a, b) => Numbers::Three(a, b, n),
-        Numbers::Three(a, b, c) => Numbers::Four(a, b, c, n),
-        Numbers::Four(a, b, c, d) => Numbers::Five(a, b, c, d, n),
-        Numbers::Five(_, _, _, _, _) => Numbers::Bad,
-        Numbers::Bad => Numbers::Bad,
+    pub fn as_slice(&self) -> &[u64]
+        ensures { result.now ≡ self.now }
+    {
+        &self.values[..self.count]
     }
 }
 
-// One field more.
-fn with_field(got: Numbers, field: Number) -> Numbers
-    ensures { result ≡ with_field got field }
+// The numbers in the fields behind the first; none where a field is no number, or there are more than five.
+pub fn read_numbers(line: &[u8]) -> Option<Numbers>
+    ensures { result ≡ numbers_of (drop 1 (fields line.now)) }
 {
-    match field {
-        Number::Value(n) => add(got, n),
-        Number::Bad => Numbers::Bad,
+    let mut numbers = Numbers::new();
+    for field in line.split(is_tab).skip(1) {
+        numbers.push(decimal(field)?)?;
     }
-}
-
-// The fields from a tab at `start` to the line's end.
-pub fn numbers(line: &[u8], start: usize) -> Numbers
-    requires { start ≤ length line.now }
-    ensures { result ≡ numbers_of Numbers.Zero (later (drop start line.now)) }
-{
-    let mut got = Numbers::Zero;
-    let mut at = start;
-    while at < line.len() {
-        let end = field_end(line, at + 1);
-        let field = number(&line[at + 1..end]);
-        got = with_field(got, field);
-        at = end;
-    }
-    got
+    Some(numbers)
 }

@@ -6,16 +6,17 @@ mod answer;
 mod commands;
 mod damages;
 mod fields;
+mod names;
 mod reasons;
 
 pub use answer::{header, letter, put_answer};
 use board::Call;
 pub use commands::parse;
-pub use fields::number as decimal;
-pub use reasons::{number_of as reason_number, why};
+pub use fields::decimal;
+pub use reasons::{UnknownReason, reason_number, why};
 
 // The programs, each with its letters.
-#[derive(Clone, Copy)]
+#[derive(Clone, Copy, PartialEq, Eq)]
 pub enum Program {
     Drill,
     Fault,
@@ -24,7 +25,8 @@ pub enum Program {
 }
 
 // What a line of the script asks for: a format to the end, one call of the board, one call whose value is shown, a cut,
-// damage, a page in a text row of `room` bytes, work with the text, or nothing that is known.
+// damage, a page in a text row of `room` bytes, work with the text, or nothing that is known: that is a line as any other,
+// which is answered, by `?`, and no absence of one.
 #[derive(Clone, Copy)]
 pub enum Line {
     Format { lines: u64, workers: u64 },
@@ -88,9 +90,9 @@ pub enum TextWork {
 // Why a line is answered `?`: over 79 bytes, a byte-order mark at its start, a carriage return, blanks where tabs belong,
 // nothing in it, a letter that the program has not, a number past 2^64 − 1, a field that is no number, too few or too many
 // numbers; or, in the fault program, a number that cannot be put where it is to go.
-#[derive(Clone, Copy)]
+#[derive(Clone, Copy, PartialEq, Eq)]
 pub enum Reason {
-    Long,
+    Long = 1,
     ByteOrderMark,
     CarriageReturn,
     Blanks,
@@ -102,29 +104,10 @@ pub enum Reason {
     Unfit,
 }
 
-// What stands in the column of the answer or the value: `?`, `-` or a number.
+// What stands in the column of the answer or the value: `?`, `-` or a number; two of the three are words of the format.
 #[derive(Clone, Copy)]
 pub enum Shown {
     Unknown,
     Nothing,
     Number(u64),
-}
-
-// What one field is.
-#[derive(Clone, Copy)]
-pub enum Number {
-    Value(u64),
-    Bad,
-}
-
-// What the fields after the letter are: up to five numbers.
-#[derive(Clone, Copy)]
-enum Numbers {
-    Zero,
-    One(u64),
-    Two(u64, u64),
-    Three(u64, u64, u64),
-    Four(u64, u64, u64, u64),
-    Five(u64, u64, u64, u64, u64),
-    Bad,
 }

@@ -1,8 +1,12 @@
--- `damage::checksum::mix_workers` meets its contract.
-use Rattle.damage.specs.Checksum.{workers_numbers}
-use Rattle.damage.proofs.Sums.{eight-parts}
+-- `damage::checksum::mix_workers` meets its contract: one worker after the other.
+use Rattle.std.proofs.Common.{◌∙◌, arith, rules, tests}
+use Rattle.std.proofs.lemmas.Iterator.{YieldsList-from_slice}
+use Rattle.std.proofs.lemmas.Iterator.Consumers.{fold_from_yields_List}
+use Rattle.damage.proofs.Sums.{with_worker, workers-folded}
 use Rattle.damage.proofs.checksum.mix_workers.Goals as goal
 
 pub returns : goal.returns
-unfolding workers_numbers
-returns c = rw (eight-parts, c.mix_worker.ensures, c.mix_worker-g.ensures, c.mix_worker-f.ensures, c.mix_worker-e.ensures, c.mix_worker-d.ensures, c.mix_worker-c.ensures, c.mix_worker-b.ensures, c.mix_worker-a.ensures)
+returns c =
+    let a = c.args in
+    fold_from_yields_List _ with_worker a.sum c.fold.result c.fold.ensures.ran (YieldsList-from_slice a.state.worker cc) (λ h x b q k. search (rules, tests))
+    ∙ workers-folded a.sum a.state (omega arith)

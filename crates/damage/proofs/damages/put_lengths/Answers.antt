@@ -1,40 +1,18 @@
--- `damage::damages::put_lengths` meets its contract: the new lengths are within the room.
-use Rattle.std.proofs.Common.{◌≡◌, ℕ, Bool, true, sym, ◌∙◌, arith}
-use Rattle.damage.specs.Damages.{room_for}
-use Rattle.damage.proofs.Fits.{room-bounds}
-use Rattle.damage.proofs.Arms.{by_parts, kept-within, lengths-put, lengths-off}
+-- `damage::damages::put_lengths` meets its contract: the new lengths are within the room, or all stays.
+use Rattle.std.proofs.Common.{◌∙◌, leb, le-leb}
+use Rattle.predicate.proofs.Bools.{and_both}
+use Rattle.damage.proofs.Arms.{by_parts, lengths-put, lengths-off, room-off}
 use Rattle.damage.proofs.damages.put_lengths.Goals as goal
 
--- There is room for the new lengths.
-abbrev roomed : (m c : ℕ) {found : Bool} → found ≡ room_for m c → found ≡ true → room_for m c ≡ true
-roomed m c e h = sym e ∙ h
-
-pub resize-requires : goal.resize-requires
-resize-requires c =
-    let fits = room-bounds c.args.m c.args.c (roomed c.args.m c.args.c c.has_room.ensures c.if-has_room.true) in
-    (omega (arith, c.requires.0.memory-within, c.requires.1.memory-room), omega (arith, c.requires.1.memory-room))
-
-pub resize-requires-then-has_room : goal.resize-requires-then-has_room
-resize-requires-then-has_room c =
-    let fits = room-bounds c.args.m c.args.c (roomed c.args.m c.args.c c.has_room.ensures c.if-has_room.true) in
-    (omega (arith, c.requires.0.cache-within, c.requires.1.cache-room), omega (arith, c.requires.1.cache-room))
-
-pub returns-then-has_room : goal.returns-then-has_room
-returns-then-has_room c =
-    let m' = c.resize in
-    let c' = c.resize-then-has_room in
+pub returns-then-m-gt4104 : goal.returns-then-m-gt4104
+returns-then-m-gt4104 c =
     let a = c.args in
-    let room = roomed c.args.m c.args.c c.has_room.ensures c.if-has_room.true in
-    let fits = room-bounds a.m a.c room in record {
-      done = by_parts m'.new.row c'.new.row c.shown.ensures
-          ∙ lengths-put a.state a.sizes a.memory.now a.cache.now a.m a.c m'.new.row c'.new.row room m'.ensures c'.ensures;
-      sizes_within = kept-within c.shown.ensures.1 (record { memory-within = fits.0; cache-within = fits.1 });
-    }
+    by_parts a.memory.now a.cache.now c.answered.ensures
+    ∙ lengths-off a.state a.sizes a.memory.now a.cache.now a.m a.c (room-off a.m a.c c.then-m-gt4104.either)
 
 pub returns : goal.returns
 returns c =
-    let a = c.args in record {
-      done = by_parts a.memory.now a.cache.now c.shown-2.ensures
-          ∙ lengths-off a.state a.sizes a.memory.now a.cache.now a.m a.c (sym c.has_room.ensures ∙ c.if-has_room.false);
-      sizes_within = kept-within c.shown-2.ensures.1 c.requires.0;
-    }
+    let a = c.args in
+    let room = and_both (leb a.m 4104) (leb a.c 4104) (le-leb a.m 4104 c.if-m-gt4104.false) (le-leb a.c 4104 c.if-c-gt4104.false) in
+    by_parts c.resize.new.row c.resize-2.new.row c.answered-2.ensures
+    ∙ lengths-put a.state a.sizes a.memory.now a.cache.now a.m a.c c.resize.new.row c.resize-2.new.row room c.resize.ensures c.resize-2.ensures
