@@ -1,5 +1,5 @@
 -- What is shown of a HEX text, from what reading it, its recovery and its page left.
-use Rattle.std.proofs.Common.{◌≡◌, ℕ, ◌*◌, ◌%◌, ◌≤◌, ◌&&◌, eqb, leb, List, [], ◌++◌, length, take, drop, replicate, sym, refl, ap, ◌∙◌, subst, arith, take_all, eq-eqb, ne_eqb, leb-true}
+use Rattle.std.proofs.Common.{◌≡◌, ℕ, ◌*◌, ◌%◌, ◌≤◌, ◌&&◌, eqb, leb, List, [], ◌++◌, length, take, drop, replicate, sym, refl, ap, ◌∙◌, subst, arith, eq-eqb, ne_eqb, leb-true}
 use lib.ListN.{length-replicate}
 use Rattle.board.specs.declared.State.{State}
 use Rattle.board.specs.declared.Phase.TheVariants.{Off}
@@ -14,19 +14,10 @@ use Rattle.board.proofs.Laws.Taken.{numbered, Clear, first-clear}
 use Rattle.predicate.proofs.Bools.{chosen, passed_over, and_left, and_right, not-off, or_left}
 use Rattle.text.specs.Writing.{Put}
 use Rattle.text.proofs.Writing.{put_front}
-use Rattle.session.proofs.Rows.{part-back, take-replicate}
-use Rattle.console.specs.declared.display.Displayed.{Displayed}
+use Rattle.session.proofs.Parts.{part-back, take-replicate}
 use Rattle.console.specs.Printing.{Printed, printing, printed_of}
 use Rattle.console.specs.Display.{words_for, row_for, unrecovered, recovered, header_line, board_shown, memory_shown, text_shown}
 use Rattle.console.proofs.Recovered.{all-steps, start-lines}
-
--- Nothing is shown of what is refused.
-pub refused-shown : {r : Displayed} {n : ℕ} (heading row : List ℕ) → (r.number ≡ n) × (r.heading ≡ 0) × (r.bytes ≡ 0) →
-    printing r.number (take r.heading heading ++ take r.bytes row) ≡ printing n []
-refused-shown {r} {n} heading row w =
-    ap (λ (k : ℕ). printing k (take r.heading heading ++ take r.bytes row)) w.0
-    ∙ ap (λ (k : ℕ). printing n (take k heading ++ take r.bytes row)) w.1
-    ∙ ap (λ (k : ℕ). printing n (take k row)) w.2
 
 -- ---- recovery
 
@@ -93,12 +84,6 @@ module _ (b : Board) (number : ℕ) (text : List ℕ) (printed : printing number
       ∙ ap (λ (l : List ℕ). printing (printed_of b).number (l ++ text)) e
       ∙ ap (λ (p : Printed). printing (printed_of b).number (header_line b.memory ++ p.text)) printed
       ∙ ap (printing (printed_of b).number) (sym (chosen (eqb (printed_of b).number 0) _ _ (eq-eqb _ 0 (sym told ∙ none))))
-
--- The whole rows in use are the rows.
-pub whole-rows : (state : State) (words : ℕ) (memory cache : List ℕ) → length memory ≡ words → length cache ≡ words →
-    lent state (take words memory) (take words cache) ≡ lent state memory cache
-whole-rows state words memory cache hm hc =
-    ap (λ (m : List ℕ). lent state m (take words cache)) (take_all words memory (omega arith)) ∙ ap (lent state memory) (take_all words cache (omega arith))
 
 -- The header's line, written at the front of its row.
 pub line-front : {row line after : List ℕ} {end : ℕ} → Put row 0 line after end → end ≤ 75 → length row ≡ 75 → take end after ≡ line

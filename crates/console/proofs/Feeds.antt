@@ -1,7 +1,7 @@
 -- Where a line ends, and what is kept of a line that goes on.
-use Rattle.std.proofs.Common.{◌≡◌, ℕ, zero, suc, ◌+◌, ◌-◌, ◌<◌, ◌≤◌, Bool, true, not, ◌&&◌, eqb, List, [], ◌++◌, length, get_or, take, drop, sym, ap, ◌∙◌, append_assoc, append-nil, arith, length-drop, drop_of_length-le, length-take-le, take_all, drop-cons, drop-drop, eq-eqb, ne_eqb}
-use lib.Seq.{drop-length, take-append-add, take-length}
-use borrow.Rule.Slice.PartMut.{mid_of, put_mid}
+use Rattle.std.proofs.Common.{◌≡◌, ℕ, zero, suc, ◌+◌, ◌-◌, ◌<◌, ◌≤◌, Bool, true, not, ◌&&◌, eqb, List, ◌++◌, length, get_or, take, drop, sym, ap, ◌∙◌, append_assoc, arith, drop_of_length-le, length-take-le, drop-cons, drop-drop, eq-eqb, ne_eqb}
+use lib.Seq.{take-append-add}
+use borrow.Rule.Slice.PartMut.{put_mid}
 use Rattle.predicate.proofs.Bools.{clash, and_left, and_right, not-of}
 use Rattle.console.specs.Bytes.{index_of, index_after}
 use Rattle.text.specs.Ascii.{feed}
@@ -49,18 +49,13 @@ quiet-later s i (suc n) h t =
 
 -- ---- what is kept of a line
 
--- A text copied to the front of what lies behind `at` is the text written there.
-pub appended : (row : List ℕ) (at : ℕ) (text last : List ℕ) → at + length text ≤ length row →
-    last ≡ take (length text) text ++ drop (length text) (mid_of at (length row - at) row) → put_mid at (length row - at) row last ≡ put row at text
-appended row at text last h e =
-    let size : length row - at ≡ length (drop at row) = sym (length-drop at row) in
-    let part : mid_of at (length row - at) row ≡ drop at row = take_all (length row - at) (drop at row) (omega arith) in
-    let rest : drop (length row - at) (drop at row) ≡ [] = ap (λ (k : ℕ). drop k (drop at row)) size ∙ drop-length (drop at row) in
-    let behind : drop (length text) (mid_of at (length row - at) row) ≡ drop (at + length text) row = ap (drop (length text)) part ∙ drop-drop (length text) at row in
-    let whole : last ≡ text ++ drop (at + length text) row =
-    e ∙ ap (λ (t : List ℕ). t ++ drop (length text) (mid_of at (length row - at) row)) (take-length text) ∙ ap (λ (t : List ℕ). text ++ t) behind in
-    ap (λ (t : List ℕ). take at row ++ (last ++ t)) rest
-    ∙ ap (λ (t : List ℕ). take at row ++ t) (append-nil last ∙ whole)
+-- A text copied over as many bytes behind `at` is the text written there.
+pub copied : (row : List ℕ) (at n : ℕ) (text last : List ℕ) → n ≡ length text → last ≡ text → put_mid at (at + n - at) row last ≡ put row at text
+copied row at n text last e same =
+    let width : at + n - at ≡ length text = omega (arith, e) in
+    ap (λ (k : ℕ). take at row ++ (last ++ drop k (drop at row))) width
+    ∙ ap (λ (t : List ℕ). take at row ++ (t ++ drop (length text) (drop at row))) same
+    ∙ ap (λ (t : List ℕ). take at row ++ (text ++ t)) (drop-drop (length text) at row)
     ∙ sym (append_assoc (take at row) text (drop (at + length text) row))
 
 -- The first `n` bytes of `more`, put behind the bytes kept, are all of it that is kept.

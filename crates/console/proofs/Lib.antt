@@ -1,5 +1,6 @@
 -- Laws that several functions' proofs cite.
 pub mod Feeds
+pub mod Refused
 pub mod LineEnds
 pub mod Pieces
 pub mod Pages

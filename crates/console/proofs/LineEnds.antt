@@ -14,13 +14,11 @@ use Rattle.script.proofs.ReasonLaws.{reason_kept}
 use Rattle.text.proofs.Writing.{put_front}
 use Rattle.script.specs.declared.Program.{Program}
 use Rattle.console.specs.declared.answers.LineAsked.{LineAsked}
-use Rattle.console.specs.declared.answers.Misread.{Misread}
-use Rattle.console.specs.declared.answers.Ongoing.{Ongoing}
-use Rattle.session.specs.declared.Session.{Session}
-use Rattle.session.specs.Session.{Desk, Within}
+use Rattle.console.specs.declared.progress.Misread.{Misread}
+use Rattle.session.specs.Session.{Desk}
 use Rattle.session.specs.Lines.{Done, carried_out}
 use Rattle.console.specs.Transcript.{following, line_text, misread, tallied}
-use Rattle.console.specs.Pieces.{Carried, carried, Fed, leaving, ended, after_line, Ready, LineRead, LineEnds}
+use Rattle.console.specs.Pieces.{Carried, carried, Fed, leaving, ended, LineRead, LineEnds}
 
 -- ---- what is written
 
@@ -101,7 +99,3 @@ ended-kept program desk n m text =
 pub ends_as : {should : Fed} {after other : Carried} {out written : List ℕ} {at end : ℕ} → LineEnds should after out at written end → after ≡ other →
     LineEnds should other out at written end
 ends_as {should} {after} {other} {out} {written} {at} {end} e same = subst (λ (x : Carried). LineEnds should x out at written end) same e
-
--- After a line the code is ready for the next.
-pub ready-after : {p : Ongoing} (s : Session) (n : ℕ) (m : Misread) → p ≡ after_line s n m → Within s → Ready p
-ready-after s n m e fits = subst Ready (sym e) (record { session-within = fits; line-within = omega arith })

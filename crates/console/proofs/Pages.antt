@@ -1,5 +1,5 @@
 -- What is printed of a board, from what the page's call left of the text row.
-use Rattle.std.proofs.Common.{◌≡◌, ℕ, zero, suc, ◌≤◌, Bool, true, false, cond, eqb, ltb, List, [], ◌∷◌, length, take, sym, refl, ap, ◌∙◌, arith, le-ltb, eq-eqb, ne_eqb}
+use Rattle.std.proofs.Common.{◌≡◌, ℕ, ◌≤◌, Bool, true, false, cond, eqb, ltb, List, [], ◌∷◌, length, take, sym, refl, ap, ◌∙◌, arith, le-ltb, eq-eqb, ne_eqb}
 use lib.ListN.{length-replicate}
 use Rattle.board.specs.Board.{Board, shaped, shape_of, cells, outside}
 use Rattle.board.specs.Causes.{check, guarded, bad_record, bad_rows, not_running, first_standing}
@@ -7,7 +7,6 @@ use Rattle.board.specs.Page.{page_text, page_bytes, page_causes, page_cause, pag
 use Rattle.predicate.proofs.Bools.{chosen, passed_over, clash, or_left}
 use Rattle.board.proofs.Laws.Taken.{numbered, Clear, first-clear}
 use Rattle.text.proofs.Writing.{put_front}
-use Rattle.page.specs.Statements.{Words}
 use Rattle.session.proofs.Formats.{lines-within}
 use Rattle.console.specs.Printing.{printing, largest_row, printed_of, NeverShort}
 
@@ -34,7 +33,7 @@ taken-lines : (b : Board) (text : List ℕ) → page_cause b text ≡ 0 → b.st
 unfolding page_cause page_causes numbered Clear
 taken-lines b text e = lines-fine b (first-clear (page_causes b text) refl e).1.0
 
-module _ (b : Board) (text left : List ℕ) (number : ℕ) (size : length text ≡ page_bytes (shaped 511)) (made : PagePerformed b text number b left) where
+module _ (b : Board) (text left : List ℕ) (number : ℕ) (after : Board) (size : length text ≡ page_bytes (shaped 511)) (made : PagePerformed b text number after left) where
   told : number ≡ page_cause b largest_row
   told = ap (λ (o : PageOutcome). o.number) made ∙ cause-by-length b text largest_row (size ∙ sym largest_size)
 
@@ -62,13 +61,6 @@ module _ (b : Board) (text left : List ℕ) (number : ℕ) (size : length text �
             ∙ ap (printing (page_cause b largest_row)) (sym (chosen (eqb (page_cause b largest_row) 0) _ _ (eq-eqb _ 0 (sym told ∙ none)))),
         omega arith,
       )
-
--- The words of a part of a row have 64 bits if the row's have.
-pub words-part : (n : ℕ) (row : List ℕ) → Words row → Words (take n row)
-words-part zero row w i = omega arith
-words-part (suc n) [] w i = w i
-words-part (suc n) (x ∷ xs) w zero = w zero
-words-part (suc n) (x ∷ xs) w (suc i) = words-part n xs (λ j. w (suc j)) i
 
 -- The first of four causes is the last one only where that stands and the second does not.
 not_last : (a b c d : Bool) → (b ≡ false → d ≡ false) → ◌≡◌ {A = ℕ} (cond a 2 (cond b 3 (cond c 4 (cond d 12 0)))) 12 → ⊥

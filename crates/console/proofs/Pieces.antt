@@ -5,11 +5,12 @@ use Rattle.predicate.proofs.Bools.{chosen, passed_over}
 use Rattle.console.specs.Bytes.{index_of, index_after}
 use Rattle.text.specs.Ascii.{feed}
 use Rattle.script.specs.declared.Program.{Program}
-use Rattle.session.specs.declared.Session.{Session}
-use Rattle.console.specs.declared.answers.Misread.{Misread}
-use Rattle.console.specs.declared.answers.Ongoing.{Ongoing}
+use Rattle.session.specs.declared.desk.Session.{Session}
+use Rattle.console.specs.declared.progress.Misread.{Misread}
+use Rattle.console.specs.declared.progress.Buffers.{Buffers}
+use Rattle.console.specs.declared.progress.Ongoing.{Ongoing}
 use Rattle.session.specs.Session.{desk_of}
-use Rattle.console.specs.Pieces.{Carried, carried, Fed, leaving, kept, ended, byte_fed, and_then, fed, finished, carried_by, Ready, LineEnds, Stops}
+use Rattle.console.specs.Pieces.{Carried, carried, Fed, leaving, kept, ended, byte_fed, and_then, fed, finished, carried_by, LineEnds, Stops}
 
 -- ---- the bytes kept of a line
 
@@ -137,38 +138,39 @@ used-more program first reached after piece used more so_far fits e =
     ∙ sym (ap (λ (f : Fed). f.after) (ap (fed program first) (take-add used more piece) ∙ fed-append program first (take used piece) (take more rest)))
 
 -- What is carried once more bytes of a line are kept.
-pub kept_by : (k p : Ongoing) (m c t line after rest : List ℕ) →
-    (k.session ≡ p.session) × (k.number ≡ p.number) × (k.misread ≡ p.misread) × (take k.begun after ≡ take 80 (take p.begun line ++ rest)) →
-    carried_by k m c t after ≡ kept (carried_by p m c t line) rest
-kept_by k p m c t line after rest w =
-    ap (λ (s : Session). carried (desk_of s m c t) k.number k.misread (take k.begun after)) w.0
-    ∙ ap (λ (n : ℕ). carried (desk_of p.session m c t) n k.misread (take k.begun after)) w.1
-    ∙ ap (λ (x : Misread). carried (desk_of p.session m c t) p.number x (take k.begun after)) w.2
-    ∙ ap (carried (desk_of p.session m c t) p.number p.misread) w.3
+pub kept_by : (k p : Ongoing) (buffers : Buffers) (after rest : List ℕ) →
+    (k.session ≡ p.session) × (k.number ≡ p.number) × (k.misread ≡ p.misread) × (take k.begun after ≡ take 80 (take p.begun buffers.line ++ rest)) →
+    carried (desk_of k.session buffers.rows) k.number k.misread (take k.begun after) ≡ kept (carried_by p buffers) rest
+kept_by k p buffers after rest w =
+    let desk = desk_of p.session buffers.rows in
+    ap (λ (s : Session). carried (desk_of s buffers.rows) k.number k.misread (take k.begun after)) w.0
+    ∙ ap (λ (n : ℕ). carried desk n k.misread (take k.begun after)) w.1
+    ∙ ap (λ (x : Misread). carried desk p.number x (take k.begun after)) w.2
+    ∙ ap (carried desk p.number p.misread) w.3
 
 -- At most 80 bytes are kept.
-pub begun-short : {p : Ongoing} → Ready p → (line : List ℕ) → length (take p.begun line) ≤ 80
-begun-short {p} r line = omega (arith, r.line-within, length-take p.begun line)
+pub begun-short : (p : Ongoing) (line : List ℕ) → length (take p.begun line) ≤ 80
+begun-short p line = omega (arith, p.begun_within, length-take p.begun line)
 
 -- ---- after the input
 
 -- No line is begun.
-pub none_last : (program : Program) (p : Ongoing) (m c t line : List ℕ) → p.begun ≡ 0 →
-    leaving (carried_by p m c t line) [] ≡ finished program (carried_by p m c t line)
-none_last program p m c t line z =
-    let none : length (take p.begun line) ≡ 0 = ap (λ (k : ℕ). length (take k line)) z in
-    sym (chosen (eqb (length (take p.begun line)) 0) _ _ (eq-eqb _ 0 none))
+pub none_last : (program : Program) (p : Ongoing) (buffers : Buffers) → p.begun ≡ 0 →
+    leaving (carried_by p buffers) [] ≡ finished program (carried_by p buffers)
+none_last program p buffers z =
+    let none : length (take p.begun buffers.line) ≡ 0 = ap (λ (k : ℕ). length (take k buffers.line)) z in
+    sym (chosen (eqb (length (take p.begun buffers.line)) 0) _ _ (eq-eqb _ 0 none))
 
 -- The line begun ends by the line feed that it lacks.
-pub line-last : (program : Program) (p : Ongoing) (m c t line : List ℕ) → Ready p → length line ≡ 80 → (p.begun ≡ 0 → ⊥) →
-    {f : Fed} {used written : ℕ} → f ≡ fed program (carried_by p m c t line) (take used (feed ∷ [])) → Stops (feed ∷ []) used written →
-    f ≡ finished program (carried_by p m c t line)
+pub line-last : (program : Program) (p : Ongoing) (buffers : Buffers) → length buffers.line ≡ 80 → (p.begun ≡ 0 → ⊥) →
+    {f : Fed} {used written : ℕ} → f ≡ fed program (carried_by p buffers) (take used (feed ∷ [])) → Stops (feed ∷ []) used written →
+    f ≡ finished program (carried_by p buffers)
 unfolding fed
-line-last program p m c t line r size some {f} {used} {written} e' stops =
-    let from = carried_by p m c t line in
-    let begun : length (take p.begun line) ≡ p.begun = length-take-le p.begun line (omega (arith, r.line-within)) in
+line-last program p buffers size some {f} {used} {written} e' stops =
+    let from = carried_by p buffers in
+    let begun : length (take p.begun buffers.line) ≡ p.begun = length-take-le p.begun buffers.line (omega (arith, p.begun_within)) in
     let whole : used ≡ 1 = omega (arith, stops.used-within, stops.goes_on (omega arith)) in
     e'
     ∙ ap (λ (n : ℕ). fed program from (take n (feed ∷ []))) whole
     ∙ ap (leaving (ended program from).after) (append-nil (ended program from).text)
-    ∙ sym (passed_over (eqb (length (take p.begun line)) 0) _ _ (ne_eqb _ 0 (λ z. some (sym begun ∙ z))))
+    ∙ sym (passed_over (eqb (length (take p.begun buffers.line)) 0) _ _ (ne_eqb _ 0 (λ z. some (sym begun ∙ z))))

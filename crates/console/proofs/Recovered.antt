@@ -1,5 +1,5 @@
 -- A recovery to its end: three steps a cell are enough, and steps past its end change nothing.
-use Rattle.std.proofs.Common.{◌≡◌, ℕ, zero, suc, ◌+◌, ◌-◌, ◌*◌, ◌<◌, ◌≤◌, Bool, true, false, cond, not, ◌&&◌, ◌||◌, eqb, List, sym, refl, ap, ◌∙◌, true≢false, sub-one, arith, eqb-true}
+use Rattle.std.proofs.Common.{◌≡◌, ℕ, zero, suc, ◌+◌, ◌-◌, ◌*◌, ◌<◌, ◌≤◌, Bool, true, false, cond, not, ◌&&◌, ◌||◌, eqb, List, sym, refl, ap, ◌∙◌, true≢false, arith, eqb-true}
 use Rattle.board.specs.declared.Call.TheVariants.{RecoveryStart, Step}
 use Rattle.board.specs.Board.{Board, Shape, shape_in, lines_of}
 use Rattle.board.specs.State.{is_running}
@@ -14,11 +14,12 @@ use Rattle.board.proofs.Laws.Taken.{numbered, Clear, first-clear}
 use Rattle.predicate.proofs.Bools.{chosen, passed_over, clash, split}
 use Rattle.console.specs.Display.{recovered}
 
--- One step fewer to take from where a step leads.
-pub one-step : (n : ℕ) (b : Board) → 0 < n → steps_from (n - 1) (next Step b) ≡ steps_from n b
+-- One step more is taken, from where those before it led.
+pub one-step : (n i : ℕ) (b : Board) → i < n → steps_from (n - (i + 1)) (next Step b) ≡ steps_from (n - i) b
 unfolding steps_from
-one-step zero b h = absurd (omega arith)
-one-step (suc n) b h = ap (λ (k : ℕ). steps_from k (next Step b)) (sub-one (suc n))
+one-step n i b h =
+    let more : n - i ≡ suc (n - (i + 1)) = omega arith in
+    ap (λ (k : ℕ). steps_from k b) (sym more)
 
 -- No step to take.
 pub no_step : (n : ℕ) (b : Board) → n ≡ 0 → steps_from n b ≡ b

@@ -12,7 +12,7 @@ use Rattle.script.specs.declared.Line.{Line}
 use Rattle.script.proofs.NumberLaws.{meaning-page, meaning-hex}
 use Rattle.session.specs.Session.{Desk, first_desk}
 use Rattle.session.specs.Lines.{carried_out}
-use Rattle.console.specs.declared.answers.Misread.{Misread}
+use Rattle.console.specs.declared.progress.Misread.{Misread}
 use Rattle.console.specs.Transcript.{lines_of, following, line_text, answers, desk_after, last_board, none_misread, line_tallied, misread_after}
 use Rattle.console.specs.Pieces.{Carried, carried, first, Fed, leaving, kept, ended, and_then, fed, finished, fed_all, AnyPieces, AnyPiecesBoard, AnyPiecesMisread}
 use Rattle.console.specs.Printing.{printed_of, hex_printed_of, AnyPiecesPrinted, AnyPiecesHexPrinted, BoardOfDrill}

@@ -1,6 +1,5 @@
 -- The show program: what is shown of a HEX text, the header's numbers and the page of the board that it holds, recovered to its end.
-use Rattle.std.specs.Prelude.{◌≡◌, ℕ, cond, List, [], ◌∷◌, ◌++◌, length, replicate, ◌==◌, nat_lt}
-use Rattle.board.specs.declared.State.{State}
+use Rattle.std.specs.Prelude.{◌≡◌, ℕ, cond, List, [], ◌∷◌, ◌++◌, length, take, replicate, Result, Ok, Err, ◌==◌, nat_lt}
 use Rattle.board.specs.declared.Phase.TheVariants.{Off}
 use Rattle.board.specs.declared.Call.TheVariants.{RecoveryStart}
 use Rattle.board.specs.Board.{Board, shaped, epoch_of, lines_of, workers_of}
@@ -10,8 +9,11 @@ use Rattle.board.specs.Next.{lent, next}
 use Rattle.board.specs.Sequence.{recovery_steps}
 use Rattle.board.specs.Statements.{steps_from}
 use Rattle.board.specs.Hex.{hex_words, hex_read_cause, hex_read_left, HexReadPerformed}
+use Rattle.causes.specs.declared.refusals.Refusal.{Refusal}
+use Rattle.causes.specs.Refusals.{number_of}
 use Rattle.text.specs.Ascii.{blank, feed}
 use Rattle.text.specs.Numbers.{number_text}
+use Rattle.console.specs.declared.display.Displayed.{Displayed}
 use Rattle.console.specs.Printing.{Printed, printing, printed_of}
 
 -- How many words a text is read into: those that it holds, but no more than the largest memory has.
@@ -66,7 +68,7 @@ ShownAsRead = (text row left : List ℕ) → HexReadPerformed text row 0 left �
 
 -- ---- what contracts say
 
--- A recovery of memory: its start's number, and the board left where that is 0.
-pub record Recovers (memory : List ℕ) (number : ℕ) (state : State) (memory_left cache_left : List ℕ) : Type 0 where
-  pub told : number ≡ cause RecoveryStart (unrecovered memory)
-  pub leaves : number ≡ 0 → lent state memory_left cache_left ≡ recovered (unrecovered memory)
+-- What the code shows: the first bytes of the two rows, nothing where it is refused.
+abbrev pub shown_by : Result Displayed Refusal → List ℕ → List ℕ → Printed
+shown_by (Ok shown) heading row = printing 0 (take shown.heading heading ++ take shown.bytes row)
+shown_by (Err refusal) heading row = printing (number_of refusal) []

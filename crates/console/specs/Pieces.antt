@@ -8,11 +8,11 @@ use Rattle.script.specs.Answers.{header_text}
 use Rattle.script.specs.Reasons.{reason, reason_number}
 use Rattle.script.specs.declared.Program.{Program}
 use Rattle.console.specs.declared.answers.LineAsked.{LineAsked}
-use Rattle.console.specs.declared.answers.Ongoing.{Ongoing}
-use Rattle.session.specs.declared.Session.{Session}
-use Rattle.session.specs.Session.{Desk, desk_of, first_desk, Within}
+use Rattle.console.specs.declared.progress.Buffers.{Buffers}
+use Rattle.console.specs.declared.progress.Ongoing.{Ongoing}
+use Rattle.session.specs.Session.{Desk, desk_of, first_desk}
 use Rattle.session.specs.Lines.{carried_out}
-use Rattle.console.specs.declared.answers.Misread.{Misread}
+use Rattle.console.specs.declared.progress.Misread.{Misread}
 use Rattle.console.specs.Transcript.{following, line_text, transcript, last_board, none_misread, line_tallied, misread_in}
 
 -- What is carried from piece to piece: the board and the text, the lines answered and those answered `?`, and the line begun.
@@ -91,18 +91,8 @@ AnyPiecesMisread =
 -- ---- what contracts say
 
 -- What the code carries: the board and the text of its session, the lines answered and those answered `?`, and the first bytes of the line kept.
-abbrev pub carried_by : Ongoing → List ℕ → List ℕ → List ℕ → List ℕ → Carried
-carried_by p memory cache text line =
-    carried (desk_of p.session memory cache text) p.number p.misread (take p.begun line)
-
--- What the code carries on after a line: none is begun.
-abbrev pub after_line : Session → ℕ → Misread → Ongoing
-after_line session number misread = record { session = session; number = number; misread = misread; begun = 0 }
-
--- What the code carries is within its arrays.
-pub record Ready (p : Ongoing) : Type 0 where
-  pub session-within : Within p.session
-  pub line-within : p.begun ≤ 80
+abbrev pub carried_by : Ongoing → Buffers → Carried
+carried_by p buffers = carried (desk_of p.session buffers.rows) p.number p.misread (take p.begun buffers.line)
 
 -- The line that goes on at `from` goes on at `i`: it ends at the same place.
 pub record LineGoesOn (text : List ℕ) (from i : ℕ) : Type 0 where

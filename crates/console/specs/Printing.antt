@@ -1,9 +1,11 @@
 -- The page program and the HEX program: what is printed of the board that a whole input leaves.
-use Rattle.std.specs.Prelude.{◌≡◌, ℕ, cond, List, [], replicate, ◌==◌, ◌≢◌}
+use Rattle.std.specs.Prelude.{◌≡◌, ℕ, cond, List, [], take, replicate, Result, Ok, Err, ◌==◌, ◌≢◌}
 use mathlib.Core.List.{flatten}
 use Rattle.board.specs.Board.{Board, shaped, shape_of, cells}
 use Rattle.board.specs.Hex.{hex_text, hex_bytes, hex_write_cause}
 use Rattle.board.specs.Page.{page_text, page_bytes, page_cause}
+use Rattle.causes.specs.declared.refusals.Refusal.{Refusal}
+use Rattle.causes.specs.Refusals.{number_of}
 use Rattle.script.specs.declared.Program.TheVariants.{Drill, Page, Hex}
 use Rattle.console.specs.Transcript.{last_board}
 use Rattle.console.specs.Pieces.{first, fed_all}
@@ -65,3 +67,10 @@ NeverShort = (b : Board) → page_cause b largest_row ≢ 12
 -- Nor is the one lent for HEX.
 abbrev pub HexNeverShort : Type 0
 HexNeverShort = (memory : List ℕ) → hex_write_cause memory longest_row ≢ 12
+
+-- ---- what contracts say
+
+-- What the code prints: the first bytes of the text row, nothing where it is refused.
+abbrev pub printed_by : Result ℕ Refusal → List ℕ → Printed
+printed_by (Ok bytes) row = printing 0 (take bytes row)
+printed_by (Err refusal) row = printing (number_of refusal) []

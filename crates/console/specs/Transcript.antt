@@ -8,7 +8,7 @@ use Rattle.script.specs.Reasons.{reason, reason_number}
 use Rattle.script.specs.declared.Program.{Program}
 use Rattle.script.specs.declared.Shown.{Shown}
 use Rattle.script.specs.declared.Shown.TheVariants as shown
-use Rattle.console.specs.declared.answers.Misread.{Misread}
+use Rattle.console.specs.declared.progress.Misread.{Misread}
 use Rattle.session.specs.Session.{Desk, first_desk}
 use Rattle.session.specs.Lines.{carried_out}
 

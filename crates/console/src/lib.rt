@@ -5,3 +5,4 @@ pub mod answers;
 pub mod display;
 mod input;
 pub mod printing;
+mod progress;

@@ -1,44 +1,34 @@
 // The page of the board that an input leaves, or its memory as HEX.
-ghost use Rattle.std.specs.Prelude.{◌≡◌, ◌≤◌, length, take, replicate};
+ghost use Rattle.std.specs.Prelude.{◌≡◌, ◌≤◌, replicate, IfOk};
 ghost use Rattle.script.specs.declared.Program.{Program};
-ghost use Rattle.session.specs.Session.{board_of, Fits};
-ghost use Rattle.console.specs.Pieces.{finished, carried_by, Ready};
-ghost use Rattle.console.specs.Printing.{printing, printed_of, hex_printed_of};
+ghost use Rattle.board.specs.Next.{lent};
+ghost use Rattle.console.specs.Pieces.{finished, carried_by};
+ghost use Rattle.console.specs.Printing.{printed_by, printed_of, hex_printed_of};
 
-use crate::answers::{Misread, Ongoing, answer_last};
+use crate::answers::{Buffers, Misread, Ongoing};
+use board::State;
+use engine::Refusal;
 use script::Program;
-use session::Session;
 
-// The call's number, and how many bytes of the text row are to be printed.
-#[derive(Clone, Copy)]
-pub struct Printout {
-    pub number: u8,
-    pub bytes: usize,
-}
-
-// The same at an input's end, with the lines that were answered `?`.
+// At an input's end: how many bytes of the text row are to be printed, or why none are, and the lines answered `?`.
 #[derive(Clone, Copy)]
 pub struct LastPrintout {
-    pub number: u8,
-    pub bytes: usize,
+    pub printed: Result<usize, Refusal>,
     pub misread: Misread,
 }
 
-// The page of the board, put at the front of a text row as long as the largest page.
-pub fn print(session: Session, memory: &[u64], cache: &[u64], row: &mut [u8; 69564]) -> Printout
-    requires { Fits session memory.now cache.now }
-    ensures prints { printing result.number (take result.bytes row.new) ≡ printed_of (board_of session memory.now cache.now) }
-    ensures within { result.bytes ≤ 69564 }
+// The page of the board, put at the front of a text row as long as the largest page. Gives how many bytes it has.
+pub fn print(
+    state: State,
+    memory: &[u64],
+    cache: &[u64],
+    row: &mut [u8; 69564],
+) -> Result<usize, Refusal>
+    ensures prints { printed_by result row.new ≡ printed_of (lent state memory.now cache.now) }
+    ensures within { IfOk result (λ bytes. bytes ≤ 69564) }
 {
-    let number = session::put_page(session, memory, cache, row);
-    if number != 0 {
-        return Printout { number, bytes: 0 };
-    }
-    let state = session.state;
-    Printout {
-        number,
-        bytes: board::page_bytes(state.lines),
-    }
+    page::page(state, memory, cache, row)?;
+    Ok(board::page_bytes(state.lines))
 }
 
 // A text row with room for the longest HEX text, all 0.
@@ -48,74 +38,49 @@ pub fn hex_row() -> [u8; 90124]
     [0; 90124]
 }
 
-// Memory as HEX, put at the front of a text row as long as the longest such text.
-fn print_hex(session: Session, memory: &[u64], row: &mut [u8; 90124]) -> Printout
-    requires { session.memory ≤ length memory.now }
-    ensures prints { printing result.number (take result.bytes row.new) ≡ hex_printed_of (take session.memory memory.now) }
-    ensures within { result.bytes ≤ 90124 }
+// Memory as HEX, put at the front of a text row as long as the longest such text. Gives how many bytes it has.
+fn print_hex(memory: &[u64], row: &mut [u8; 90124]) -> Result<usize, Refusal>
+    ensures prints { printed_by result row.new ≡ hex_printed_of memory.now }
+    ensures within { IfOk result (λ bytes. bytes ≤ 90124) }
 {
-    let words = session.memory;
-    let number = intel_hex::write(&memory[..words], row);
-    if number != 0 {
-        return Printout { number, bytes: 0 };
-    }
-    Printout {
-        number,
-        bytes: 22 * words + 12,
-    }
+    intel_hex::write(memory, row)?;
+    Ok(22 * memory.len() + 12)
 }
 
-// After the input: a last line that lacks its line feed is carried out, and the page of the board left is put into the
-// text row; the lines answered `?` are given too.
-pub fn last_page(
-    progress: Ongoing,
-    memory: &mut [u64; 4104],
-    cache: &mut [u64; 4104],
-    text: &mut [u8; 90200],
-    line: &mut [u8],
-    out: &mut [u8; 65536],
-    row: &mut [u8; 69564],
-) -> LastPrintout
-    requires { Ready progress × (length line.old ≡ 80) }
-    ensures prints { printing result.number (take result.bytes row.new) ≡ printed_of (finished Program.Page (carried_by progress memory.old cache.old text.old line.old)).after.desk.board }
-    ensures within { result.bytes ≤ 69564 }
-    ensures notes { result.misread ≡ (finished Program.Page (carried_by progress memory.old cache.old text.old line.old)).after.misread }
-{
-    let last = answer_last(Program::Page, progress, memory, cache, text, line, out);
-    let left = last.progress;
-    let session = left.session;
-    let misread = left.misread;
-    let page = print(session, memory, cache, row);
-    LastPrintout {
-        number: page.number,
-        bytes: page.bytes,
-        misread,
+impl Ongoing {
+    // After the input: a last line that lacks its line feed is carried out, and the page of the board left is put into
+    // the text row; the lines answered `?` are given too.
+    pub fn last_page(self, buffers: &mut Buffers, row: &mut [u8; 69564]) -> LastPrintout
+        ensures prints { printed_by result.printed row.new ≡ printed_of (finished Program.Page (carried_by self buffers.old)).after.desk.board }
+        ensures within { IfOk result.printed (λ bytes. bytes ≤ 69564) }
+        ensures notes { result.misread ≡ (finished Program.Page (carried_by self buffers.old)).after.misread }
+    {
+        let last = self.answer_last(Program::Page, buffers);
+        let left = last.progress;
+        let session = left.session;
+        let in_memory = session.memory;
+        let in_cache = session.cache;
+        let memory = &buffers.rows.memory[..in_memory];
+        let cache = &buffers.rows.cache[..in_cache];
+        LastPrintout {
+            printed: print(session.state, memory, cache, row),
+            misread: left.misread,
+        }
     }
-}
 
-// The same, with memory as HEX in place of the page.
-pub fn last_hex(
-    progress: Ongoing,
-    memory: &mut [u64; 4104],
-    cache: &mut [u64; 4104],
-    text: &mut [u8; 90200],
-    line: &mut [u8],
-    out: &mut [u8; 65536],
-    row: &mut [u8; 90124],
-) -> LastPrintout
-    requires { Ready progress × (length line.old ≡ 80) }
-    ensures prints { printing result.number (take result.bytes row.new) ≡ hex_printed_of (finished Program.Hex (carried_by progress memory.old cache.old text.old line.old)).after.desk.board.memory }
-    ensures within { result.bytes ≤ 90124 }
-    ensures notes { result.misread ≡ (finished Program.Hex (carried_by progress memory.old cache.old text.old line.old)).after.misread }
-{
-    let last = answer_last(Program::Hex, progress, memory, cache, text, line, out);
-    let left = last.progress;
-    let session = left.session;
-    let misread = left.misread;
-    let put = print_hex(session, memory, row);
-    LastPrintout {
-        number: put.number,
-        bytes: put.bytes,
-        misread,
+    // The same, with memory as HEX in place of the page. Two functions, since one over both would take the row's length and
+    // what is put into it as parameters, and be longer than they are.
+    pub fn last_hex(self, buffers: &mut Buffers, row: &mut [u8; 90124]) -> LastPrintout
+        ensures prints { printed_by result.printed row.new ≡ hex_printed_of (finished Program.Hex (carried_by self buffers.old)).after.desk.board.memory }
+        ensures within { IfOk result.printed (λ bytes. bytes ≤ 90124) }
+        ensures notes { result.misread ≡ (finished Program.Hex (carried_by self buffers.old)).after.misread }
+    {
+        let last = self.answer_last(Program::Hex, buffers);
+        let left = last.progress;
+        let in_memory = left.session.memory;
+        LastPrintout {
+            printed: print_hex(&buffers.rows.memory[..in_memory], row),
+            misread: left.misread,
+        }
     }
 }

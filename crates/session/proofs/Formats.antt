@@ -1,33 +1,55 @@
 -- A format to its end, and what turns one down.
-use Prim.Native.Nat.{ℕ, zero, suc, ◌-◌, ◌≤◌, ◌<◌}
+use Prim.Native.Nat.{ℕ, zero, suc, ◌+◌, ◌-◌, ◌≤◌, ◌<◌}
 use mathlib.Core.Path.{◌≡◌, refl, sym, ap, ◌∙◌}
-use mathlib.Core.List.{List, ◌++◌}
+use mathlib.Core.List.{List}
 use mathlib.Core.Bool.{true, false}
 use native.Mathlib.Omega.{arith}
-use native.Mathlib.Numerals.{sub-one}
-use lib.ListN.{length, take, drop, replicate, length-replicate}
-use lib.Seq.{length-take-le}
+use lib.ListN.{take, replicate, length-replicate}
+use Rattle.std.specs.Prelude.{Result, Ok, Err}
+use Rattle.causes.specs.declared.refusals.Refusal.{Refusal}
+use Rattle.causes.specs.Refusals.{number_of, answer_number}
+use Rattle.engine.specs.declared.Reading.{Reading}
+use Rattle.engine.specs.Answers.{value_left, reading_state, reading_value}
 use Rattle.board.specs.declared.State.{State}
 use Rattle.board.specs.declared.Call.{Call}
 use Rattle.board.specs.declared.Call.TheVariants.{FormatStart, Step}
 use Rattle.board.specs.Board.{Board, shaped, row_words, outside}
 use Rattle.board.specs.Causes.{causes, cause, first_standing}
-use Rattle.board.specs.Next.{lent, Taken, Outcome, outcome}
+use Rattle.board.specs.Next.{lent, next, Taken, Outcome, outcome}
 use Rattle.board.specs.Statements.{steps_from}
 use Rattle.board.proofs.Invariant.{Lengths}
 use Rattle.predicate.proofs.Bools.{chosen, passed_over}
 use Rattle.board.proofs.Laws.Taken.{Clear, take as taken-if, limits-in, rows-fine}
 use Rattle.script.specs.declared.Line.TheVariants as line
 use Rattle.script.specs.declared.Shown.TheVariants.{Nothing, Number}
-use Rattle.session.specs.Session.{Desk}
-use Rattle.session.specs.Lines.{repeated, done, holding, rows_for, formatted, carried_out}
-use Rattle.session.proofs.Acts.{board-back}
+use Rattle.session.specs.declared.desk.Rows.{Rows}
+use Rattle.session.specs.declared.desk.Session.{Session}
+use Rattle.session.specs.Session.{Desk, desk, desk_of}
+use Rattle.session.specs.Lines.{given, repeated, done, rows_for, formatted, carried_out}
 
--- One call fewer to make from the outcome that a call gives.
-pub one-call : (n : ℕ) (call : Call) (o after : Outcome) → 0 < n → after ≡ outcome call o.board → repeated (n - 1) call after ≡ repeated n call o
+-- One call more is made, from the outcome that those before it gave.
+pub one-call : (n i : ℕ) (call : Call) (o after : Outcome) → i < n → after ≡ outcome call o.board → repeated (n - (i + 1)) call after ≡ repeated (n - i) call o
 unfolding repeated
-one-call zero call o after h e = absurd (omega arith)
-one-call (suc n) call o after h e = ap (λ (k : ℕ). repeated k call after) (sub-one (suc n)) ∙ ap (repeated n call) e
+one-call n i call o after h e =
+    let more : n - i ≡ suc (n - (i + 1)) = omega arith in
+    ap (repeated (n - (i + 1)) call) e ∙ ap (λ (k : ℕ). repeated k call o) (sym more)
+
+module _ (state : State) (m c : List ℕ) {made : Result Reading Refusal} {after : State} {last : Result ℕ Refusal} where
+  -- A call that is taken, kept as the last one.
+  pub kept_ok : (reading : Reading) → made ≡ Ok reading → after ≡ reading.state → last ≡ Ok reading.value →
+      given (answer_number last) (value_left last) (lent after m c) ≡ given (answer_number made) (reading_value made) (lent (reading_state state made) m c)
+  kept_ok reading told now value =
+      ap (λ (r : Result ℕ Refusal). given (answer_number r) (value_left r) (lent after m c)) value
+      ∙ ap (λ (s : State). given 0 reading.value (lent s m c)) now
+      ∙ sym (ap (λ (r : Result Reading Refusal). given (answer_number r) (reading_value r) (lent (reading_state state r) m c)) told)
+
+  -- A call that is refused.
+  pub kept_err : (refusal : Refusal) → made ≡ Err refusal → after ≡ state → last ≡ Err refusal →
+      given (answer_number last) (value_left last) (lent after m c) ≡ given (answer_number made) (reading_value made) (lent (reading_state state made) m c)
+  kept_err refusal told now value =
+      ap (λ (r : Result ℕ Refusal). given (answer_number r) (value_left r) (lent after m c)) value
+      ∙ ap (λ (s : State). given (number_of refusal) 0 (lent s m c)) now
+      ∙ sym (ap (λ (r : Result Reading Refusal). given (answer_number r) (reading_value r) (lent (reading_state state r) m c)) told)
 
 -- No call to make.
 pub no_call : (n : ℕ) (call : Call) (o : Outcome) → n ≡ 0 → repeated n call o ≡ o
@@ -66,16 +88,28 @@ pub format-down : (l w : ℕ) (d : Desk) → outside (shaped l) w ≡ true → d
 format-down l w d o = sym (chosen (outside (shaped l) w) _ _ o)
 
 -- A taken format leaves its last step's board, and rows of its size.
-pub format-up : (l w i : ℕ) (state after : State) (d : Desk) (m c m' c' : List ℕ) → i ≡ row_words l → outside (shaped l) w ≡ false →
-    d.board.state ≡ state → i ≤ length m → i ≤ length c → length m' ≡ length (take i m) → length c' ≡ length (take i c) →
-    lent after m' c' ≡ formatted l w (lent state (replicate (length (take i m)) 0) (replicate (length (take i c)) 0)) →
-    done (holding d (lent after (take i (m' ++ drop i m)) (take i (c' ++ drop i c)))) (Number 0) Nothing ≡ carried_out (line.Format l w) d
-format-up l w i state after d m c m' c' words o same im jc hm hc did =
-    let sm = length-take-le i m im ∙ words in
-    let sc = length-take-le i c jc ∙ words in
-    let zeros : lent state (replicate (length (take i m)) 0) (replicate (length (take i c)) 0) ≡ rows_for l d.board.state =
-    ap (λ (n : ℕ). lent state (replicate n 0) (replicate (length (take i c)) 0)) sm
-    ∙ ap (λ (n : ℕ). lent state (replicate (row_words l) 0) (replicate n 0)) sc
-    ∙ ap (rows_for l) (sym same) in
-    ap (λ (x : Board). done (holding d x) (Number 0) Nothing) (board-back i i m c m' c' im jc hm hc after ∙ did ∙ ap (formatted l w) zeros)
+pub format-up : (l w i : ℕ) (state : State) (started last : Session) (text : ℕ) (rows : Rows) (d : Desk) (m0 c0 m1 c1 : List ℕ) {n v n' v' : ℕ} {begun ended : State} →
+    i ≡ row_words l → outside (shaped l) w ≡ false → d.board.state ≡ state → d.text ≡ take text rows.text →
+    take i m0 ≡ replicate i 0 → take i c0 ≡ replicate i 0 →
+    given n v (lent begun (take i m1) (take i c1)) ≡ repeated 1 (FormatStart l w) (given 0 0 (lent state (take i m0) (take i c0))) →
+    started.state ≡ begun → (started.memory ≡ i) × (started.cache ≡ i) × (started.text ≡ text) →
+    given n' v' (lent ended (take started.memory rows.memory) (take started.cache rows.cache)) ≡ repeated (l + 2) Step (given 0 0 (lent started.state (take started.memory m1) (take started.cache c1))) →
+    last.state ≡ ended → (last.memory ≡ started.memory) × (last.cache ≡ started.cache) × (last.text ≡ started.text) →
+    done (desk_of last rows) (Number 0) Nothing ≡ carried_out (line.Format l w) d
+unfolding repeated
+format-up l w i state started last text rows d m0 c0 m1 c1 {begun = begun} {ended = ended} words o same beside zm zc first sb sw steps lb lw =
+    let zeros : lent state (take i m0) (take i c0) ≡ rows_for l d.board.state = cc in
+    let s1 = sw.0 in
+    let s2 = sw.1 in
+    let s3 = sw.2 in
+    let l1 = lw.0 in
+    let l2 = lw.1 in
+    let l3 = lw.2 in
+    let start : lent begun (take i m1) (take i c1) ≡ next (FormatStart l w) (rows_for l d.board.state) = ap (λ (x : Outcome). x.board) first ∙ ap (next (FormatStart l w)) zeros in
+    let goes_on : lent started.state (take started.memory m1) (take started.cache c1) ≡ lent begun (take i m1) (take i c1) = cc in
+    let all : lent ended (take started.memory rows.memory) (take started.cache rows.cache) ≡ formatted l w (rows_for l d.board.state) =
+    ap (λ (x : Outcome). x.board) steps ∙ repeated-steps (l + 2) (given 0 0 (lent started.state (take started.memory m1) (take started.cache c1)))
+    ∙ ap (steps_from (l + 2)) (goes_on ∙ start) in
+    let left : desk_of last rows ≡ desk (lent ended (take started.memory rows.memory) (take started.cache rows.cache)) d.text = cc in
+    ap (λ (x : Desk). done x (Number 0) Nothing) (left ∙ ap (λ (b : Board). desk b d.text) all)
     ∙ sym (passed_over (outside (shaped l) w) _ _ o)

@@ -1,5 +1,5 @@
 -- Laws that several functions' proofs cite.
-pub mod Rows
+pub mod Parts
 pub mod Acts
 pub mod Formats
 pub mod Pages

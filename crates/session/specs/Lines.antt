@@ -1,5 +1,5 @@
 -- Document 01, "The drill program": what a line of the script does to the board, and what is shown of it. The fault program's damage is `outcome`'s, its page `paged`, its work with the text `worked`.
-use Rattle.std.specs.Prelude.{ℕ, zero, suc, ◌≡◌, Bool, cond, ◌&&◌, List, leb, ltb, length, take, replicate}
+use Rattle.std.specs.Prelude.{ℕ, zero, suc, Bool, cond, ◌&&◌, List, leb, ltb, length, take, replicate}
 use Rattle.board.specs.declared.State.{State}
 use Rattle.board.specs.declared.Phase.TheVariants.{Off}
 use Rattle.board.specs.declared.Call.{Call}
@@ -9,7 +9,7 @@ use Rattle.board.specs.Causes.{cause}
 use Rattle.board.specs.Next.{lent, next, value_of}
 use Rattle.board.specs.Next as board
 use Rattle.board.specs.Page.{page_cause, page_left}
-use Rattle.board.specs.Hex.{hex_write_cause, hex_write_left, hex_read_cause, hex_read_left, HexWritePerformed}
+use Rattle.board.specs.Hex.{hex_write_cause, hex_write_left, hex_read_cause, hex_read_left}
 use Rattle.board.specs.Machine.{format_steps}
 use Rattle.board.specs.Statements.{steps_from}
 use Rattle.script.specs.declared.Line.{Line}
@@ -21,9 +21,8 @@ use Rattle.script.specs.declared.Shown.TheVariants.{Unknown, Nothing, Number}
 use Rattle.damage.specs.Checksum.{checksum_of}
 use Rattle.damage.specs.Rows.{word_fits, stored_if}
 use Rattle.damage.specs.Damages.{answer_if, outcome}
-use Rattle.session.specs.declared.Session.{Session}
 use Rattle.session.specs.declared.Answered.{Answered}
-use Rattle.session.specs.declared.texts.Written.{Written}
+use Rattle.session.specs.declared.desk.Rows.{Rows}
 use Rattle.session.specs.Session.{Desk, desk, desk_of}
 
 -- What a line leaves and shows: the board and the text, the answer and the value.
@@ -118,16 +117,5 @@ repeated zero call o = o
 repeated (suc n) call o = repeated n call (board.outcome call o.board)
 
 -- What the code leaves and shows.
-abbrev pub left : Answered → List ℕ → List ℕ → List ℕ → Done
-left r memory cache text = done (desk_of r.session memory cache text) r.answer r.value
-
--- Memory written as HEX into a row whose bytes were 0xAA before: the call's number and the checksum of the bytes left.
-pub record RowWritten (memory row left : List ℕ) (r : Written) : Type 0 where
-  pub performed : HexWritePerformed memory (text_row (length row)) r.number left
-  pub sums : r.sum ≡ checksum_of left
-
--- A cut, but for the cache.
-abbrev pub Switched : Session → Answered → Type 0
-Switched s r =
-    (r.session.state ≡ switched_off s.state) × (r.session.memory ≡ s.memory) × (r.session.cache ≡ s.cache) × (r.session.text ≡ s.text) ×
-    (r.answer ≡ Number 0) × (r.value ≡ Nothing)
+abbrev pub left : Answered → Rows → Done
+left r rows = done (desk_of r.session rows) r.answer r.value

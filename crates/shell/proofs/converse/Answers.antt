@@ -6,15 +6,15 @@ use Rattle.shell.proofs.converse.Goals as goal
 
 pub loop-used-init : goal.loop-used-init
 unfolding fed
-loop-used-init g c = (omega arith, c.requires, refl)
+loop-used-init g c = record { within = omega arith; so_far = refl }
 
 pub loop-used-preserved : goal.loop-used-preserved
 loop-used-preserved g c =
     let piece = c.args.piece.now in
     let used = c.loop-used.used in
-    let stops = c.answer-r.ensures.stops in (
-      omega (arith, stops.used-within, length-drop used piece, length-take-le (length piece - used) (drop used piece)),
-      c.answer-r.ensures.ready,
-      used-more c.args.program _ _ _ piece used c.answer-r.result.used c.loop-used.invariant.2 stops.used-within
-          (ap (λ (f : Fed). f.after) c.answer-r.ensures.fed),
-    )
+    let r = c.answer-r in
+    let stops = r.ensures.stops in record {
+      within = omega (arith, stops.used-within, length-drop used piece, length-take-le (length piece - used) (drop used piece));
+      so_far = used-more c.args.program _ _ _ piece used r.result.used c.loop-used.invariant.so_far stops.used-within
+          (ap (λ (f : Fed). f.after) r.ensures.fed);
+    }

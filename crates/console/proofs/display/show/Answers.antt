@@ -1,44 +1,31 @@
 -- `console::display::show` meets its contract: the row read into has just the text's words, all 0 before.
-use Rattle.std.proofs.Common.{◌∙◌, arith}
-use Rattle.session.proofs.Pages.{back-size}
-use Rattle.console.proofs.Displays.{refused-shown, zeros-length, text-down, text-up, cache-zeros}
+use Rattle.std.proofs.Common.{◌∙◌, refl}
+use Rattle.causes.proofs.Guard.{no_refusal_is_taken}
+use Rattle.console.proofs.Refused.{none_shown, no_value}
+use Rattle.console.proofs.Displays.{text-down, text-up, cache-zeros}
 use Rattle.console.proofs.display.show.Goals as goal
 
-pub slice_bounds-read-end : goal.slice_bounds-read-end
-slice_bounds-read-end c = omega (arith, c.words_for-words.ensures.1, zeros-length _ c.requires.0)
-
-pub returns-then-number-ne0 : goal.returns-then-number-ne0
-returns-then-number-ne0 c =
-    let told = c.refused.ensures in
-    let read = c.read-number in
+pub returns-in_err-read : goal.returns-in_err-read
+returns-in_err-read c =
+    let e = c.from_residual.ensures.1 in
     let words = c.words_for-words in
     let a = c.args in record {
-      shows = refused-shown _ _ told
-          ∙ text-down a.text.now a.memory.now read.new.row words.result read.result c.requires.0 words.ensures.1 words.ensures.0 read.ensures.performed c.if-number-ne0.true;
-      within = (omega (arith, told.1), omega (arith, told.2));
+      shows = none_shown _ _ _ _ e
+          ∙ text-down a.text.now a.memory.now _ words.result _ c.requires.0 words.ensures.1 words.ensures.0 c.in_err-read.ensures.performed (no_refusal_is_taken _);
+      within = no_value _ _ _ e;
     }
-
-pub slice_bounds-show_memory-end : goal.slice_bounds-show_memory-end
-slice_bounds-show_memory-end c =
-    let read = c.read-number in
-    let words = c.words_for-words in
-    let full = zeros-length _ c.requires.0 in
-    omega (arith, words.ensures.1, full, back-size words.result c.args.memory.now read.new.row (omega (arith, words.ensures.1, full)) read.auto.row)
-
-pub slice_bounds-show_memory-end-3 : goal.slice_bounds-show_memory-end-3
-slice_bounds-show_memory-end-3 c = omega (arith, c.words_for-words.ensures.1, zeros-length _ c.requires.1)
 
 pub show_memory-requires : goal.show_memory-requires
 show_memory-requires c =
-    let read = c.read-number in
+    let read = c.read in
     let words = c.words_for-words in
     let a = c.args in
-    (cache-zeros a.text.now a.memory.now read.new.row words.result read.result c.requires.0 words.ensures.1 words.ensures.0 read.ensures.performed a.cache.now c.requires.1 read.auto.row, c.requires.2)
+    (cache-zeros a.text.now a.memory.now read.new.row words.result _ c.requires.0 words.ensures.1 words.ensures.0 c.in_ok-read.ensures.performed a.cache.now c.requires.1 read.auto.row, c.requires.2)
 
 pub returns : goal.returns
 returns c =
     let shown = c.show_memory in
-    let read = c.read-number in
+    let read = c.read in
     let words = c.words_for-words in
     let a = c.args in
-    record { shows = shown.ensures.shows ∙ text-up a.text.now a.memory.now read.new.row words.result read.result c.requires.0 words.ensures.1 words.ensures.0 read.ensures.performed read.auto.row c.if-number-ne0.false; within = shown.ensures.within }
+    record { shows = shown.ensures.shows ∙ text-up a.text.now a.memory.now read.new.row words.result _ c.requires.0 words.ensures.1 words.ensures.0 c.in_ok-read.ensures.performed read.auto.row refl; within = shown.ensures.within }

@@ -1,59 +1,42 @@
 -- `console::display::show_memory` meets its contract: the page and the header's line are those of the recovered board.
-use Rattle.std.proofs.Common.{ℕ, length, sym, ap, ◌∙◌, arith}
-use lib.ListN.{length-replicate}
+use Rattle.std.proofs.Common.{sym, refl, ap, ◌∙◌, arith, rules}
 use Rattle.board.specs.Board.{Board}
+use Rattle.causes.proofs.Guard.{no_refusal_is_taken}
 use Rattle.console.specs.Printing.{printed_of}
 use Rattle.console.specs.Display.{unrecovered, recovered, header_line}
-use Rattle.console.proofs.Displays.{refused-shown, start-length, memory-down, memory-up, page-down, page-up, whole-rows, line-front}
+use Rattle.console.proofs.Refused.{none_shown, no_value}
+use Rattle.console.proofs.Displays.{start-length, memory-down, memory-up, page-down, page-up, line-front}
 use Rattle.console.proofs.display.show_memory.Goals as goal
 
-pub returns-then-answer-ne0 : goal.returns-then-answer-ne0
-returns-then-answer-ne0 c =
-    let told = c.refused.ensures in
-    let r = c.recover-answer in
-    let a = c.args in
-    record { shows = refused-shown _ _ told ∙ memory-down a.memory.now r.result.number r.ensures.told c.if-answer-ne0.true; within = (omega (arith, told.1), omega (arith, told.2)) }
-
-pub print-page-requires : goal.print-page-requires
-print-page-requires c =
-    let r = c.recover-answer in
-    let cache = ap length c.requires.0 ∙ length-replicate {A = ℕ} (length c.args.memory.now) 0 in
-    record { memory-fits = omega (arith, r.auto.memory); cache-fits = omega (arith, r.auto.cache, cache) }
-
-pub returns-then-page-ne0 : goal.returns-then-page-ne0
-returns-then-page-ne0 c =
-    let told = c.refused-then-page-ne0.ensures in
-    let page = c.print-page in
-    let none = c.if-answer-ne0.false in
-    let r = c.recover-answer in
-    let memory = c.args.memory.now in
-    let cache = ap length c.requires.0 ∙ length-replicate {A = ℕ} (length memory) 0 in
-    let board = whole-rows r.result.state (length memory) r.new.memory r.new.cache r.auto.memory (r.auto.cache ∙ cache) ∙ r.ensures.leaves none in
-    let printed = page.ensures.prints ∙ ap (λ (b : Board). printed_of b) board in record {
-      shows = refused-shown _ _ told
-          ∙ page-down (recovered (unrecovered memory)) page.result.number _ printed c.if-page-ne0.true
-          ∙ memory-up memory r.result.number r.ensures.told none;
-      within = (omega (arith, told.1), omega (arith, told.2));
+pub returns-in_err-state : goal.returns-in_err-state
+returns-in_err-state c =
+    let e = c.from_residual.ensures.1 in record {
+      shows = none_shown _ _ _ _ e ∙ memory-down c.args.memory.now _ c.in_err-state.ensures.told (no_refusal_is_taken _);
+      within = no_value _ _ _ e;
     }
 
-pub put_heading-requires : goal.put_heading-requires
-put_heading-requires c =
-    let r = c.recover-answer in
-    (omega (arith, start-length c.args.memory.now (sym r.ensures.told ∙ c.if-answer-ne0.false), r.auto.memory), omega (arith, c.requires.1))
+pub returns-in_err-bytes : goal.returns-in_err-bytes
+returns-in_err-bytes c =
+    let e = c.from_residual-in_err-bytes.ensures.1 in
+    let memory = c.args.memory.now in
+    let state = c.in_ok-state.ensures in record {
+      shows = none_shown _ _ _ _ e
+          ∙ page-down (recovered (unrecovered memory)) _ _ (c.in_err-bytes.ensures.prints ∙ ap (λ (b : Board). printed_of b) state.leaves) (no_refusal_is_taken _)
+          ∙ memory-up memory 0 state.told refl;
+      within = no_value _ _ _ e;
+    }
+
+pub put_heading-heading-requires : goal.put_heading-heading-requires
+put_heading-heading-requires c = (omega (arith, start-length c.args.memory.now (sym c.in_ok-state.ensures.told), c.recover.auto.memory), omega (arith, c.requires.1))
 
 pub returns : goal.returns
 returns c =
-    let put = c.put_heading in
-    let page = c.print-page in
-    let none = c.if-answer-ne0.false in
-    let r = c.recover-answer in
+    let put = c.put_heading-heading.ensures in
     let memory = c.args.memory.now in
-    let cache = ap length c.requires.0 ∙ length-replicate {A = ℕ} (length memory) 0 in
-    let left = r.ensures.leaves none in
-    let board = whole-rows r.result.state (length memory) r.new.memory r.new.cache r.auto.memory (r.auto.cache ∙ cache) ∙ left in
-    let printed = page.ensures.prints ∙ ap (λ (b : Board). printed_of b) board in
-    let line = line-front put.ensures.0 put.ensures.1 c.requires.1 ∙ ap (λ (b : Board). header_line b.memory) left in record {
-      shows = page-up (recovered (unrecovered memory)) page.result.number _ printed _ c.if-page-ne0.false line
-          ∙ memory-up memory r.result.number r.ensures.told none;
-      within = (put.ensures.1, page.ensures.within);
+    let state = c.in_ok-state.ensures in
+    let bytes = c.in_ok-bytes.ensures in
+    let line = line-front put.0 put.1 (search rules) ∙ ap (λ (b : Board). header_line b.memory) state.leaves in record {
+      shows = page-up (recovered (unrecovered memory)) 0 _ (bytes.prints ∙ ap (λ (b : Board). printed_of b) state.leaves) _ refl line
+          ∙ memory-up memory 0 state.told refl;
+      within = (put.1, bytes.within);
     }

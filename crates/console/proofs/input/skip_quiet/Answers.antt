@@ -9,9 +9,3 @@ loop-i-preserved c =
     let l = c.loop-i.invariant in
     let on = c.quiet.ensures c.if-quiet.true in
     record { later = omega (arith, l.later); inside = omega arith; same_end = omega (arith, l.same_end, on) }
-
-pub returns-else-quiet : goal.returns-else-quiet
-returns-else-quiet c = c.loop-i.invariant
-
-pub returns-after-loop-i : goal.returns-after-loop-i
-returns-after-loop-i c = c.loop-i.invariant

@@ -1,0 +1,32 @@
+// What is carried from piece to piece of an input, and the arrays beside it.
+ghost use Rattle.std.specs.Prelude.{◌≤◌};
+
+use session::{Rows, Session};
+
+// What a program works in: the session's arrays, the bytes kept of the line begun, and the answers.
+#[derive(Drop)]
+pub struct Buffers {
+    pub rows: Rows,
+    pub line: [u8; 80],
+    pub out: [u8; 65536],
+}
+
+// The lines answered `?`: how many, and the first one's number and the number of its reason. Words alone, 0 where there
+// are none: an enum, and an `Option` is one, leaves a gap in what is carried, and was a quarter slower (bench/trials.md).
+#[derive(Clone, Copy)]
+pub struct Misread {
+    pub lines: u64,
+    pub first: u64,
+    pub why: u64,
+}
+
+// What is carried from piece to piece: the session, the lines answered and those answered `?`, and how many bytes of the
+// line begun are kept.
+#[derive(Clone, Copy)]
+pub struct Ongoing {
+    pub session: Session,
+    pub number: u64,
+    pub misread: Misread,
+    pub begun: usize,
+    pub ghost begun_within: { begun ≤ 80 },
+}
