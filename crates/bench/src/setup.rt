@@ -1,41 +1,34 @@
 // The random sequence of a workload, and the sums of texts and words.
 
-// The next number of a xorshift sequence.
-pub fn next(seed: u64) -> u64 {
-    let a = seed ^ (seed << 13);
-    let b = a ^ (a >> 7);
-    b ^ (b << 17)
+// A xorshift sequence, by its last number.
+#[derive(Clone, Copy)]
+pub struct Random {
+    last: u64,
+}
+
+impl Random {
+    // The sequence behind a seed.
+    pub fn new(seed: u64) -> Self {
+        Random { last: seed }
+    }
+
+    // The next number.
+    pub fn next(&mut self) -> u64 {
+        let a = self.last ^ (self.last << 13);
+        let b = a ^ (a >> 7);
+        self.last = b ^ (b << 17);
+        self.last
+    }
 }
 
 // A sum with a number more: 31 times the sum and the number, in 64 bits.
-pub fn with(sum: u64, number: u64) -> u64 {
-    let times = std::num::wrapping_sub_u64(sum << 5, sum);
-    std::num::wrapping_add_u64(times, number)
+fn with(sum: u64, number: u64) -> u64 {
+    (sum << 5).wrapping_sub(sum).wrapping_add(number)
 }
 
-// A sum with a byte more.
-fn with_byte(sum: u64, byte: u8) -> u64 {
-    with(sum, byte as u64)
-}
-
-// The sum of the bytes of a text, each with all before it.
-pub fn with_bytes(sum: u64, text: &[u8]) -> u64 {
-    let mut all = sum;
-    let mut i = 0;
-    while i < text.len() {
-        all = with_byte(all, text[i]);
-        i += 1;
-    }
-    all
-}
-
-// The sum of the words of a row, each with all before it.
-pub fn with_words(sum: u64, row: &[u64]) -> u64 {
-    let mut all = sum;
-    let mut i = 0;
-    while i < row.len() {
-        all = with(all, row[i]);
-        i += 1;
-    }
-    all
+// The sum of the bytes of a text or the words of a row, each with all before it.
+pub fn with_all<T: Copy + Into<u64>>(sum: u64, items: &[T]) -> u64 {
+    items
+        .iter()
+        .fold(sum, |all, item| with(all, (*item).into()))
 }

@@ -1,170 +1,141 @@
-// Rounds played on a board, and a workload from its format to its checksum.
-ghost use Rattle.std.specs.Prelude.{◌≡◌, ◌+◌, ◌≤◌, length};
-ghost use Rattle.board.specs.Board.{row_words};
-ghost use Rattle.line.specs.Line.{line_start};
-ghost use Rattle.line.specs.Cell.{cell_line};
-ghost use Rattle.bench.specs.Plans.{Allowed};
-
-use crate::rounds::{Plan, Round, Workload, call_at, calls_in, draw};
-use crate::{pages, texts};
+// What is measured, and a workload played on a board from its format to its checksum. What is played is chosen by a number on
+// the command line, so it is data, and matched where it is used.
+use crate::plan::Plan;
+use crate::rounds::Round;
+use crate::setup::Random;
 use board::State;
 use line::Field;
 
-// A state record, and the sum of the answers that led to it.
+// The marks of the cells of which pages are printed. `Mixed` are equal ones, half of the cells being unchanged.
 #[derive(Clone, Copy)]
-pub struct Summed {
+pub enum Marks {
+    Equal,
+    Rising,
+    Random,
+    Mixed,
+}
+
+// What is done with HEX texts of the memory.
+#[derive(Clone, Copy)]
+pub enum Direction {
+    Write,
+    Read,
+}
+
+// What a KIND on the command line stands for.
+#[derive(Clone, Copy)]
+pub enum Workload {
+    Calls(Round),
+    Pages(Marks),
+    Texts(Direction),
+}
+
+impl Workload {
+    // The workloads that are measured, by their number.
+    pub fn numbered(kind: u64) -> Option<Self> {
+        let workload = match kind {
+            1 => Workload::Calls(Round::Update),
+            2 => Workload::Calls(Round::Again),
+            3 => Workload::Calls(Round::Checkpoint),
+            4 => Workload::Calls(Round::Recovery),
+            5 => Workload::Calls(Round::WriteBack),
+            6 => Workload::Pages(Marks::Equal),
+            7 => Workload::Pages(Marks::Rising),
+            8 => Workload::Pages(Marks::Random),
+            9 => Workload::Calls(Round::CheckpointAway),
+            10 => Workload::Calls(Round::CheckpointPairs),
+            11 => Workload::Calls(Round::Locks),
+            12 => Workload::Pages(Marks::Mixed),
+            13 => Workload::Texts(Direction::Write),
+            14 => Workload::Texts(Direction::Read),
+            _ => return None,
+        };
+        Some(workload)
+    }
+
+    // Whether the plan's board is large enough.
+    pub fn fits(self, plan: Plan) -> bool {
+        match self {
+            Workload::Calls(round) => round.fits(plan),
+            _ => true,
+        }
+    }
+}
+
+// A board of a plan's sizes: its state record, and the words of memory and then of the cache, with room for the largest:
+// one array, which `split_at_mut` parts, since two fields behind a reference cannot be lent at once.
+#[derive(Drop)]
+pub struct Bench {
+    pub plan: Plan,
     pub state: State,
-    pub sum: u64,
+    pub rows: [u64; 8192],
 }
 
-// The host takes a cell's mark back, so that its next update is a first one again.
-fn unmark(cache: &mut [u64], cell: u64)
-    requires { line_start (cell_line cell) + 8 ≤ length cache.old }
-{
-    line::store_field(cache, cell as usize, Field::Mark, 0);
-}
+impl Bench {
+    // A board that is off, on rows of zeros.
+    pub fn new(plan: Plan) -> Self {
+        Bench {
+            plan,
+            state: engine::off(),
+            rows: [0; 8192],
+        }
+    }
 
-// The sum with an answer's number and value added.
-fn added(sum: u64, number: u8, value: u64) -> u64 {
-    std::num::wrapping_add_u64(std::num::wrapping_add_u64(sum, number as u64), value)
-}
-
-// Plays rounds from a state record on. This is the one loop of the program, and it has the one call of `perform`, so
-// that the compiler puts the call into the loop.
-fn play(
-    round: Round,
-    plan: Plan,
-    rounds: u32,
-    from: State,
-    memory: &mut [u64],
-    cache: &mut [u64],
-) -> Summed
-    requires { Allowed plan × (length cache.old ≡ row_words plan.lines) }
-{
-    let calls = calls_in(round, plan) as u64;
-    let mut left = (rounds as u64) * calls;
-    let mut drawn = draw(plan, plan.seed);
-    let mut state = from;
-    let mut sum = 0;
-    let mut k = 0;
-    while left > 0 {
-        let call = call_at(round, plan, k, drawn);
-        let r = engine::perform(call, state, memory, cache);
-        state = r.state;
-        sum = added(sum, r.number, r.value);
-        left -= 1;
-        k += 1;
-        if k == calls {
-            match round {
-                Round::Update => {
-                    unmark(cache, drawn.cell);
-                    state.dirty = [0; 8];
-                }
-                Round::Checkpoint | Round::CheckpointPairs | Round::CheckpointAway => {
-                    state = from
-                }
-                _ => {}
+    // Plays rounds, and gives the sum of their answers. This has the one call of `perform` of the program, so that the
+    // compiler puts the call into the loop; a loop of calls in one of rounds would copy the record once more a round.
+    fn play(&mut self, round: Round, rounds: u32) -> u64 {
+        let plan = self.plan;
+        let from = self.state;
+        let words = board::row_words(plan.lines);
+        let (memory, cache) = self.rows[..2 * words].split_at_mut(words);
+        let calls = round.calls(plan);
+        let all = rounds as usize * calls as usize;
+        let mut random = Random::new(plan.seed);
+        let mut drawn = plan.draw(&mut random);
+        let mut state = from;
+        let mut sum: u64 = 0;
+        for k in (0..calls).cycle().take(all) {
+            let call = round.call(plan, k as u64, drawn);
+            let answer = engine::perform(call, state, memory, cache);
+            sum = sum.wrapping_add(engine::answer_number(answer) as u64);
+            if let Ok(reading) = answer {
+                state = reading.state;
+                sum = sum.wrapping_add(reading.value);
             }
-            drawn = draw(plan, drawn.random);
-            k = 0;
+            if k as u64 + 1 == calls as u64 {
+                match round {
+                    Round::Update => {
+                        line::store_field(cache, drawn.cell as usize, Field::Mark, 0);
+                        state.dirty = [0; 8];
+                    }
+                    Round::Checkpoint | Round::CheckpointPairs | Round::CheckpointAway => {
+                        state = from
+                    }
+                    _ => {}
+                }
+                drawn = plan.draw(&mut random);
+            }
         }
+        self.state = state;
+        sum
     }
-    Summed { state, sum }
-}
 
-// The state record after the updates of a round `first` and a round `last`, after which the workers wait or are away.
-fn prepared(
-    first: Round,
-    last: Round,
-    plan: Plan,
-    fresh: State,
-    memory: &mut [u64],
-    cache: &mut [u64],
-) -> State
-    requires { Allowed plan × (length cache.old ≡ row_words plan.lines) }
-{
-    let updated = play(first, plan, 1, fresh, memory, cache);
-    let state = updated.state;
-    let ready = play(last, plan, 1, state, memory, cache);
-    ready.state
-}
-
-// The state record with the cells marked that a workload needs: all data cells, or n with the restart cells of the
-// workers that wait among them.
-fn marked(round: Round, plan: Plan, fresh: State, memory: &mut [u64], cache: &mut [u64]) -> State
-    requires { Allowed plan × (length cache.old ≡ row_words plan.lines) }
-{
-    match round {
-        Round::Again => {
-            let mut full = plan;
-            full.n = board::cells(plan.lines) as u16;
-            let filled = play(Round::Fill, full, 1, fresh, memory, cache);
-            filled.state
+    // Rounds of calls, after those that they need.
+    fn prepare_and_play(&mut self, round: Round, rounds: u32) -> u64 {
+        for first in round.before() {
+            self.play(*first, 1);
         }
-        Round::Checkpoint => prepared(Round::Spread, Round::Wait, plan, fresh, memory, cache),
-        Round::CheckpointPairs => prepared(Round::Fill, Round::Wait, plan, fresh, memory, cache),
-        Round::CheckpointAway => prepared(Round::Spread, Round::Leave, plan, fresh, memory, cache),
-        _ => fresh,
+        self.play(round, rounds)
     }
-}
 
-// The state record that a format leaves.
-fn formatted(plan: Plan, memory: &mut [u64], cache: &mut [u64]) -> State
-    requires { Allowed plan × (length cache.old ≡ row_words plan.lines) }
-{
-    let done = play(Round::Format, plan, 1, engine::off(), memory, cache);
-    done.state
-}
-
-// Rounds of calls after a format.
-fn called(
-    round: Round,
-    plan: Plan,
-    rounds: u32,
-    fresh: State,
-    memory: &mut [u64],
-    cache: &mut [u64],
-) -> Summed
-    requires { Allowed plan × (length cache.old ≡ row_words plan.lines) }
-{
-    let start = marked(round, plan, fresh, memory, cache);
-    play(round, plan, rounds, start, memory, cache)
-}
-
-// A workload from its format to the end of its rounds, with the sum of the rounds alone.
-fn measured(
-    kind: Workload,
-    plan: Plan,
-    rounds: u32,
-    memory: &mut [u64],
-    cache: &mut [u64],
-) -> Summed
-    requires { Allowed plan × (length memory.old ≡ row_words plan.lines) × (length cache.old ≡ row_words plan.lines) }
-{
-    let fresh = formatted(plan, memory, cache);
-    match kind {
-        Workload::Calls(round) => called(round, plan, rounds, fresh, memory, cache),
-        Workload::Pages(marks) => Summed {
-            state: fresh,
-            sum: pages::printed(marks, plan, rounds, fresh, memory, cache),
-        },
-        Workload::Texts(direction) => Summed {
-            state: fresh,
-            sum: texts::played(direction, plan, rounds, memory),
-        },
-        Workload::Unknown => Summed {
-            state: fresh,
-            sum: 0,
-        },
+    // A workload's checksum: the sum of its rounds after a format, and of a read of every cell after them.
+    pub fn run(&mut self, kind: Workload, rounds: u32) -> u64 {
+        self.play(Round::Format, 1);
+        let sum = match kind {
+            Workload::Calls(round) => self.prepare_and_play(round, rounds),
+            Workload::Pages(marks) => self.print_pages(marks, rounds),
+            Workload::Texts(direction) => self.copy_texts(direction, rounds),
+        };
+        sum.wrapping_add(self.play(Round::Reads, 1))
     }
-}
-
-// A workload's checksum: the sum of its rounds, and of a read of every cell after them.
-pub fn run(kind: Workload, plan: Plan, rounds: u32, memory: &mut [u64], cache: &mut [u64]) -> u64
-    requires { Allowed plan × (length memory.old ≡ row_words plan.lines) × (length cache.old ≡ row_words plan.lines) }
-{
-    let done = measured(kind, plan, rounds, memory, cache);
-    let end = done.state;
-    let reads = play(Round::Reads, plan, 1, end, memory, cache);
-    std::num::wrapping_add_u64(done.sum, reads.sum)
 }

@@ -2,8 +2,9 @@
 ghost use Rattle.std.specs.Prelude.{◌≡◌};
 ghost use Rattle.board.specs.State.{is_running};
 
-use crate::runs::{Aim, Reached, Row, until, until_running};
+use crate::runs::{Reached, Row, is_running, until, until_running};
 use board::{Call, State};
+use engine::Refusal;
 
 // What a boot finds in the memory.
 #[derive(Clone, Copy)]
@@ -22,29 +23,25 @@ pub enum Found {
     Stopped,
 }
 
-// What a boot came to: what was found, whether the board runs now, the last call's number, and the record to pass on.
+// What a boot came to, with a record in any case: what was found, whether the board runs now, the last call's value or why it was refused, and the
+// record to pass on.
 #[derive(Clone, Copy)]
 pub struct Booted {
     pub found: Found,
     pub running: bool,
-    pub number: u8,
+    pub last: Result<u64, Refusal>,
     pub state: State,
 }
 
-// What the last number of a recovery says of the memory.
-fn found_by(number: u8, memory: &Row) -> Found {
-    match number {
-        engine::TAKEN => Found::Board,
-        engine::HEADER => {
-            if memory[0] == 0 {
-                Found::Blank
-            } else {
-                Found::Unknown
-            }
-        }
-        engine::MARK => Found::Damaged,
-        engine::ROWS => Found::Misfit,
-        _ => Found::Stopped,
+// What the last call of a recovery says of the memory.
+fn found_by(last: Result<u64, Refusal>, memory: &Row) -> Found {
+    match last {
+        Ok(_) => Found::Board,
+        Err(Refusal::Header) if memory[0] == 0 => Found::Blank,
+        Err(Refusal::Header) => Found::Unknown,
+        Err(Refusal::Mark) => Found::Damaged,
+        Err(Refusal::Rows) => Found::Misfit,
+        Err(_) => Found::Stopped,
     }
 }
 
@@ -52,24 +49,22 @@ fn found_by(number: u8, memory: &Row) -> Found {
 pub fn start(call: Call, memory: &mut Row, cache: &mut Row) -> Reached
     ensures { result.met ≡ is_running result.state.phase }
 {
-    let started = until(Aim::Running, call, 1, engine::off(), memory, cache);
-    if started.number != engine::TAKEN {
+    let started = until(is_running, call, 1, engine::off(), memory, cache);
+    if started.last.is_err() {
         return started;
     }
-    let state = started.state;
-    until_running(state, memory, cache)
+    until_running(started.state, memory, cache)
 }
 
 // What was found, and what it led to.
 fn outcome(found: Found, reached: Reached) -> Booted
     ensures { (result.running ≡ reached.met) × (result.state ≡ reached.state) }
 {
-    let state = reached.state;
     Booted {
         found,
         running: reached.met,
-        number: reached.number,
-        state,
+        last: reached.last,
+        state: reached.state,
     }
 }
 
@@ -79,7 +74,7 @@ pub fn boot(lines: u64, workers: u64, memory: &mut Row, cache: &mut Row) -> Boot
     ensures { result.running ≡ is_running result.state.phase }
 {
     let recovered = start(Call::RecoveryStart, memory, cache);
-    let found = found_by(recovered.number, memory);
+    let found = found_by(recovered.last, memory);
     if let Found::Blank = found {
         let formatted = start(Call::FormatStart { lines, workers }, memory, cache);
         return outcome(found, formatted);

@@ -7,14 +7,12 @@ mod runs;
 
 use board::{Call, State};
 use boot::boot;
-use runs::{
-    LINES, Reached, Row, WORDS, condition_of, is_free, make, until_finished, until_released,
-};
+use runs::{LINES, Reached, Row, WORDS, make, until_finished, until_released};
 
 // Tells the number of a call that was refused, and passes the record on.
 fn told<R: Print>(rt: &R, r: Reached) -> State {
-    if r.number != engine::TAKEN {
-        let _ = println!(rt; "refused by {}", r.number);
+    if r.last.is_err() {
+        let _ = println!(rt; "refused by {}", engine::answer_number(r.last));
     }
     r.state
 }
@@ -22,7 +20,7 @@ fn told<R: Print>(rt: &R, r: Reached) -> State {
 // Prints what a cell reads.
 fn show<R: Print>(rt: &R, cell: u64, s: State, memory: &mut Row, cache: &mut Row) {
     let read = make(Call::Read { cell }, s, memory, cache);
-    let _ = rt.println(read.value);
+    let _ = rt.println(read.last.unwrap_or(0));
 }
 
 // Worker 0's update of a cell, with the cell's lock taken before and given back after; a worker that is not free begins
@@ -35,7 +33,7 @@ fn update<R: Print>(
     memory: &mut Row,
     cache: &mut Row,
 ) -> State {
-    if !is_free(condition_of(s, 0)) {
+    if !s.condition_of(0).is_free() {
         return s;
     }
     let lock = cell % 16;
@@ -62,7 +60,7 @@ fn checkpoint<R: Print>(
     cache: &mut Row,
 ) -> Reached {
     let asked = make(Call::Request, s, memory, cache);
-    if asked.number != engine::TAKEN {
+    if asked.last.is_err() {
         return asked;
     }
     let restart = Call::RestartPoint {

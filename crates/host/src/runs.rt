@@ -1,10 +1,10 @@
 // Runs of calls that end (docs/HOST.md). 'Call until the board is there' alone is refused: nothing says that the loop
-// ends. So every run has an aim and a number of calls that falls, and says whether its aim was met.
+// ends. So every run has an aim and a number of calls, and says whether its aim was met.
 ghost use Rattle.std.specs.Prelude.{◌≡◌, false, not};
-ghost use Rattle.board.specs.State.{condition_of, is_free, is_running, is_updating};
-ghost use Rattle.host.specs.Aims.{met_by};
+ghost use Rattle.board.specs.State.{condition_of, is_running, is_updating};
 
-use board::{Call, Condition, Phase, State};
+use board::{Call, Phase, State};
+use engine::Refusal;
 
 // L, the cell lines of this host's board, and its rows: 8 × (L + 1) words each.
 pub const LINES: usize = 1;
@@ -13,118 +13,44 @@ pub const WORDS: usize = 8 * (LINES + 1);
 
 pub type Row = [u64; WORDS];
 
-// What a run of calls is to lead to.
-#[derive(Clone, Copy)]
-pub enum Aim {
-    // no aim: the call is made as often as is asked
-    Nothing,
-    // the board runs
-    Running,
-    // the worker is not in the middle of an update
-    Finished { worker: u64 },
-    // no checkpoint is requested
-    Released,
-}
-
-// What a run came to: whether its aim is met, number and value of its last call (0 where it made none), and the record
-// to pass on.
+// What a run came to: whether its aim is met, the last call's value, `Ok(0)` where none was made, or why it was refused, and the
+// record to pass on, which there is in any case. Record and rows go apart, as into the engine's calls: a struct with the three cannot lend two of its
+// fields at once from behind a reference.
 #[derive(Clone, Copy)]
 pub struct Reached {
     pub met: bool,
-    pub number: u8,
-    pub value: u64,
+    pub last: Result<u64, Refusal>,
     pub state: State,
 }
 
-// The board runs. A field is copied to a local before the `match`.
-pub fn is_running(s: State) -> bool
-    ensures { result ≡ is_running s.phase }
-{
-    let phase = s.phase;
-    match phase {
-        Phase::Off => false,
-        Phase::Formatting => false,
-        Phase::Recovering => false,
-        Phase::Running => true,
-    }
-}
-
-// What a worker is doing. An element is copied too; a number past the eight names no worker, and counts as free.
-pub fn condition_of(s: State, worker: u64) -> Condition
-    ensures { result ≡ condition_of s worker }
-{
-    if worker < 8 {
-        let at = worker as usize;
-        let element = s.worker[at];
-        element.condition
-    } else {
-        Condition::Free
-    }
-}
-
-// The worker may begin something.
-pub fn is_free(condition: Condition) -> bool
-    ensures { result ≡ is_free condition }
-{
-    match condition {
-        Condition::Free => true,
-        Condition::Waiting => false,
-        Condition::Updating { .. } => false,
-        Condition::Away => false,
-    }
-}
-
-// The worker has advances to make.
-pub fn is_updating(condition: Condition) -> bool
-    ensures { result ≡ is_updating condition }
-{
-    match condition {
-        Condition::Free => false,
-        Condition::Waiting => false,
-        Condition::Updating { .. } => true,
-        Condition::Away => false,
-    }
-}
-
-// The record has what is aimed at.
-fn is_met(aim: Aim, s: State) -> bool
-    ensures { result ≡ met_by aim s }
-{
-    match aim {
-        Aim::Nothing => false,
-        Aim::Running => is_running(s),
-        Aim::Finished { worker } => !is_updating(condition_of(s, worker)),
-        Aim::Released => !s.requested,
-    }
-}
-
-// Makes a call again and again: until the aim is met, until a call is refused, or `most` times. The calls left fall, so
-// it ends. Every call of the program is made here, so that `perform` stands in one place of it.
-pub fn until(
-    aim: Aim,
+// Makes a call again and again: until the record has what is aimed at, until a call is refused, or `most` times. Every
+// call of the program is made here.
+pub fn until<F: Fn(State) -> bool>(
+    aim: F,
     call: Call,
     most: u64,
     s: State,
     memory: &mut Row,
     cache: &mut Row,
 ) -> Reached
-    ensures { result.met ≡ met_by aim result.state }
+    requires { F.IsAlwaysCallable aim }
+    ensures { F.post aim result.state result.met }
 {
     let mut state = s;
-    let mut number = engine::TAKEN;
-    let mut value = 0;
-    let mut left = most;
-    while left > 0 && number == engine::TAKEN && !is_met(aim, state) {
+    let mut last = Ok(0);
+    for _ in 0..most {
+        if last.is_err() || aim(state) {
+            break;
+        }
         let answer = engine::perform(call, state, memory, cache);
-        state = answer.state;
-        number = answer.number;
-        value = answer.value;
-        left -= 1;
+        if let Ok(reading) = answer {
+            state = reading.state;
+        }
+        last = answer.map(|reading| reading.value);
     }
     Reached {
-        met: is_met(aim, state),
-        number,
-        value,
+        met: aim(state),
+        last,
         state,
     }
 }
@@ -133,15 +59,21 @@ pub fn until(
 pub fn make(call: Call, s: State, memory: &mut Row, cache: &mut Row) -> Reached
     ensures { result.met ≡ false }
 {
-    until(Aim::Nothing, call, 1, s, memory, cache)
+    until(|_| false, call, 1, s, memory, cache)
+}
+
+// The board runs.
+pub fn is_running(state: State) -> bool
+    ensures { result ≡ is_running state.phase }
+{
+    state.phase == Phase::Running
 }
 
 // The steps to a running board, at most: a format's L + 2; a recovery's three for each of 2L cells, where one that is
 // not logged takes only one. A board that is off gets one, which is refused by 2.
-fn steps_to_run(s: State) -> u64 {
-    let lines = s.lines as u64;
-    let phase = s.phase;
-    match phase {
+fn steps_to_run(state: State) -> u64 {
+    let lines = state.lines as u64;
+    match state.phase {
         Phase::Off => 1,
         Phase::Formatting => lines + 2,
         Phase::Recovering => 6 * lines,
@@ -153,7 +85,7 @@ fn steps_to_run(s: State) -> u64 {
 pub fn until_running(s: State, memory: &mut Row, cache: &mut Row) -> Reached
     ensures { result.met ≡ is_running result.state.phase }
 {
-    until(Aim::Running, Call::Step, steps_to_run(s), s, memory, cache)
+    until(is_running, Call::Step, steps_to_run(s), s, memory, cache)
 }
 
 // The advances of an update or a restart point, three at most, until the worker is free, or waits: so a restart point
@@ -162,7 +94,7 @@ pub fn until_finished(worker: u64, s: State, memory: &mut Row, cache: &mut Row) 
     ensures { result.met ≡ not (is_updating (condition_of result.state worker)) }
 {
     until(
-        Aim::Finished { worker },
+        |state| !state.condition_of(worker).is_updating(),
         Call::Advance { worker },
         3,
         s,
@@ -176,17 +108,10 @@ pub fn until_finished(worker: u64, s: State, memory: &mut Row, cache: &mut Row) 
 pub fn until_released(s: State, memory: &mut Row, cache: &mut Row) -> Reached
     ensures { result.met ≡ not result.state.requested }
 {
-    let counted = until(Aim::Released, Call::Count, 1, s, memory, cache);
-    if counted.number != engine::TAKEN {
-        return counted;
+    let released = |state: State| !state.requested;
+    let counted = until(released, Call::Count, 1, s, memory, cache);
+    match counted.last {
+        Ok(steps) => until(released, Call::Step, steps, counted.state, memory, cache),
+        Err(_) => counted,
     }
-    let state = counted.state;
-    until(
-        Aim::Released,
-        Call::Step,
-        counted.value,
-        state,
-        memory,
-        cache,
-    )
 }

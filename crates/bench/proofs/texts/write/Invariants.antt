@@ -1,9 +1,0 @@
--- The texts left fall, and the rows keep their lengths.
-use Rattle.std.proofs.Common.{◌≡◌, ◌<◌, length}
-use Rattle.bench.proofs.texts.write.Given as goal
-
-abbrev pub invariant-loop-left : goal.invariant-loop-left
-invariant-loop-left l = (0 < length l.memory) × (length l.memory ≡ length l.initial.memory) × (length l.text ≡ length l.initial.text)
-
-abbrev pub decreases-loop-left : goal.decreases-loop-left
-decreases-loop-left l = l.left

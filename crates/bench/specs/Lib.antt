@@ -1,2 +1,0 @@
--- `Plans` says what a plan keeps to.
-pub mod Plans

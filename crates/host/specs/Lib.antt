@@ -1,2 +1,0 @@
--- What the contracts of the example host cite beside the definitions of crate `board`.
-pub mod Aims
