@@ -13,11 +13,10 @@ use Rattle.board.specs.Next.{lent}
 use Rattle.script.specs.declared.Line.{Line}
 use Rattle.script.specs.declared.Shown.{Shown}
 use Rattle.script.specs.declared.Shown.TheVariants.{Number}
-use Rattle.session.specs.declared.desk.Rows.{Rows}
 use Rattle.session.specs.declared.desk.Session.{Session}
 use Rattle.session.specs.declared.Answered.{Answered}
-use Rattle.session.specs.Session.{Desk, desk, desk_of}
-use Rattle.session.specs.Lines.{Done, done, carried_out, left}
+use Rattle.session.specs.Session.{Desk, desk}
+use Rattle.session.specs.Lines.{Done, done, carried_out}
 use Rattle.session.proofs.Parts.{part-back, take-replicate}
 
 module _ (i j : ℕ) (m c m' c' : List ℕ) (im : i ≤ length m) (jc : j ≤ length c) (hm : length m' ≡ length (take i m)) (hc : length c' ≡ length (take j c)) where
@@ -26,13 +25,18 @@ module _ (i j : ℕ) (m c m' c' : List ℕ) (im : i ≤ length m) (jc : j ≤ le
   board-back state =
       ap (λ (x : List ℕ). lent state x (take j (c' ++ drop j c))) (part-back i m m' im hm) ∙ ap (lent state m') (part-back j c c' jc hc)
 
+-- The board and the text of a session whose arrays hold these.
+abbrev pub desk_in : Session → List ℕ → List ℕ → List ℕ → Desk
+desk_in s memory cache text = desk (lent s.state (take s.memory memory) (take s.cache cache)) (take s.text text)
+
 -- What the code leaves and shows, by its parts.
-pub by_parts : {r : Answered} {s : Session} {answer value : Shown} (rows : Rows) →
-    (r.session ≡ s) × (r.answer ≡ answer) × (r.value ≡ value) → left r rows ≡ done (desk_of s rows) answer value
-by_parts {r} {s} {answer} {value} rows w =
-    ap (λ (x : Session). done (desk_of x rows) r.answer r.value) w.0
-    ∙ ap (λ (x : Shown). done (desk_of s rows) x r.value) w.1
-    ∙ ap (done (desk_of s rows) answer) w.2
+pub by_parts : {r : Answered} {s : Session} {answer value : Shown} (memory cache text : List ℕ) →
+    (r.session ≡ s) × (r.answer ≡ answer) × (r.value ≡ value) →
+    done (desk_in r.session memory cache text) r.answer r.value ≡ done (desk_in s memory cache text) answer value
+by_parts {r} {s} {answer} {value} memory cache text w =
+    ap (λ (x : Session). done (desk_in x memory cache text) r.answer r.value) w.0
+    ∙ ap (λ (x : Shown). done (desk_in s memory cache text) x r.value) w.1
+    ∙ ap (done (desk_in s memory cache text) answer) w.2
 
 -- What is left and shown, by its parts.
 pub shown_as : {from to : Desk} {answer : Shown} {number shown value : ℕ} → from ≡ to → answer ≡ Number number → shown ≡ value →
@@ -48,12 +52,13 @@ unwrapped (Ok value) = refl
 unwrapped (Err refusal) = refl
 
 -- The desk of a session whose record alone is another.
-pub with_state_lem : (s r : Session) {state : State} (rows : Rows) → r.state ≡ state → (r.memory ≡ s.memory) × (r.cache ≡ s.cache) × (r.text ≡ s.text) →
-    desk_of r rows ≡ desk (lent state (take s.memory rows.memory) (take s.cache rows.cache)) (take s.text rows.text)
-with_state_lem s r {state} rows e w =
-    let memory = w.0 in
-    let cache = w.1 in
-    let text = w.2 in cc
+pub with_state_lem : (s r : Session) {state : State} (memory cache text : List ℕ) →
+    r.state ≡ state → (r.memory ≡ s.memory) × (r.cache ≡ s.cache) × (r.text ≡ s.text) →
+    desk_in r memory cache text ≡ desk (lent state (take s.memory memory) (take s.cache cache)) (take s.text text)
+with_state_lem s r {state} memory cache text e w =
+    let in_memory = w.0 in
+    let in_cache = w.1 in
+    let in_text = w.2 in cc
 
 -- A cut: the whole cache zeroed zeroes the words in use.
 pub cut_off_lem : (s : Session) (c c' : List ℕ) → s.cache ≤ length c → c' ≡ replicate (length c) 0 →

@@ -22,10 +22,10 @@ use Rattle.predicate.proofs.Bools.{chosen, passed_over}
 use Rattle.board.proofs.Laws.Taken.{Clear, take as taken-if, limits-in, rows-fine}
 use Rattle.script.specs.declared.Line.TheVariants as line
 use Rattle.script.specs.declared.Shown.TheVariants.{Nothing, Number}
-use Rattle.session.specs.declared.desk.Rows.{Rows}
 use Rattle.session.specs.declared.desk.Session.{Session}
-use Rattle.session.specs.Session.{Desk, desk, desk_of}
+use Rattle.session.specs.Session.{Desk, desk}
 use Rattle.session.specs.Lines.{given, repeated, done, rows_for, formatted, carried_out}
+use Rattle.session.proofs.Acts.{desk_in}
 
 -- One call more is made, from the outcome that those before it gave.
 pub one-call : (n i : ℕ) (call : Call) (o after : Outcome) → i < n → after ≡ outcome call o.board → repeated (n - (i + 1)) call after ≡ repeated (n - i) call o
@@ -88,16 +88,16 @@ pub format-down : (l w : ℕ) (d : Desk) → outside (shaped l) w ≡ true → d
 format-down l w d o = sym (chosen (outside (shaped l) w) _ _ o)
 
 -- A taken format leaves its last step's board, and rows of its size.
-pub format-up : (l w i : ℕ) (state : State) (started last : Session) (text : ℕ) (rows : Rows) (d : Desk) (m0 c0 m1 c1 : List ℕ) {n v n' v' : ℕ} {begun ended : State} →
-    i ≡ row_words l → outside (shaped l) w ≡ false → d.board.state ≡ state → d.text ≡ take text rows.text →
+pub format-up : (l w i : ℕ) (state : State) (started last : Session) (text : ℕ) (d : Desk) (m0 c0 m1 c1 m2 c2 t : List ℕ) {n v n' v' : ℕ} {begun ended : State} →
+    i ≡ row_words l → outside (shaped l) w ≡ false → d.board.state ≡ state → d.text ≡ take text t →
     take i m0 ≡ replicate i 0 → take i c0 ≡ replicate i 0 →
     given n v (lent begun (take i m1) (take i c1)) ≡ repeated 1 (FormatStart l w) (given 0 0 (lent state (take i m0) (take i c0))) →
     started.state ≡ begun → (started.memory ≡ i) × (started.cache ≡ i) × (started.text ≡ text) →
-    given n' v' (lent ended (take started.memory rows.memory) (take started.cache rows.cache)) ≡ repeated (l + 2) Step (given 0 0 (lent started.state (take started.memory m1) (take started.cache c1))) →
+    given n' v' (lent ended (take started.memory m2) (take started.cache c2)) ≡ repeated (l + 2) Step (given 0 0 (lent started.state (take started.memory m1) (take started.cache c1))) →
     last.state ≡ ended → (last.memory ≡ started.memory) × (last.cache ≡ started.cache) × (last.text ≡ started.text) →
-    done (desk_of last rows) (Number 0) Nothing ≡ carried_out (line.Format l w) d
+    done (desk_in last m2 c2 t) (Number 0) Nothing ≡ carried_out (line.Format l w) d
 unfolding repeated
-format-up l w i state started last text rows d m0 c0 m1 c1 {begun = begun} {ended = ended} words o same beside zm zc first sb sw steps lb lw =
+format-up l w i state started last text d m0 c0 m1 c1 m2 c2 t {begun = begun} {ended = ended} words o same beside zm zc first sb sw steps lb lw =
     let zeros : lent state (take i m0) (take i c0) ≡ rows_for l d.board.state = cc in
     let s1 = sw.0 in
     let s2 = sw.1 in
@@ -107,9 +107,9 @@ format-up l w i state started last text rows d m0 c0 m1 c1 {begun = begun} {ende
     let l3 = lw.2 in
     let start : lent begun (take i m1) (take i c1) ≡ next (FormatStart l w) (rows_for l d.board.state) = ap (λ (x : Outcome). x.board) first ∙ ap (next (FormatStart l w)) zeros in
     let goes_on : lent started.state (take started.memory m1) (take started.cache c1) ≡ lent begun (take i m1) (take i c1) = cc in
-    let all : lent ended (take started.memory rows.memory) (take started.cache rows.cache) ≡ formatted l w (rows_for l d.board.state) =
+    let all : lent ended (take started.memory m2) (take started.cache c2) ≡ formatted l w (rows_for l d.board.state) =
     ap (λ (x : Outcome). x.board) steps ∙ repeated-steps (l + 2) (given 0 0 (lent started.state (take started.memory m1) (take started.cache c1)))
     ∙ ap (steps_from (l + 2)) (goes_on ∙ start) in
-    let left : desk_of last rows ≡ desk (lent ended (take started.memory rows.memory) (take started.cache rows.cache)) d.text = cc in
+    let left : desk_in last m2 c2 t ≡ desk (lent ended (take started.memory m2) (take started.cache c2)) d.text = cc in
     ap (λ (x : Desk). done x (Number 0) Nothing) (left ∙ ap (λ (b : Board). desk b d.text) all)
     ∙ sym (passed_over (outside (shaped l) w) _ _ o)

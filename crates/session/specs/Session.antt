@@ -1,5 +1,5 @@
 -- What a session works on: the state record, and the parts in use of two arrays that have room for the largest board and of one that has room for the longest text.
-use Rattle.std.specs.Prelude.{ℕ, List, [], take}
+use Rattle.std.specs.Prelude.{◌≡◌, ℕ, List, [], take}
 use Rattle.board.specs.declared.Phase.TheVariants.{Off}
 use Rattle.board.specs.Board.{Board, shaped}
 use Rattle.board.specs.State.{started}
@@ -18,11 +18,17 @@ desk board text = record { board = board; text = text }
 
 -- The board of a session.
 abbrev pub board_of : Session → Rows → Board
-board_of s rows = lent s.state (take s.memory rows.memory) (take s.cache rows.cache)
+board_of s rows = lent s.state (take s.memory rows.memory.now) (take s.cache rows.cache.now)
 
 -- The board and the text of a session.
 abbrev pub desk_of : Session → Rows → Desk
-desk_of s rows = desk (board_of s rows) (take s.text rows.text)
+desk_of s rows = desk (board_of s rows) (take s.text rows.text.now)
+
+-- The same three arrays are lent.
+pub record SameRows (old new : Rows) : Type 0 where
+  pub memory : new.memory.ghost_name ≡ old.memory.ghost_name
+  pub cache : new.cache.ghost_name ≡ old.cache.ghost_name
+  pub text : new.text.ghost_name ≡ old.text.ghost_name
 
 -- "before one they are empty and the phase is off"; every other field is 0, no lock is held, all workers are free.
 abbrev pub first_board : Board

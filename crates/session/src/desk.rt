@@ -3,13 +3,13 @@ ghost use Rattle.std.specs.Prelude.{◌≤◌};
 
 use board::State;
 
-// The program's memory, cache and text. The program allocates nothing, so the arrays are fixed, and a session has how much
+// Memory, cache and text, each lent by the caller. Nothing is allocated, so the arrays are fixed, and a session has how much
 // of each is in use.
 #[derive(Drop)]
-pub struct Rows {
-    pub memory: [u64; 4104],
-    pub cache: [u64; 4104],
-    pub text: [u8; 90200],
+pub struct Rows<'a> {
+    pub memory: &'a mut [u64; 4104],
+    pub cache: &'a mut [u64; 4104],
+    pub text: &'a mut [u8; 90200],
 }
 
 // The board's state record, and how many words of the memory and cache arrays and bytes of the text array are in use.

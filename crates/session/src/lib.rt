@@ -11,7 +11,7 @@ ghost use Rattle.board.specs.Next.{lent};
 ghost use Rattle.causes.specs.Refusals.{answer_number};
 ghost use Rattle.engine.specs.Answers.{value_left};
 ghost use Rattle.script.specs.declared.Line.TheVariants.{Format, Show};
-ghost use Rattle.session.specs.Session.{desk_of};
+ghost use Rattle.session.specs.Session.{desk_of, SameRows};
 ghost use Rattle.session.specs.Lines.{given, repeated, carried_out, left};
 
 use board::{Call, Phase, State};
@@ -119,10 +119,11 @@ impl Session {
     }
 
     // One call of the board, with its value shown.
-    fn make(self, rows: &mut Rows, call: Call) -> Answered
-        ensures { left result rows.new ≡ carried_out (Show call) (desk_of self rows.old) }
+    fn make(self, rows: &mut Rows<'_>, call: Call) -> Answered
+        ensures does { left result rows.new ≡ carried_out (Show call) (desk_of self rows.old) }
+        ensures same { SameRows rows.old rows.new }
     {
-        let r = self.repeat(&mut rows.memory, &mut rows.cache, call, 1);
+        let r = self.repeat(rows.memory, rows.cache, call, 1);
         Answered {
             session: self.with_state(r.state),
             answer: told(r.last),
@@ -131,8 +132,9 @@ impl Session {
     }
 
     // "X (cut: cache zeroed, phase off, answer 0)".
-    fn cut(self, rows: &mut Rows) -> Answered
-        ensures { left result rows.new ≡ carried_out Line.Cut (desk_of self rows.old) }
+    fn cut(self, rows: &mut Rows<'_>) -> Answered
+        ensures does { left result rows.new ≡ carried_out Line.Cut (desk_of self rows.old) }
+        ensures same { SameRows rows.old rows.new }
     {
         rows.cache.fill(0);
         let state = self.state;
@@ -144,15 +146,16 @@ impl Session {
     }
 
     // "F L W (format to the end)"; its rows are made to fit, so only its limits can turn it down.
-    fn format(self, rows: &mut Rows, lines: u64, workers: u64) -> Answered
-        ensures { left result rows.new ≡ carried_out (Format lines workers) (desk_of self rows.old) }
+    fn format(self, rows: &mut Rows<'_>, lines: u64, workers: u64) -> Answered
+        ensures does { left result rows.new ≡ carried_out (Format lines workers) (desk_of self rows.old) }
+        ensures same { SameRows rows.old rows.new }
     {
         if checks::limits::outside(lines, workers) {
             return self.answered(Shown::Number(1));
         }
         let words = board::row_words(lines as u16);
-        zero(&mut rows.memory, words);
-        zero(&mut rows.cache, words);
+        zero(rows.memory, words);
+        zero(rows.cache, words);
         let made = Session {
             state: self.state,
             memory: words,
@@ -160,22 +163,25 @@ impl Session {
             text: self.text,
         };
         let start = Call::FormatStart { lines, workers };
-        let begun = made.repeat(&mut rows.memory, &mut rows.cache, start, 1);
+        let begun = made.repeat(rows.memory, rows.cache, start, 1);
         let started = made.with_state(begun.state);
-        let ended = started.repeat(&mut rows.memory, &mut rows.cache, Call::Step, lines + 2);
+        let ended = started.repeat(rows.memory, rows.cache, Call::Step, lines + 2);
         started.with_state(ended.state).answered(Shown::Number(0))
     }
 
     // A damaging line of the fault program.
-    fn harm(self, rows: &mut Rows, asked: Damage) -> Answered
-        ensures { left result rows.new ≡ carried_out (Line.Damage asked) (desk_of self rows.old) }
+    fn harm(self, rows: &mut Rows<'_>, asked: Damage) -> Answered
+        ensures does { left result rows.new ≡ carried_out (Line.Damage asked) (desk_of self rows.old) }
+        ensures same { SameRows rows.old rows.new }
     {
         let sizes = Sizes {
             memory: self.memory,
             cache: self.cache,
         };
         let state = self.state;
-        let r = damage::carry_out(state, sizes, &mut rows.memory, &mut rows.cache, asked);
+        let memory = &mut *rows.memory;
+        let cache = &mut *rows.cache;
+        let r = damage::carry_out(state, sizes, memory, cache, asked);
         let used = r.sizes;
         Answered {
             session: Session {
@@ -190,7 +196,7 @@ impl Session {
     }
 
     // "p room": a page in a text row of `room` bytes, each 0xAA before.
-    fn print(self, rows: &Rows, room: u64) -> Answered
+    fn print(self, rows: &Rows<'_>, room: u64) -> Answered
         ensures { left result rows.now ≡ carried_out (Line.Page room) (desk_of self rows.now) }
     {
         if room > 70000 {
@@ -215,8 +221,9 @@ impl Session {
     }
 
     // A line of the script.
-    pub fn act(self, rows: &mut Rows, line: Line) -> Answered
-        ensures { left result rows.new ≡ carried_out line (desk_of self rows.old) }
+    pub fn act(self, rows: &mut Rows<'_>, line: Line) -> Answered
+        ensures does { left result rows.new ≡ carried_out line (desk_of self rows.old) }
+        ensures same { SameRows rows.old rows.new }
     {
         match line {
             Line::Format { lines, workers } => self.format(rows, lines, workers),

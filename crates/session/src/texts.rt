@@ -2,7 +2,7 @@
 ghost use Rattle.std.specs.Prelude.{◌≡◌, ◌≤◌, take};
 ghost use Rattle.board.specs.Hex.{HexWritePerformed, HexReadPerformed};
 ghost use Rattle.causes.specs.Refusals.{answer_number};
-ghost use Rattle.session.specs.Session.{desk_of};
+ghost use Rattle.session.specs.Session.{desk_of, SameRows};
 ghost use Rattle.session.specs.Lines.{text_row, left, worked};
 
 use crate::{Answered, Rows, Session, told};
@@ -30,15 +30,16 @@ fn read_front(text: &[u8], memory: &mut [u64; 4104], words: usize) -> Result<(),
 
 impl Session {
     // "h room": the text becomes `room` bytes, each 0xAA, and memory is written into it.
-    fn write(self, rows: &mut Rows, room: u64) -> Answered
-        ensures { left result rows.new ≡ worked (TextWork.Write room) (desk_of self rows.old) }
+    fn write(self, rows: &mut Rows<'_>, room: u64) -> Answered
+        ensures does { left result rows.new ≡ worked (TextWork.Write room) (desk_of self rows.old) }
+        ensures same { SameRows rows.old rows.new }
     {
         if room > 90200 {
             return self.answered(Shown::Unknown);
         }
         let bytes = room as usize;
         let words = self.memory;
-        let written = write_front(&rows.memory[..words], &mut rows.text, bytes);
+        let written = write_front(&rows.memory[..words], rows.text, bytes);
         let sum = damage::bytes_checksum(&rows.text[..bytes]);
         Answered {
             session: Session {
@@ -53,32 +54,36 @@ impl Session {
     }
 
     // "Y i v": text byte i := v.
-    fn put(self, rows: &mut Rows, at: u64, byte: u64) -> Answered
-        ensures { left result rows.new ≡ worked (TextWork.Put at byte) (desk_of self rows.old) }
+    fn put(self, rows: &mut Rows<'_>, at: u64, byte: u64) -> Answered
+        ensures does { left result rows.new ≡ worked (TextWork.Put at byte) (desk_of self rows.old) }
+        ensures same { SameRows rows.old rows.new }
     {
         if at >= self.text as u64 || byte > 255 {
             return self.answered(Shown::Unknown);
         }
-        rows.text[at as usize] = byte as u8;
+        let text = &mut *rows.text;
+        text[at as usize] = byte as u8;
         self.answered(Shown::Number(0))
     }
 
     // "y n": the first n bytes of the text are read into memory.
-    fn read(self, rows: &mut Rows, bytes: u64) -> Answered
-        ensures { left result rows.new ≡ worked (TextWork.Read bytes) (desk_of self rows.old) }
+    fn read(self, rows: &mut Rows<'_>, bytes: u64) -> Answered
+        ensures does { left result rows.new ≡ worked (TextWork.Read bytes) (desk_of self rows.old) }
+        ensures same { SameRows rows.old rows.new }
     {
         if bytes > self.text as u64 {
             return self.answered(Shown::Unknown);
         }
         let n = bytes as usize;
         let words = self.memory;
-        let outcome = read_front(&rows.text[..n], &mut rows.memory, words);
+        let outcome = read_front(&rows.text[..n], rows.memory, words);
         self.answered(told(outcome))
     }
 
     // A line of the fault program that works with the text.
-    pub(crate) fn work(self, rows: &mut Rows, work: TextWork) -> Answered
-        ensures { left result rows.new ≡ worked work (desk_of self rows.old) }
+    pub(crate) fn work(self, rows: &mut Rows<'_>, work: TextWork) -> Answered
+        ensures does { left result rows.new ≡ worked work (desk_of self rows.old) }
+        ensures same { SameRows rows.old rows.new }
     {
         match work {
             TextWork::Write { room } => self.write(rows, room),
