@@ -139,7 +139,7 @@ used-more program first reached after piece used more so_far fits e =
 
 -- What is carried once more bytes of a line are kept.
 pub kept_by : (k p : Ongoing) (buffers : Buffers) (after rest : List ℕ) →
-    (k.session ≡ p.session) × (k.number ≡ p.number) × (k.misread ≡ p.misread) × (take k.begun after ≡ take 80 (take p.begun buffers.line ++ rest)) →
+    (k.session ≡ p.session) × (k.number ≡ p.number) × (k.misread ≡ p.misread) × (take k.begun after ≡ take 80 (take p.begun buffers.line.now ++ rest)) →
     carried (desk_of k.session buffers.rows) k.number k.misread (take k.begun after) ≡ kept (carried_by p buffers) rest
 kept_by k p buffers after rest w =
     let desk = desk_of p.session buffers.rows in
@@ -158,19 +158,19 @@ begun-short p line = omega (arith, p.begun_within, length-take p.begun line)
 pub none_last : (program : Program) (p : Ongoing) (buffers : Buffers) → p.begun ≡ 0 →
     leaving (carried_by p buffers) [] ≡ finished program (carried_by p buffers)
 none_last program p buffers z =
-    let none : length (take p.begun buffers.line) ≡ 0 = ap (λ (k : ℕ). length (take k buffers.line)) z in
-    sym (chosen (eqb (length (take p.begun buffers.line)) 0) _ _ (eq-eqb _ 0 none))
+    let none : length (take p.begun buffers.line.now) ≡ 0 = ap (λ (k : ℕ). length (take k buffers.line.now)) z in
+    sym (chosen (eqb (length (take p.begun buffers.line.now)) 0) _ _ (eq-eqb _ 0 none))
 
 -- The line begun ends by the line feed that it lacks.
-pub line-last : (program : Program) (p : Ongoing) (buffers : Buffers) → length buffers.line ≡ 80 → (p.begun ≡ 0 → ⊥) →
+pub line-last : (program : Program) (p : Ongoing) (buffers : Buffers) → length buffers.line.now ≡ 80 → (p.begun ≡ 0 → ⊥) →
     {f : Fed} {used written : ℕ} → f ≡ fed program (carried_by p buffers) (take used (feed ∷ [])) → Stops (feed ∷ []) used written →
     f ≡ finished program (carried_by p buffers)
 unfolding fed
 line-last program p buffers size some {f} {used} {written} e' stops =
     let from = carried_by p buffers in
-    let begun : length (take p.begun buffers.line) ≡ p.begun = length-take-le p.begun buffers.line (omega (arith, p.begun_within)) in
+    let begun : length (take p.begun buffers.line.now) ≡ p.begun = length-take-le p.begun buffers.line.now (omega (arith, p.begun_within)) in
     let whole : used ≡ 1 = omega (arith, stops.used-within, stops.goes_on (omega arith)) in
     e'
     ∙ ap (λ (n : ℕ). fed program from (take n (feed ∷ []))) whole
     ∙ ap (leaving (ended program from).after) (append-nil (ended program from).text)
-    ∙ sym (passed_over (eqb (length (take p.begun buffers.line)) 0) _ _ (ne_eqb _ 0 (λ z. some (sym begun ∙ z))))
+    ∙ sym (passed_over (eqb (length (take p.begun buffers.line.now)) 0) _ _ (ne_eqb _ 0 (λ z. some (sym begun ∙ z))))

@@ -10,7 +10,7 @@ use Rattle.script.specs.declared.Program.{Program}
 use Rattle.console.specs.declared.answers.LineAsked.{LineAsked}
 use Rattle.console.specs.declared.progress.Buffers.{Buffers}
 use Rattle.console.specs.declared.progress.Ongoing.{Ongoing}
-use Rattle.session.specs.Session.{Desk, desk_of, first_desk}
+use Rattle.session.specs.Session.{Desk, desk_of, SameRows, first_desk}
 use Rattle.session.specs.Lines.{carried_out}
 use Rattle.console.specs.declared.progress.Misread.{Misread}
 use Rattle.console.specs.Transcript.{following, line_text, transcript, last_board, none_misread, line_tallied, misread_in}
@@ -92,7 +92,13 @@ AnyPiecesMisread =
 
 -- What the code carries: the board and the text of its session, the lines answered and those answered `?`, and the first bytes of the line kept.
 abbrev pub carried_by : Ongoing → Buffers → Carried
-carried_by p buffers = carried (desk_of p.session buffers.rows) p.number p.misread (take p.begun buffers.line)
+carried_by p buffers = carried (desk_of p.session buffers.rows) p.number p.misread (take p.begun buffers.line.now)
+
+-- The same arrays are lent.
+pub record SameBuffers (old new : Buffers) : Type 0 where
+  pub rows : SameRows old.rows new.rows
+  pub line : new.line.ghost_name ≡ old.line.ghost_name
+  pub out : new.out.ghost_name ≡ old.out.ghost_name
 
 -- The line that goes on at `from` goes on at `i`: it ends at the same place.
 pub record LineGoesOn (text : List ℕ) (from i : ℕ) : Type 0 where

@@ -4,9 +4,9 @@ ghost use Rattle.std.specs.Prelude.{◌≡◌, ◌+◌, ◌≤◌, true, ◌++�
 ghost use Rattle.script.specs.Reasons.{reason, reason_number};
 ghost use Rattle.console.specs.declared.progress.Buffers.{Buffers};
 ghost use Rattle.console.specs.Transcript.{tallied};
-ghost use Rattle.console.specs.Pieces.{first, leaving, kept, ended, fed, finished, carried_by, LineRead, LineEnds, Stops};
+ghost use Rattle.console.specs.Pieces.{first, leaving, kept, ended, fed, finished, carried_by, SameBuffers, LineRead, LineEnds, Stops};
 
-use crate::input::{feed_at, keep};
+use crate::input::{feed_at, has_room, keep};
 pub use crate::progress::{Buffers, Misread, Ongoing};
 use script::{Line, Program, Shown};
 use session::Session;
@@ -122,14 +122,22 @@ impl Ongoing {
 
     // The end of the line begun, of which `rest` are the last bytes: it is read, carried out, and answered behind the
     // first `at` bytes of `out`. A line that is no call leaves the session where it is.
-    fn end_line(self, program: Program, buffers: &mut Buffers, rest: &[u8], at: usize) -> LineEnded
+    fn end_line(
+        self,
+        program: Program,
+        buffers: &mut Buffers<'_>,
+        rest: &[u8],
+        at: usize,
+    ) -> LineEnded
         requires { at + 80 ≤ 65536 }
-        ensures { LineEnds (ended program (kept (carried_by self buffers.old) rest.now)) (carried_by result.progress buffers.new) buffers.old.out at buffers.new.out result.end }
+        ensures ends { LineEnds (ended program (kept (carried_by self buffers.old) rest.now)) (carried_by result.progress buffers.new)
+            buffers.old.out.now at buffers.new.out.now result.end }
+        ensures same { SameBuffers buffers.old buffers.new }
     {
         let session = self.session;
         let misread = self.misread;
         let begun = self.begun;
-        let asked = read_line(program, misread.lines == 0, &mut buffers.line, begun, rest);
+        let asked = read_line(program, misread.lines == 0, buffers.line, begun, rest);
         let why = asked.why;
         let number = self.number.wrapping_add(1);
         if let Line::Unknown = asked.line {
@@ -139,14 +147,15 @@ impl Ongoing {
                 misread: misread.tally(number, why, Shown::Unknown),
                 begun: 0,
             };
-            let out = &mut buffers.out;
+            let out = &mut *buffers.out;
             let end = script::put_answer(out, at, number, b'?', Shown::Unknown, Shown::Nothing);
             return LineEnded { progress, end };
         }
         let done = session.act(&mut buffers.rows, asked.line);
         let answer = done.answer;
         let letter = script::letter(asked.first, answer);
-        let end = script::put_answer(&mut buffers.out, at, number, letter, answer, done.value);
+        let out = &mut *buffers.out;
+        let end = script::put_answer(out, at, number, letter, answer, done.value);
         LineEnded {
             progress: Ongoing {
                 session: done.session,
@@ -173,9 +182,11 @@ impl Ongoing {
     // The lines that end in a piece of input, answered from the start of `out`, and what it has of a further line kept.
     // It stops where the buffer might not hold another answer, and does nothing with the rest of the piece. The loop goes
     // from line to line: `at` is where the next one begins, and counts nothing.
-    pub fn answer(self, program: Program, buffers: &mut Buffers, piece: &[u8]) -> Answers
-        ensures fed { leaving (carried_by result.progress buffers.new) (take result.written buffers.new.out) ≡ fed program (carried_by self buffers.old) (take result.used piece.now) }
+    pub fn answer(self, program: Program, buffers: &mut Buffers<'_>, piece: &[u8]) -> Answers
+        ensures fed { leaving (carried_by result.progress buffers.new) (take result.written buffers.new.out.now)
+            ≡ fed program (carried_by self buffers.old) (take result.used piece.now) }
         ensures stops { Stops piece.now result.used result.written }
+        ensures same { SameBuffers buffers.old buffers.new }
     {
         let mut reached = self;
         let mut at = 0;
@@ -185,7 +196,7 @@ impl Ongoing {
             let rest = &piece[at..stop];
             if stop == piece.len() {
                 return Answers {
-                    progress: reached.keep_rest(&mut buffers.line, rest),
+                    progress: reached.keep_rest(buffers.line, rest),
                     used: stop,
                     written: end,
                 };
@@ -203,9 +214,11 @@ impl Ongoing {
     }
 
     // After the input: a last line that lacks its line feed is carried out, and answered at the start of `out`.
-    pub fn answer_last(self, program: Program, buffers: &mut Buffers) -> LineEnded
-        ensures finishes { leaving (carried_by result.progress buffers.new) (take result.end buffers.new.out) ≡ finished program (carried_by self buffers.old) }
+    pub fn answer_last(self, program: Program, buffers: &mut Buffers<'_>) -> LineEnded
+        ensures finishes { leaving (carried_by result.progress buffers.new) (take result.end buffers.new.out.now)
+            ≡ finished program (carried_by self buffers.old) }
         ensures within { result.end ≤ 65536 }
+        ensures same { SameBuffers buffers.old buffers.new }
     {
         if self.begun == 0 {
             return LineEnded {
@@ -213,6 +226,7 @@ impl Ongoing {
                 end: 0,
             };
         }
+        has_room(buffers.line);
         let r = self.answer(program, buffers, b"\n");
         LineEnded {
             progress: r.progress,

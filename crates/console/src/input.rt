@@ -51,6 +51,11 @@ pub fn feed_at(text: &[u8], from: usize) -> usize
     i
 }
 
+// The array for the bytes kept has its length: of an array that a field lends only such a call tells it.
+pub fn has_room(line: &[u8; 80])
+    ensures { length line.now ≡ 80 }
+{}
+
 // More bytes of a line of which `begun` are kept; what comes after 80 bytes is dropped. Gives how many are kept.
 pub fn keep(line: &mut [u8; 80], begun: usize, more: &[u8]) -> usize
     requires { begun ≤ 80 }

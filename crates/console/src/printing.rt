@@ -2,7 +2,7 @@
 ghost use Rattle.std.specs.Prelude.{◌≡◌, ◌≤◌, replicate, IfOk};
 ghost use Rattle.script.specs.declared.Program.{Program};
 ghost use Rattle.board.specs.Next.{lent};
-ghost use Rattle.console.specs.Pieces.{finished, carried_by};
+ghost use Rattle.console.specs.Pieces.{finished, carried_by, SameBuffers};
 ghost use Rattle.console.specs.Printing.{printed_by, printed_of, hex_printed_of};
 
 use crate::answers::{Buffers, Misread, Ongoing};
@@ -50,36 +50,42 @@ fn print_hex(memory: &[u64], row: &mut [u8; 90124]) -> Result<usize, Refusal>
 impl Ongoing {
     // After the input: a last line that lacks its line feed is carried out, and the page of the board left is put into
     // the text row; the lines answered `?` are given too.
-    pub fn last_page(self, buffers: &mut Buffers, row: &mut [u8; 69564]) -> LastPrintout
+    pub fn last_page(self, buffers: &mut Buffers<'_>, row: &mut [u8; 69564]) -> LastPrintout
         ensures prints { printed_by result.printed row.new ≡ printed_of (finished Program.Page (carried_by self buffers.old)).after.desk.board }
         ensures within { IfOk result.printed (λ bytes. bytes ≤ 69564) }
         ensures notes { result.misread ≡ (finished Program.Page (carried_by self buffers.old)).after.misread }
+        ensures same { SameBuffers buffers.old buffers.new }
     {
         let last = self.answer_last(Program::Page, buffers);
         let left = last.progress;
         let session = left.session;
         let in_memory = session.memory;
         let in_cache = session.cache;
-        let memory = &buffers.rows.memory[..in_memory];
-        let cache = &buffers.rows.cache[..in_cache];
+        let rows = &mut buffers.rows;
+        let memory = &mut *rows.memory;
+        let cache = &mut *rows.cache;
+        let state = session.state;
         LastPrintout {
-            printed: print(session.state, memory, cache, row),
+            printed: print(state, &memory[..in_memory], &cache[..in_cache], row),
             misread: left.misread,
         }
     }
 
     // The same, with memory as HEX in place of the page. Two functions, since one over both would take the row's length and
     // what is put into it as parameters, and be longer than they are.
-    pub fn last_hex(self, buffers: &mut Buffers, row: &mut [u8; 90124]) -> LastPrintout
+    pub fn last_hex(self, buffers: &mut Buffers<'_>, row: &mut [u8; 90124]) -> LastPrintout
         ensures prints { printed_by result.printed row.new ≡ hex_printed_of (finished Program.Hex (carried_by self buffers.old)).after.desk.board.memory }
         ensures within { IfOk result.printed (λ bytes. bytes ≤ 90124) }
         ensures notes { result.misread ≡ (finished Program.Hex (carried_by self buffers.old)).after.misread }
+        ensures same { SameBuffers buffers.old buffers.new }
     {
         let last = self.answer_last(Program::Hex, buffers);
         let left = last.progress;
         let in_memory = left.session.memory;
+        let rows = &mut buffers.rows;
+        let memory = &mut *rows.memory;
         LastPrintout {
-            printed: print_hex(&buffers.rows.memory[..in_memory], row),
+            printed: print_hex(&memory[..in_memory], row),
             misread: left.misread,
         }
     }

@@ -3,12 +3,12 @@ ghost use Rattle.std.specs.Prelude.{◌≤◌};
 
 use session::{Rows, Session};
 
-// What a program works in: the session's arrays, the bytes kept of the line begun, and the answers.
+// What a program works in, lent by the caller: the session's arrays, the bytes kept of the line begun, and the answers.
 #[derive(Drop)]
-pub struct Buffers {
-    pub rows: Rows,
-    pub line: [u8; 80],
-    pub out: [u8; 65536],
+pub struct Buffers<'a> {
+    pub rows: Rows<'a>,
+    pub line: &'a mut [u8; 80],
+    pub out: &'a mut [u8; 65536],
 }
 
 // The lines answered `?`: how many, and the first one's number and the number of its reason. Words alone, 0 where there

@@ -1,10 +1,17 @@
-use Rattle.std.proofs.Common.{◌<◌, length, sym, refl, arith}
+use Rattle.std.proofs.Common.{◌<◌, length, sym, refl, arith, rules}
 use Rattle.console.specs.Pieces.{carried_by}
 use Rattle.console.proofs.Pieces.{fed-none, line-more, rest_more, kept_by, begun-short}
 use Rattle.console.proofs.progress.Ongoing.answer.Goals as goal
 
 pub loop-at-init : goal.loop-at-init
-loop-at-init c = let a = c.args in record { at_within = omega arith; end_within = omega arith; goes_on = omega arith; so_far = sym (fed-none a.program (carried_by a.self a.buffers.now)) }
+loop-at-init c =
+    let a = c.args in record {
+      at_within = omega arith;
+      end_within = omega arith;
+      goes_on = omega arith;
+      so_far = sym (fed-none a.program (carried_by a.self a.buffers.now));
+      same = search rules;
+    }
 
 pub returns-then-stop-piece : goal.returns-then-stop-piece
 returns-then-stop-piece c =
@@ -13,8 +20,9 @@ returns-then-stop-piece c =
     let i = l.invariant in
     let stop = c.feed_at-stop in
     let k = c.keep_rest in record {
-      fed = rest_more a.program _ _ _ a.piece.now l.at i.so_far (begun-short l.reached l.buffers.line) stop.result (omega arith) stop.ensures.0 c.if-stop-piece.true (kept_by k.result l.reached l.buffers k.new.line _ k.ensures);
+      fed = rest_more a.program _ _ _ a.piece.now l.at i.so_far (begun-short l.reached l.buffers.line.now) stop.result (omega arith) stop.ensures.0 c.if-stop-piece.true (kept_by k.result l.reached l.buffers k.new.line _ k.ensures);
       stops = record { used-within = omega arith; written-within = i.end_within; buffer-full = λ h. absurd (omega arith); goes_on = λ h. omega arith };
+      same = search (rules, i.same);
     }
 
 pub end_line-r-requires : goal.end_line-r-requires
@@ -34,9 +42,11 @@ loop-at-preserved c =
     let ends = c.end_line-r.ensures in
     let stands : stop.result < length a.piece.now = omega (arith, stop.ensures.2, c.if-stop-piece.false) in record {
       at_within = omega arith;
-      end_within = omega (arith, ends.within, c.if-end-le65456.true);
-      goes_on = omega (arith, ends.within, c.if-end-le65456.true);
-      so_far = line-more a.program _ _ _ a.piece.now l.at l.invariant.so_far (begun-short l.reached l.buffers.line) stop.result stop.ensures.0 stands refl ends;
+      end_within = omega (arith, ends.ends.within, c.if-end-le65456.true);
+      goes_on = omega (arith, ends.ends.within, c.if-end-le65456.true);
+      so_far = line-more a.program _ _ _ a.piece.now l.at l.invariant.so_far (begun-short l.reached l.buffers.line.now)
+          stop.result stop.ensures.0 stands refl ends.ends;
+      same = search (rules, l.invariant.same, ends.same);
     }
 
 pub returns-else-end-le65456 : goal.returns-else-end-le65456
@@ -45,6 +55,7 @@ returns-else-end-le65456 c =
     let full : 65456 < c.loop-at.end = c.if-end-le65456.false in record {
       fed = i.so_far;
       stops = record { used-within = omega arith; written-within = i.end_within; buffer-full = λ h. omega arith; goes_on = λ h. omega (arith, i.goes_on) };
+      same = search (rules, i.same);
     }
 
 pub returns-after-loop-at : goal.returns-after-loop-at
@@ -52,4 +63,5 @@ returns-after-loop-at c =
     let i = c.loop-at.invariant in record {
       fed = i.so_far;
       stops = record { used-within = omega arith; written-within = i.end_within; buffer-full = λ h. absurd (omega arith); goes_on = λ h. omega arith };
+      same = search (rules, i.same);
     }

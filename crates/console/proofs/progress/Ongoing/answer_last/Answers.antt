@@ -6,9 +6,9 @@ use Rattle.console.proofs.progress.Ongoing.answer_last.Goals as goal
 pub returns-then-self-eq0 : goal.returns-then-self-eq0
 returns-then-self-eq0 c =
     let a = c.args in
-    record { finishes = none_last a.program a.self a.buffers.now c.if-self-eq0.true; within = omega arith }
+    record { finishes = none_last a.program a.self a.buffers.now c.if-self-eq0.true; within = omega arith; same = search rules }
 
 pub returns : goal.returns
 returns c =
     let a = c.args in
-    let r = c.answer-r.ensures in record { finishes = line-last a.program a.self a.buffers.now (search rules) c.if-self-eq0.false r.fed r.stops; within = r.stops.written-within }
+    let r = c.answer-r.ensures in record { finishes = line-last a.program a.self a.buffers.now c.has_room.ensures c.if-self-eq0.false r.fed r.stops; within = r.stops.written-within; same = r.same }
