@@ -11,7 +11,7 @@ mod display;
 mod messages;
 
 ghost use Rattle.std.specs.Prelude.{◌≡◌, ◌≤◌, length, IfOk};
-ghost use Rattle.console.specs.Pieces.{fed, carried_by};
+ghost use Rattle.console.specs.Pieces.{fed, carried_by, SameBuffers};
 
 use causes::Refusal;
 use console::answers::{Buffers, Ongoing};
@@ -56,10 +56,11 @@ fn converse<R: Print>(
     rt: &R,
     program: Program,
     progress: Ongoing,
-    buffers: &mut Buffers,
+    buffers: &mut Buffers<'_>,
     piece: &[u8],
 ) -> Result<Ongoing, Failure>
-    ensures { IfOk result (λ reached. carried_by reached buffers.new ≡ (fed program (carried_by progress buffers.old) piece.now).after) }
+    ensures fed { IfOk result (λ reached. carried_by reached buffers.new ≡ (fed program (carried_by progress buffers.old) piece.now).after) }
+    ensures same { SameBuffers buffers.old buffers.new }
 {
     let mut reached = progress;
     let mut used = 0;
@@ -96,7 +97,7 @@ fn finish<R: Print + Eprint>(
     rt: &R,
     program: Program,
     progress: Ongoing,
-    buffers: &mut Buffers,
+    buffers: &mut Buffers<'_>,
 ) -> Result<(), Failure> {
     let misread = match program {
         Program::Drill | Program::Fault => {
@@ -124,14 +125,19 @@ fn finish<R: Print + Eprint>(
 // Read, answer, write, up to the input's end. Nothing says that the input ends, so the turns are counted, up to a number
 // that no run reaches.
 fn converse_all<R: Input + Print + Eprint>(rt: &R, program: Program) -> Result<(), Failure> {
+    let mut memory = [0u64; 4104];
+    let mut cache = [0u64; 4104];
+    let mut text = [0u8; 90200];
+    let mut line = [0u8; 80];
+    let mut out = [0u8; 65536];
     let mut buffers = Buffers {
         rows: Rows {
-            memory: [0; 4104],
-            cache: [0; 4104],
-            text: [0; 90200],
+            memory: &mut memory,
+            cache: &mut cache,
+            text: &mut text,
         },
-        line: [0; 80],
-        out: [0; 65536],
+        line: &mut line,
+        out: &mut out,
     };
     let mut input = [0u8; 65536];
     let mut reader = rt.reader();
