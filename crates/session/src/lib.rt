@@ -42,8 +42,8 @@ fn told<T: Copy>(outcome: Result<T, Refusal>) -> Shown
     Shown::Number(u64::from(engine::answer_number(outcome)))
 }
 
-// The first `words` words of a row, zeroed. A function of its own: of a part of a field that is lent at once the check does
-// not know that it is the array's.
+// The first `words` words of a row, zeroed. A function of its own: the check does not cover a part that is taken at once of
+// an array that a field lends.
 fn zero(row: &mut [u64], words: usize)
     requires { words ≤ length row.old }
     ensures { take words row.new ≡ replicate words 0 }

@@ -9,8 +9,8 @@ use crate::{Answered, Rows, Session, told};
 use engine::Refusal;
 use script::{Shown, TextWork};
 
-// Memory written as HEX into the first bytes of the text, each 0xAA before. Whole arrays are lent, here and below: the arrays
-// are fixed, and a part of a field that is lent at once loses what ties it to the array.
+// Memory written as HEX into the first bytes of the text, each 0xAA before. Whole arrays are lent, here and below: the check
+// does not cover a part to be written that is taken at once of an array that a field lends.
 fn write_front(memory: &[u64], text: &mut [u8; 90200], bytes: usize) -> Result<(), Refusal>
     requires { bytes ≤ 90200 }
     ensures { HexWritePerformed memory.now (text_row bytes) (answer_number result) (take bytes text.new) }
