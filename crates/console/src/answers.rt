@@ -1,12 +1,12 @@
 // The lines of a piece of input, answered one after the other into a buffer. Buffers are fixed, as nothing is allocated: how
 // much of one is in use, or where the next answer begins, goes beside it.
-ghost use Rattle.std.specs.Prelude.{◌≡◌, ◌+◌, ◌≤◌, true, ◌++◌, take};
+ghost use Rattle.std.specs.Prelude.{◌≡◌, ◌+◌, ◌≤◌, true, ◌++◌, length, take};
 ghost use Rattle.script.specs.Reasons.{reason, reason_number};
 ghost use Rattle.console.specs.declared.progress.Buffers.{Buffers};
 ghost use Rattle.console.specs.Transcript.{tallied};
 ghost use Rattle.console.specs.Pieces.{first, leaving, kept, ended, fed, finished, carried_by, SameBuffers, LineRead, LineEnds, Stops};
 
-use crate::input::{feed_at, has_room, keep};
+use crate::input::{feed_at, keep};
 pub use crate::progress::{Buffers, Misread, Ongoing};
 use script::{Line, Program, Shown};
 use session::Session;
@@ -62,11 +62,11 @@ fn asked_by(program: Program, wanted: bool, text: &[u8]) -> LineAsked
 fn read_line(
     program: Program,
     wanted: bool,
-    line: &mut [u8; 80],
+    line: &mut [u8],
     begun: usize,
     rest: &[u8],
 ) -> LineAsked
-    requires { begun ≤ 80 }
+    requires { (begun ≤ 80) × (length line.old ≡ 80) }
     ensures { LineRead program wanted (take 80 (take begun line.old ++ rest.now)) result }
 {
     if begun == 0 {
@@ -168,7 +168,8 @@ impl Ongoing {
     }
 
     // What a piece has of a line that does not end in it, kept.
-    fn keep_rest(self, line: &mut [u8; 80], rest: &[u8]) -> Self
+    fn keep_rest(self, line: &mut [u8], rest: &[u8]) -> Self
+        requires { length line.old ≡ 80 }
         ensures { (result.session ≡ self.session) × (result.number ≡ self.number) × (result.misread ≡ self.misread) × (take result.begun line.new ≡ take 80 (take self.begun line.old ++ rest.now)) }
     {
         Ongoing {
@@ -226,7 +227,6 @@ impl Ongoing {
                 end: 0,
             };
         }
-        has_room(buffers.line);
         let r = self.answer(program, buffers, b"\n");
         LineEnded {
             progress: r.progress,

@@ -1,5 +1,5 @@
 // The bytes of a line that goes on from piece to piece, and where a line ends. A piece is lent whole, with the place from which
-// it is looked at, as the answer is a place in it; the kept bytes are the first of a fixed array, since nothing is allocated.
+// it is looked at, as the answer is a place in it; the kept bytes are the first of 80 that are lent, since nothing is allocated.
 ghost use Rattle.std.specs.Prelude.{◌≡◌, ◌+◌, ◌≤◌, true, ◌++◌, length, take, drop};
 ghost use Rattle.console.specs.Bytes.{index_of};
 ghost use Rattle.text.specs.Ascii.{feed};
@@ -51,14 +51,9 @@ pub fn feed_at(text: &[u8], from: usize) -> usize
     i
 }
 
-// The array for the bytes kept has its length: of an array that a field lends only such a call tells it.
-pub fn has_room(line: &[u8; 80])
-    ensures { length line.now ≡ 80 }
-{}
-
 // More bytes of a line of which `begun` are kept; what comes after 80 bytes is dropped. Gives how many are kept.
-pub fn keep(line: &mut [u8; 80], begun: usize, more: &[u8]) -> usize
-    requires { begun ≤ 80 }
+pub fn keep(line: &mut [u8], begun: usize, more: &[u8]) -> usize
+    requires { (begun ≤ 80) × (length line.old ≡ 80) }
     ensures { (take result line.new ≡ take 80 (take begun line.old ++ more.now)) × (result ≤ 80) }
 {
     let n = (80 - begun).min(more.len());

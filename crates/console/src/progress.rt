@@ -1,14 +1,16 @@
 // What is carried from piece to piece of an input, and the arrays beside it.
-ghost use Rattle.std.specs.Prelude.{◌≤◌};
+ghost use Rattle.std.specs.Prelude.{◌≡◌, ◌≤◌, length};
 
 use session::{Rows, Session};
 
-// What a program works in, lent by the caller: the session's arrays, the bytes kept of the line begun, and the answers.
+// What a program works in, lent by the caller: the session's arrays, 80 bytes for those kept of the line
+// begun, and the answers.
 #[derive(Drop)]
 pub struct Buffers<'a> {
     pub rows: Rows<'a>,
-    pub line: &'a mut [u8; 80],
+    pub line: &'a mut [u8],
     pub out: &'a mut [u8; 65536],
+    pub ghost line_long: { length line.now ≡ 80 },
 }
 
 // The lines answered `?`: how many, and the first one's number and the number of its reason. Words alone, 0 where there

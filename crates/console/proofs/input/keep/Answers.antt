@@ -10,7 +10,7 @@ returns c =
     let begun = c.args.begun in
     let n = c.min-n.result in
     let part = length-take-le n more (omega (arith, c.min-n.ensures)) in (
-      kept_line c.args.line.now more _ begun n _ c.told-line (omega (arith, c.min-n.ensures)) (omega (arith, c.min-n.ensures))
+      kept_line c.args.line.now more _ begun n _ c.requires.1 (omega (arith, c.min-n.ensures)) (omega (arith, c.min-n.ensures))
           (ap (λ k. take k more) c.min-n.ensures ∙ take_min (80 - begun) more) refl
           (copied c.args.line.now begun n (take n more) _ (omega (arith, part)) c.copy_from_slice.ensures.after),
       omega (arith, c.min-n.ensures),

@@ -11,4 +11,4 @@ returns-then-self-eq0 c =
 pub returns : goal.returns
 returns c =
     let a = c.args in
-    let r = c.answer-r.ensures in record { finishes = line-last a.program a.self a.buffers.now c.has_room.ensures c.if-self-eq0.false r.fed r.stops; within = r.stops.written-within; same = r.same }
+    let r = c.answer-r.ensures in record { finishes = line-last a.program a.self a.buffers.now a.buffers.now.line_long c.if-self-eq0.false r.fed r.stops; within = r.stops.written-within; same = r.same }
