@@ -10,7 +10,8 @@ use Rattle.script.specs.declared.Program.{Program}
 use Rattle.console.specs.declared.answers.LineAsked.{LineAsked}
 use Rattle.console.specs.declared.progress.Buffers.{Buffers}
 use Rattle.console.specs.declared.progress.Ongoing.{Ongoing}
-use Rattle.session.specs.Session.{Desk, desk_of, SameRows, first_desk}
+use Rattle.board.specs.Next.{lent}
+use Rattle.session.specs.Session.{Desk, desk, desk_of, SameRows, first_desk}
 use Rattle.session.specs.Lines.{carried_out}
 use Rattle.console.specs.declared.progress.Misread.{Misread}
 use Rattle.console.specs.Transcript.{following, line_text, transcript, last_board, none_misread, line_tallied, misread_in}
@@ -93,6 +94,12 @@ AnyPiecesMisread =
 -- What the code carries: the board and the text of its session, the lines answered and those answered `?`, and the first bytes of the line kept.
 abbrev pub carried_by : Ongoing → Buffers → Carried
 carried_by p buffers = carried (desk_of p.session buffers.rows) p.number p.misread (take p.begun buffers.line.now)
+
+-- The same, where memory, cache, text and the bytes kept are these.
+abbrev pub carried_in : Ongoing → List ℕ → List ℕ → List ℕ → List ℕ → Carried
+carried_in p memory cache text line =
+    let s = p.session in
+    carried (desk (lent s.state (take s.memory memory) (take s.cache cache)) (take s.text text)) p.number p.misread (take p.begun line)
 
 -- The same arrays are lent.
 pub record SameBuffers (old new : Buffers) : Type 0 where

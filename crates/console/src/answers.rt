@@ -1,10 +1,9 @@
 // The lines of a piece of input, answered one after the other into a buffer. Buffers are fixed, as nothing is allocated: how
 // much of one is in use, or where the next answer begins, goes beside it.
-ghost use Rattle.std.specs.Prelude.{◌≡◌, ◌+◌, ◌≤◌, true, ◌++◌, length, take};
+ghost use Rattle.std.specs.Prelude.{◌≡◌, ℕ, ◌+◌, ◌≤◌, true, List, ◌++◌, length, take};
 ghost use Rattle.script.specs.Reasons.{reason, reason_number};
-ghost use Rattle.console.specs.declared.progress.Buffers.{Buffers};
 ghost use Rattle.console.specs.Transcript.{tallied};
-ghost use Rattle.console.specs.Pieces.{first, leaving, kept, ended, fed, finished, carried_by, SameBuffers, LineRead, LineEnds, Stops};
+ghost use Rattle.console.specs.Pieces.{first, leaving, kept, ended, fed, finished, carried_by, carried_in, SameBuffers, LineRead, LineEnds, Stops};
 
 use crate::input::{feed_at, keep};
 pub use crate::progress::{Buffers, Misread, Ongoing};
@@ -106,7 +105,7 @@ impl Misread {
 impl Ongoing {
     // Before the first line.
     pub fn start() -> Self
-        ensures { (buffers : Buffers) → carried_by result buffers ≡ first }
+        ensures { (memory cache text line : List ℕ) → carried_in result memory cache text line ≡ first }
     {
         Ongoing {
             session: Session::new(),

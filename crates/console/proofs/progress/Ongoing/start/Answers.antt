@@ -14,10 +14,7 @@ pub returns : goal.returns
 returns c =
     let s = c.new.result in
     let w = c.new.ensures in
-    λ buffers.
-    let m = buffers.rows.memory.now in
-    let k = buffers.rows.cache.now in
-    let t = buffers.rows.text.now in
+    λ m k t line.
     ap (λ (x : State). carried (desk (lent x (take s.memory m) (take s.cache k)) (take s.text t)) 0 none_misread []) w.0
     ∙ ap (λ (n : ℕ). carried (desk (lent (started Off (shaped 0) 0) (take n m) (take s.cache k)) (take s.text t)) 0 none_misread []) w.1
     ∙ ap (λ (n : ℕ). carried (desk (lent (started Off (shaped 0) 0) [] (take n k)) (take s.text t)) 0 none_misread []) w.2
