@@ -4,9 +4,9 @@
 
 mod refusals;
 
-ghost use Rattle.std.specs.Prelude.{◌≡◌, ℕ, [], MatchResult, true, false};
+ghost use Rattle.std.specs.Prelude.{◌≡◌, ℕ, [], ◌∷◌, MatchResult, true, false};
 ghost use Rattle.board.specs.declared.Call.{Call};
-ghost use Rattle.board.specs.Causes.{cause, guarded, not_running, first_standing};
+ghost use Rattle.board.specs.Causes.{cause, check, guarded, not_running, first_standing};
 ghost use Rattle.board.specs.Next.{lent};
 ghost use Rattle.board.specs.Page.{page_cause};
 ghost use Rattle.causes.specs.Refusals.{answer_number};
@@ -21,6 +21,15 @@ fn refuse(stands: bool, refusal: Refusal) -> Result<(), Refusal>
     ensures { MatchResult result (λ _. stands ≡ false) (λ e. (stands ≡ true) × (e ≡ refusal)) }
 {
     if stands { Err(refusal) } else { Ok(()) }
+}
+
+// What a worker's condition refuses, by 8, and then what the lock refuses, by 16: every call that looks at both does so here.
+#[inline(always)]
+fn condition_then_lock(condition: bool, lock: bool) -> Result<(), Refusal>
+    ensures { answer_number result ≡ first_standing (check 8 condition ∷ check 16 lock ∷ []) }
+{
+    refuse(condition, Refusal::Condition)?;
+    refuse(lock, Refusal::Holder)
 }
 
 // What can refuse every call but the two starts: 2 where its phase bars it, 3 and 4; then come the call's own. It is put
@@ -99,10 +108,9 @@ pub fn of_update(
     running(state, memory, cache)?;
     refuse(record::no_worker(state, worker), Refusal::Worker)?;
     refuse(record::no_data_cell(state, cell), Refusal::Address)?;
-    refuse(record::busy(state, worker), Refusal::Condition)?;
-    refuse(
+    condition_then_lock(
+        record::busy(state, worker),
         holders::not_holder(state, worker, holders::lock_of(cell)),
-        Refusal::Holder,
     )?;
     refuse(
         record::others_update(state, worker, cell),
@@ -122,8 +130,7 @@ pub fn of_restart_point(
 {
     running(state, memory, cache)?;
     refuse(record::no_worker(state, worker), Refusal::Worker)?;
-    refuse(record::busy(state, worker), Refusal::Condition)?;
-    refuse(holders::holder(state, worker), Refusal::Holder)?;
+    condition_then_lock(record::busy(state, worker), holders::holder(state, worker))?;
     refuse(
         record::others_update(state, worker, worker),
         Refusal::Conflict,
@@ -187,8 +194,7 @@ pub fn of_go_away(state: State, memory: &[u64], cache: &[u64], worker: u64) -> R
 {
     running(state, memory, cache)?;
     refuse(record::no_worker(state, worker), Refusal::Worker)?;
-    refuse(record::busy(state, worker), Refusal::Condition)?;
-    refuse(holders::holder(state, worker), Refusal::Holder)
+    condition_then_lock(record::busy(state, worker), holders::holder(state, worker))
 }
 
 // Coming back looks at the worker, which must be away, and at whether a checkpoint has begun.
@@ -216,8 +222,7 @@ pub fn of_take_lock(
     running(state, memory, cache)?;
     refuse(record::no_worker(state, worker), Refusal::Worker)?;
     refuse(holders::no_lock(lock), Refusal::Lock)?;
-    refuse(record::busy(state, worker), Refusal::Condition)?;
-    refuse(holders::lock_held(state, lock), Refusal::Holder)
+    condition_then_lock(record::busy(state, worker), holders::lock_held(state, lock))
 }
 
 // Giving a lock back looks at the worker, which must hold it and have no unfinished update under it.
@@ -234,11 +239,10 @@ pub fn of_give_back_lock(
     running(state, memory, cache)?;
     refuse(record::no_worker(state, worker), Refusal::Worker)?;
     refuse(holders::no_lock(lock), Refusal::Lock)?;
-    refuse(
+    condition_then_lock(
         holders::updates_under(state, worker, lock),
-        Refusal::Condition,
-    )?;
-    refuse(holders::not_holder(state, worker, lock), Refusal::Holder)
+        holders::not_holder(state, worker, lock),
+    )
 }
 
 // A page looks at the room in its text row, last of all.
