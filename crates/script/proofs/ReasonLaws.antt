@@ -1,11 +1,11 @@
 -- What is true of the reasons why a line is answered `?`, on what is left of a line or a field from a place on.
-use Prim.Native.Nat.{ℕ, ◌<◌}
+use Prim.Native.Nat.{ℕ, ◌≤◌, ◌<◌}
 use mathlib.Core.Path.{◌≡◌, refl, sym, ap, ◌∙◌}
 use mathlib.Core.List.{List, [], ◌∷◌}
 use mathlib.Core.Bool.{true, false, cond}
 use native.Mathlib.Omega.{arith}
 use lib.Dec.{ltb}
-use lib.ListN.{length, take}
+use lib.ListN.{length, take, drop, drop_of_length-le}
 use lib.Seq.{length-take-le, take_all}
 use borrow.Author.Tests.{lt-ltb, ltb-true, ltb-false}
 use Rattle.predicate.proofs.Bools.{split, chosen, passed_over}
@@ -14,7 +14,14 @@ use Rattle.script.specs.declared.Program.{Program}
 use Rattle.script.specs.declared.Reason.{Reason}
 use Rattle.script.specs.declared.Reason.TheVariants.{Long, Count, Unfit}
 use Rattle.script.specs.Grammar.{is_number}
-use Rattle.script.specs.Reasons.{is_unknown, field_reason, fields_reason, unknown_reason, reason}
+use Rattle.script.specs.Reasons.{stands_in, is_unknown, field_reason, fields_reason, unknown_reason, reason}
+
+-- ---- a byte in a line
+
+-- Past a line's end no byte stands.
+pub has_end_lem : (byte : ℕ) (s : List ℕ) (i : ℕ) → length s ≤ i → stands_in byte (drop i s) ≡ false
+unfolding stands_in
+has_end_lem byte s i h = ap (stands_in byte) (drop_of_length-le s h)
 
 -- ---- fields
 
