@@ -11,7 +11,7 @@ ghost use Rattle.std.specs.Prelude.{◌≡◌};
 ghost use Rattle.board.specs.Hex.{hex_words, HexWritePerformed, HexReadPerformed};
 ghost use Rattle.causes.specs.Refusals.{answer_number};
 
-use causes::Refusal;
+pub use causes::{Refusal, answer_number};
 use checks::rows;
 
 // A memory as text into the text row; bytes past the text stay.

@@ -14,7 +14,7 @@ ghost use Rattle.causes.specs.Refusals.{answer_number};
 ghost use Rattle.page.specs.Cells.{InCacheUnder};
 
 use board::State;
-use causes::Refusal;
+pub use causes::{Refusal, answer_number};
 
 // The page of as many cells as the row `cells` has room for, written at the front of the text row. `spare` is as long.
 fn put_ordered(cache: &[u64], cells: &mut [u16], spare: &mut [u16], text: &mut [u8])
