@@ -42,7 +42,7 @@ extern "C" {
 #endif
 
 /* The version of the engine that this header belongs to. */
-#define NEVRODDE_VERSION "0.13.0"
+#define NEVRODDE_VERSION "0.13.1"
 
 /*
  * Sizes
