@@ -88,7 +88,8 @@ pub format-down : (l w : ℕ) (d : Desk) → outside (shaped l) w ≡ true → d
 format-down l w d o = sym (chosen (outside (shaped l) w) _ _ o)
 
 -- A taken format leaves its last step's board, and rows of its size.
-pub format-up : (l w i : ℕ) (state : State) (started last : Session) (text : ℕ) (d : Desk) (m0 c0 m1 c1 m2 c2 t : List ℕ) {n v n' v' : ℕ} {begun ended : State} →
+pub format-up : (l w i : ℕ) (state : State) (started last : Session) (text : ℕ) (d : Desk) (m0 c0 m1 c1 m2 c2 t : List ℕ)
+    {n v n' v' : ℕ} {begun ended : State} →
     i ≡ row_words l → outside (shaped l) w ≡ false → d.board.state ≡ state → d.text ≡ take text t →
     take i m0 ≡ replicate i 0 → take i c0 ≡ replicate i 0 →
     given n v (lent begun (take i m1) (take i c1)) ≡ repeated 1 (FormatStart l w) (given 0 0 (lent state (take i m0) (take i c0))) →
