@@ -10,7 +10,8 @@ use Rattle.console.specs.declared.progress.Misread.{Misread}
 use Rattle.console.specs.declared.progress.Buffers.{Buffers}
 use Rattle.console.specs.declared.progress.Ongoing.{Ongoing}
 use Rattle.session.specs.Session.{desk_of}
-use Rattle.console.specs.Pieces.{Carried, carried, Fed, leaving, kept, ended, byte_fed, and_then, fed, finished, carried_by, LineEnds, Stops}
+use Rattle.session.proofs.Acts.{desk_in}
+use Rattle.console.specs.Pieces.{Carried, carried, Fed, leaving, kept, ended, byte_fed, and_then, fed, finished, carried_by, carried_in, LineEnds, Stops}
 
 -- ---- the bytes kept of a line
 
@@ -137,16 +138,24 @@ used-more program first reached after piece used more so_far fits e =
     ∙ ap (λ (p : Carried). (fed program p (take more rest)).after) so_far
     ∙ sym (ap (λ (f : Fed). f.after) (ap (fed program first) (take-add used more piece) ∙ fed-append program first (take used piece) (take more rest)))
 
--- What is carried once more bytes of a line are kept.
+-- What is carried once more bytes of a line are kept, whatever the arrays hold: `line` before, `after` then.
+pub kept_in : (k p : Ongoing) (memory cache text line after rest : List ℕ) →
+    (k.session ≡ p.session) × (k.number ≡ p.number) × (k.misread ≡ p.misread) × (take k.begun after ≡ take 80 (take p.begun line ++ rest)) →
+    carried_in k memory cache text after ≡ kept (carried_in p memory cache text line) rest
+kept_in k p memory cache text line after rest w =
+    let desk = (carried_in p memory cache text line).desk in
+    ap (λ (s : Session). carried (desk_in s memory cache text) k.number k.misread (take k.begun after)) w.0
+    ∙ ap (λ (n : ℕ). carried desk n k.misread (take k.begun after)) w.1
+    ∙ ap (λ (x : Misread). carried desk p.number x (take k.begun after)) w.2
+    ∙ ap (carried desk p.number p.misread) w.3
+
+-- The same of the buffers' arrays.
 pub kept_by : (k p : Ongoing) (buffers : Buffers) (after rest : List ℕ) →
     (k.session ≡ p.session) × (k.number ≡ p.number) × (k.misread ≡ p.misread) × (take k.begun after ≡ take 80 (take p.begun buffers.line.now ++ rest)) →
     carried (desk_of k.session buffers.rows) k.number k.misread (take k.begun after) ≡ kept (carried_by p buffers) rest
 kept_by k p buffers after rest w =
-    let desk = desk_of p.session buffers.rows in
-    ap (λ (s : Session). carried (desk_of s buffers.rows) k.number k.misread (take k.begun after)) w.0
-    ∙ ap (λ (n : ℕ). carried desk n k.misread (take k.begun after)) w.1
-    ∙ ap (λ (x : Misread). carried desk p.number x (take k.begun after)) w.2
-    ∙ ap (carried desk p.number p.misread) w.3
+    let rows = buffers.rows in
+    kept_in k p rows.memory.now rows.cache.now rows.text.now buffers.line.now after rest w
 
 -- At most 80 bytes are kept.
 pub begun-short : (p : Ongoing) (line : List ℕ) → length (take p.begun line) ≤ 80
@@ -154,12 +163,19 @@ begun-short p line = omega (arith, p.begun_within, length-take p.begun line)
 
 -- ---- after the input
 
--- No line is begun.
+-- No line is begun, whatever the arrays hold.
+pub none_in : (program : Program) (p : Ongoing) (memory cache text line : List ℕ) → p.begun ≡ 0 →
+    leaving (carried_in p memory cache text line) [] ≡ finished program (carried_in p memory cache text line)
+none_in program p memory cache text line z =
+    let none : length (take p.begun line) ≡ 0 = ap (λ (k : ℕ). length (take k line)) z in
+    sym (chosen (eqb (length (take p.begun line)) 0) _ _ (eq-eqb _ 0 none))
+
+-- The same of the buffers' arrays.
 pub none_last : (program : Program) (p : Ongoing) (buffers : Buffers) → p.begun ≡ 0 →
     leaving (carried_by p buffers) [] ≡ finished program (carried_by p buffers)
 none_last program p buffers z =
-    let none : length (take p.begun buffers.line.now) ≡ 0 = ap (λ (k : ℕ). length (take k buffers.line.now)) z in
-    sym (chosen (eqb (length (take p.begun buffers.line.now)) 0) _ _ (eq-eqb _ 0 none))
+    let rows = buffers.rows in
+    none_in program p rows.memory.now rows.cache.now rows.text.now buffers.line.now z
 
 -- The line begun ends by the line feed that it lacks.
 pub line-last : (program : Program) (p : Ongoing) (buffers : Buffers) → length buffers.line.now ≡ 80 → (p.begun ≡ 0 → ⊥) →
